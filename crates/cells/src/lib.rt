@@ -1,0 +1,1 @@
+// The grid of cells and rows: definitions in specs/, laws in proofs/. No code.

@@ -1,0 +1,44 @@
+-- Ids joined by edges: the closure of the edges as a relation, `Path`, and the least id of each class as a function, `rep`.
+use Prim.Native.Nat.{ℕ, _≤_, min, max}
+use mathlib.Core.Bool.{cond}
+use mathlib.Core.List.{List, [], _∷_, List·Memᴰ}
+use mathlib.Core.Path.{_≡_}
+use lib.Dec.{eqb}
+
+-- An edge between two ids.
+pub record Edge : Type 0 where
+  pub from : ℕ
+  pub to : ℕ
+
+abbrev pub edge : ℕ → ℕ → Edge
+edge x y = record { from = x; to = y }
+
+-- The reflexive, symmetric and transitive closure of the edges.
+pub data Linked (es : List Edge) : ℕ → ℕ → Type 0 where
+  stay : {x : ℕ} → Linked es x x
+  along : {e : Edge} → List·Memᴰ e es → Linked es (e .from) (e .to)
+  back : {x y : ℕ} → Linked es x y → Linked es y x
+  via : {x y z : ℕ} → Linked es x y → Linked es y z → Linked es x z
+
+-- The larger of p and q becomes the smaller; every other id stays.
+unfoldable pub merge : ℕ → ℕ → ℕ → ℕ
+merge p q v = cond (eqb v (max p q)) (min p q) v
+
+-- The classes of f, with those of a and b made one.
+unfoldable pub join : (ℕ → ℕ) → ℕ → ℕ → ℕ → ℕ
+join f a b x = merge (f a) (f b) (f x)
+
+-- f with every edge of the list joined, in the order of the list.
+unfoldable pub joins : (ℕ → ℕ) → List Edge → ℕ → ℕ
+joins f [] x = f x
+joins f (e ∷ es) x = joins (join f (e .from) (e .to)) es x
+
+-- The least id of the class of x, where the list's edges are joined.
+unfoldable pub rep : List Edge → ℕ → ℕ
+rep es x = joins (λ y. y) es x
+
+-- f gives of each id the least one that R relates it to.
+pub record Least (R : ℕ → ℕ → Type 0) (f : ℕ → ℕ) : Type 0 where
+  pub low : (x : ℕ) → f x ≤ x
+  pub linked : (x : ℕ) → R x (f x)
+  pub agree : {x y : ℕ} → R x y → f x ≡ f y

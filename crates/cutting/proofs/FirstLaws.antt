@@ -1,0 +1,114 @@
+-- A component of the volume begins at the least, over the nodes tied in it, of the first cell of the node in its block.
+-- Assumes nothing.
+use mathlib.Core.Path.{_≡_, refl, sym, ap, _∙_, subst}
+use mathlib.Core.Bool.{true, false}
+use mathlib.Core.Logic.{_⊎_, inl, inr, _↔_, _≢_}
+use mathlib.Core.List.{List, [], _∷_, List·Memᴰ, List·Memᴰ·not-nil, List·Memᴰ·cases-cons}
+use Prim.Native.Nat.{ℕ, suc, _≤_, _<_}
+use native.Mathlib.Nat.{le-antisymm}
+use native.Mathlib.Omega.{arith}
+use lib.Dec.{eqb, ltb}
+use lib.ListN.{getD}
+use borrow.Author.Tests.{eqb-true, eqb-false, ltb-true, ltb-false}
+use Rattle.cells.specs.Box.{Triple}
+use Rattle.cells.specs.Grid.{cells, order}
+use Rattle.cells.specs.Row.{active}
+use Rattle.labels.specs.Number.{labels}
+use Rattle.labels.specs.Components.{firstCell}
+use Rattle.cutting.specs.Cutting.{Cutting, goodCut, blocks, blockExtents, blockCodes, embed}
+use Rattle.cutting.specs.Nodes.{whole, part, Sees, Tied}
+use Rattle.lists.proofs.Cases.{by-test}
+use Rattle.labels.proofs.LabelLaws.{labels-numbering, numbered-active}
+use Rattle.labels.proofs.ComponentLaws.{Belongs, least-at, belongs-at}
+use Rattle.cutting.proofs.CutLaws.{InBlock, blocks-cover, embed-inside, embed-order, embed-less}
+use Rattle.cutting.proofs.BlockLaws.{carried}
+use Rattle.cutting.proofs.NodeLaws.{node-tied, node-same, sees-in, sees-order, sees-active, held-sees}
+
+-- a node whose first cell, seen in the volume, is the first cell of the component
+pub record Earliest (k : Cutting) (codes : List ℕ) (j b n N : ℕ) : Type 0 where
+  pub c : ℕ
+  pub o : ℕ
+  pub tied : Tied k codes j true b n c o
+  pub is : embed k c (firstCell (blockExtents k c) (part k codes c) j o) ≡ firstCell (k .extents) (whole k codes) j N
+
+module _ (k : Cutting) (good : goodCut k ≡ true) (codes : List ℕ) (j : ℕ) (lo : 0 < j) (hi : j < 3) where
+  -- the first cell of a node, as a cell that the node sees
+  first-seen : {b n p : ℕ} → Sees k codes j b n p → Sees k codes j b n (firstCell (blockExtents k b) (part k codes b) j n)
+  first-seen {b} {n} {p} s =
+      let f : Belongs (blockExtents k b) (part k codes b) j n (firstCell (blockExtents k b) (part k codes b) j n) =
+      belongs-at (blockExtents k b) (part k codes b) j n p (s .within) (s .level) (s .has) in
+      record {
+        listed = s .listed;
+        within = f .within;
+        level = f .level;
+        act = numbered-active (blockExtents k b) (blockCodes k b codes) (firstCell (blockExtents k b) (part k codes b) j n) (f .within) (omega (arith, f .level))
+            (omega (arith, f .has, s .has, labels-numbering (blockExtents k b) (blockCodes k b codes) .positive p (s .within) (s .act)));
+        has = f .has;
+      }
+
+  -- the component begins nowhere later than a node of it
+  pub node-first : {b n p : ℕ} → Sees k codes j b n p
+      → firstCell (k .extents) (whole k codes) j (getD (whole k codes) (embed k b p) 0) ≤ embed k b (firstCell (blockExtents k b) (part k codes b) j n)
+  node-first {b} {n} {p} s =
+      let f = first-seen s in
+      least-at (k .extents) (whole k codes) j (getD (whole k codes) (embed k b p) 0) (embed k b (firstCell (blockExtents k b) (part k codes b) j n))
+      (sees-in k good codes j lo hi f) (sees-order k good codes j lo hi f) (node-same k good codes j lo hi f s)
+
+  embed-le : (b p q : ℕ) → b < blocks k → p ≤ q → q < cells (blockExtents k b) → embed k b p ≤ embed k b q
+  embed-le b p q hb l h =
+      by-test (ltb p q) (λ t. omega (arith, embed-less k good b hb p q (ltb-true p q t) h))
+      (λ t. let e : p ≡ q = omega (arith, ltb-false p q t) in rw e (omega arith))
+
+  -- and it begins where one of its nodes does
+  pub first-node : {b n p : ℕ} → Sees k codes j b n p → Earliest k codes j b n (getD (whole k codes) (embed k b p) 0)
+  first-node {b} {n} {p} s =
+      record {
+        c = d;
+        o = o;
+        tied = node-tied k good codes j lo hi s u .0 (sym N-is);
+        is = le-antisymm (rw (← w .held .is) (embed-le d (firstCell (blockExtents k d) (part k codes d) j o) q (w .listed) (least-at (blockExtents k d) (part k codes d) j o q (u .within) (u .level) refl) (u .within)))
+            (subst (λ (x : ℕ). firstCell (k .extents) (whole k codes) j x ≤ embed k d (firstCell (blockExtents k d) (part k codes d) j o)) N-is (node-first u));
+      }
+    where
+      N : ℕ
+      N = getD (whole k codes) (embed k b p) 0
+
+      F : ℕ
+      F = firstCell (k .extents) (whole k codes) j N
+
+      f : Belongs (k .extents) (whole k codes) j N F
+      f = belongs-at (k .extents) (whole k codes) j N (embed k b p) (sees-in k good codes j lo hi s) (sees-order k good codes j lo hi s) refl
+
+      w : InBlock k F
+      w = blocks-cover k good F (f .within)
+
+      d : ℕ
+      d = w .b
+
+      q : ℕ
+      q = w .held .p
+
+      o : ℕ
+      o = getD (part k codes d) q 0
+
+      positive : 0 < N
+      positive = labels-numbering (k .extents) codes .positive (embed k b p) (sees-in k good codes j lo hi s) (sees-active k good codes j lo hi s)
+
+      act : active (k .extents) (whole k codes) F ≡ true
+      act = numbered-active (k .extents) codes F (f .within) (omega (arith, f .level)) (omega (arith, f .has, positive))
+
+      level : order (blockExtents k d) q ≡ j
+      level = sym (embed-order k good d (w .listed) q (w .held .within)) ∙ ap (order (k .extents)) (w .held .is) ∙ f .level
+
+      u : Sees k codes j d o q
+      u =
+          record {
+            listed = w .listed;
+            within = w .held .within;
+            level = level;
+            act = carried k good codes j lo hi d (w .listed) .act q (w .held .within) level ∙ ap (active (k .extents) (whole k codes)) (w .held .is) ∙ act;
+            has = refl;
+          }
+
+      N-is : getD (whole k codes) (embed k d q) 0 ≡ N
+      N-is = ap (λ (x : ℕ). getD (whole k codes) x 0) (w .held .is) ∙ f .has

@@ -1,0 +1,171 @@
+-- Rows under a renaming of the numbers: one that tells apart the numbers around each cell keeps equal rows equal, and active cells active.
+-- Assumes nothing.
+use mathlib.Core.Path.{_≡_, refl, sym, ap, ap₂, _∙_, subst}
+use mathlib.Core.Bool.{Bool, true, false, not, _&&_, true≢false}
+use mathlib.Core.Logic.{_⊎_, inl, inr, _≢_}
+use mathlib.Core.List.{List, [], _∷_, _++_, map, List·Memᴰ, List·Memᴰ·head, List·Memᴰ·tail, List·Memᴰ·not-nil, List·Memᴰ·cases-cons, head-eq-of-cons-eq, tail-eq-of-cons-eq}
+use Prim.Native.Nat.{ℕ, zero, suc, _+_, _≤_, _<_, min, max}
+use native.Mathlib.Nat.{min-comm, max-comm}
+use native.Mathlib.Omega.{arith}
+use lib.Dec.{eqb, leb}
+use lib.ListN.{getD, length, length-map}
+use borrow.Author.Tests.{eqb-true, eqb-false, eq-eqb, ne-eqb, leb-true, leb-false, le-leb, lt-leb, not-true}
+use mathlib.Core.Bool.{cond}
+use Rattle.cells.specs.Row.{occurrences, once, insertAscending, sort, padTo, rowOf, occupied}
+use Rattle.cells.proofs.RowLaws.{Positive, row-positive}
+use Rattle.lists.specs.Lists.{keep}
+use Rattle.lists.proofs.Cases.{by-test, picked}
+
+-- ---- sorting depends on the entries alone, and not on their order
+
+least : (a b y : ℕ) → min a (min b y) ≡ min b (min a y)
+least a b y = omega arith
+
+middle : (a b y : ℕ) → y ≤ max a b → max a (min b y) ≡ max a y
+middle a b y h = omega arith
+
+middle-two : (a b y : ℕ) → max a b < y → max a (min b y) ≡ max b (min a y)
+middle-two a b y h = omega arith
+
+greatest : (a b y : ℕ) → max a b < y → max b y ≡ max a y
+greatest a b y h = omega arith
+
+insert-insert : (a b : ℕ) (l : List ℕ) → insertAscending a (insertAscending b l) ≡ insertAscending b (insertAscending a l)
+insert-insert a b [] = rw (min-comm a b, max-comm a b)
+insert-insert a b (y ∷ l) =
+    by-test (leb y (max a b))
+    (λ t.
+    let h = leb-true y (max a b) t in
+    rw (least a b y, middle a b y h, middle b a y (rw (max-comm b a) h)) (ap {B = List ℕ} (λ r. min b (min a y) ∷ r) (insert-insert (max a y) (max b y) l)))
+    (λ t.
+    let h = leb-false y (max a b) t in
+    rw (least a b y, middle-two a b y h, greatest a b y h))
+
+sort-insert : (g : ℕ → ℕ) (x : ℕ) (l : List ℕ) → sort (map g (insertAscending x l)) ≡ insertAscending (g x) (sort (map g l))
+sort-insert g x [] = refl
+sort-insert g x (y ∷ l) =
+    ap (insertAscending (g (min x y))) (sort-insert g (max x y) l)
+    ∙ by-test (leb x y)
+    (λ t.
+    let h = leb-true x y t in
+    let p : min x y ≡ x = omega arith in
+    let q : max x y ≡ y = omega arith in
+    rw (p, q))
+    (λ t.
+    let h = leb-false x y t in
+    let p : min x y ≡ y = omega arith in
+    let q : max x y ≡ x = omega arith in
+    rw (p, q) (insert-insert (g y) (g x) (sort (map g l))))
+
+sort-map : (g : ℕ → ℕ) (l : List ℕ) → sort (map g (sort l)) ≡ sort (map g l)
+sort-map g [] = refl
+sort-map g (x ∷ l) = sort-insert g x (sort l) ∙ ap (insertAscending (g x)) (sort-map g l)
+
+-- ---- six places hold a short list of numbers above 0 whole
+
+length-keep : (f : ℕ → Bool) (l : List ℕ) → length (keep f l) ≤ length l
+length-keep f [] = omega arith
+length-keep f (x ∷ l) = picked (λ (r : List ℕ). length r ≤ suc (length l)) (f x) (x ∷ keep f l) (keep f l) (λ t. omega (arith, length-keep f l)) (λ t. omega (arith, length-keep f l))
+
+length-insert : (x : ℕ) (l : List ℕ) → length (insertAscending x l) ≡ suc (length l)
+length-insert x [] = refl
+length-insert x (y ∷ l) = ap suc (length-insert (max x y) l)
+
+length-sort : (l : List ℕ) → length (sort l) ≡ length l
+length-sort [] = refl
+length-sort (x ∷ l) = length-insert x (sort l) ∙ ap suc (length-sort l)
+
+places-same : (n : ℕ) (a b : List ℕ) → length a ≤ n → length b ≤ n → Positive a → Positive b → padTo n a ≡ padTo n b → a ≡ b
+places-same n [] [] h k s t e = refl
+places-same zero [] (y ∷ b) h k s t e = absurd (omega arith)
+places-same (suc n) [] (y ∷ b) h k s t e = absurd (omega (arith, t .0, head-eq-of-cons-eq e))
+places-same zero (x ∷ a) b h k s t e = absurd (omega arith)
+places-same (suc n) (x ∷ a) [] h k s t e = absurd (omega (arith, s .0, head-eq-of-cons-eq e))
+places-same (suc n) (x ∷ a) (y ∷ b) h k s t e =
+    ap₂ {C = List ℕ} (λ u r. u ∷ r) (head-eq-of-cons-eq e) (places-same n a b (omega arith) (omega arith) (s .1) (t .1) (tail-eq-of-cons-eq e))
+
+-- equal rows list the same numbers
+row-entries : (xs ys : List ℕ) → length xs ≤ 6 → length ys ≤ 6 → rowOf xs ≡ rowOf ys → sort (keep (once xs) xs) ≡ sort (keep (once ys) ys)
+unfolding rowOf
+row-entries xs ys h k e =
+    places-same 6 (sort (keep (once xs) xs)) (sort (keep (once ys) ys))
+    (omega (arith, length-sort (keep (once xs) xs), length-keep (once xs) xs))
+    (omega (arith, length-sort (keep (once ys) ys), length-keep (once ys) ys))
+    (row-positive xs xs) (row-positive ys ys) e
+
+-- ---- a renaming g that tells the numbers xs apart, and 0 from all of them
+
+pub record Tells (g : ℕ → ℕ) (xs : List ℕ) : Type 0 where
+  pub nought : g 0 ≡ 0
+  pub zeros : (x : ℕ) → List·Memᴰ x xs → g x ≡ 0 → x ≡ 0
+  pub apart : (x y : ℕ) → List·Memᴰ x xs → List·Memᴰ y xs → g x ≡ g y → x ≡ y
+
+same-test : (g : ℕ → ℕ) (x y : ℕ) → (g x ≡ g y → x ≡ y) → eqb (g x) (g y) ≡ eqb x y
+same-test g x y h =
+    by-test (eqb x y) (λ t. eq-eqb (g x) (g y) (ap g (eqb-true x y t)) ∙ sym t) (λ t. ne-eqb (g x) (g y) (λ q. eqb-false x y t (h q)) ∙ sym t)
+
+occurrences-renamed : (g : ℕ → ℕ) (x : ℕ) (l : List ℕ) → ((y : ℕ) → List·Memᴰ y l → g x ≡ g y → x ≡ y) → occurrences (g x) (map g l) ≡ occurrences x l
+occurrences-renamed g x [] h = refl
+occurrences-renamed g x (y ∷ l) h =
+    rw (same-test g y x (λ q. sym (h y (List·Memᴰ·head refl) (sym q))), occurrences-renamed g x l (λ z m. h z (List·Memᴰ·tail m)))
+
+once-renamed : (g : ℕ → ℕ) (xs : List ℕ) → Tells g xs → (x : ℕ) → List·Memᴰ x xs → once (map g xs) (g x) ≡ once xs x
+once-renamed g xs r x m =
+    ap₂ (λ (s t : Bool). cond s false t) (ap (eqb (g x)) (sym (r .nought)) ∙ same-test g x 0 (λ q. r .zeros x m (q ∙ r .nought)))
+    (ap (λ (n : ℕ). eqb n 1) (occurrences-renamed g x xs (λ y k. r .apart x y m k)))
+
+keep-map : (h : ℕ → Bool) (g : ℕ → ℕ) (l : List ℕ) → keep h (map g l) ≡ map g (keep (λ x. h (g x)) l)
+keep-map h g [] = refl
+keep-map h g (x ∷ l) = by-test (h (g x)) (λ t. rw t (ap {B = List ℕ} (λ r. g x ∷ r) (keep-map h g l))) (λ t. rw t (keep-map h g l))
+
+keep-same : (f h : ℕ → Bool) (l : List ℕ) → ((x : ℕ) → List·Memᴰ x l → f x ≡ h x) → keep f l ≡ keep h l
+keep-same f h [] s = refl
+keep-same f h (x ∷ l) s =
+    let ih : keep f l ≡ keep h l = keep-same f h l (λ y m. s y (List·Memᴰ·tail m)) in
+    rw (s x (List·Memᴰ·head refl), ih)
+
+once-list : (g : ℕ → ℕ) (xs : List ℕ) → Tells g xs → keep (once (map g xs)) (map g xs) ≡ map g (keep (once xs) xs)
+once-list g xs r = keep-map (once (map g xs)) g xs ∙ ap (map g) (keep-same (λ x. once (map g xs) (g x)) (once xs) xs (once-renamed g xs r))
+
+-- equal rows stay equal
+pub row-renamed : (g : ℕ → ℕ) (xs ys : List ℕ) → Tells g xs → Tells g ys → length xs ≤ 6 → length ys ≤ 6 → rowOf xs ≡ rowOf ys → rowOf (map g xs) ≡ rowOf (map g ys)
+unfolding rowOf
+row-renamed g xs ys r s h k e =
+    ap (padTo 6)
+    (ap sort (once-list g xs r)
+    ∙ sym (sort-map g (keep (once xs) xs))
+    ∙ ap (λ (l : List ℕ). sort (map g l)) (row-entries xs ys h k e)
+    ∙ sort-map g (keep (once ys) ys)
+    ∙ sym (ap sort (once-list g ys s)))
+
+-- an occupied row stays occupied, and an empty one empty
+some : List ℕ → Bool
+some [] = false
+some (x ∷ l) = true
+
+some-insert : (x : ℕ) (l : List ℕ) → some (insertAscending x l) ≡ true
+unfolding some
+some-insert x [] = refl
+some-insert x (y ∷ l) = refl
+
+some-sort : (l : List ℕ) → some (sort l) ≡ some l
+unfolding some
+some-sort [] = refl
+some-sort (x ∷ l) = some-insert x (sort l)
+
+some-map : (g : ℕ → ℕ) (l : List ℕ) → some (map g l) ≡ some l
+unfolding some
+some-map g [] = refl
+some-map g (x ∷ l) = refl
+
+occupied-some : (l : List ℕ) → Positive l → occupied (padTo 6 l) ≡ some l
+unfolding occupied some
+occupied-some [] s = refl
+occupied-some (x ∷ l) s = ap not (ne-eqb x 0 (λ q. omega (arith, s .0)))
+
+row-some : (xs : List ℕ) → occupied (rowOf xs) ≡ some (keep (once xs) xs)
+unfolding rowOf
+row-some xs = occupied-some (sort (keep (once xs) xs)) (row-positive xs xs) ∙ some-sort (keep (once xs) xs)
+
+pub occupied-renamed : (g : ℕ → ℕ) (xs : List ℕ) → Tells g xs → occupied (rowOf (map g xs)) ≡ occupied (rowOf xs)
+occupied-renamed g xs r = row-some (map g xs) ∙ ap some (once-list g xs r) ∙ some-map g (keep (once xs) xs) ∙ sym (row-some xs)

@@ -1,0 +1,5 @@
+-- The laws of the definitions in specs/.
+pub mod ComponentLaws
+pub mod NumberLaws
+pub mod LabelLaws
+pub mod CountLaws

@@ -1,0 +1,36 @@
+-- `lines::face_row` meets its contract.
+use Prim.Native.Nat.{ℕ, suc, _+_, _-_, _*_, _≤_, _<_}
+use mathlib.Core.Path.{_≡_, refl, ap, _∙_, sym}
+use mathlib.Core.List.{List, [], _∷_, _++_}
+use native.Mathlib.Omega.{arith}
+use lib.ListN.{length, getD, drop, take, set, length-set}
+use borrow.Author.Needs.{needs}
+use Rattle.cells.specs.Box.{triple}
+use Rattle.cells.specs.Row.{rowOf}
+use Rattle.lines.specs.Lines.{around}
+use Rattle.lines.proofs.LineLaws.{Reads, reads, row-odds}
+use Rattle.lines.proofs.face_row.Statement.{statement}
+use Rattle.lines.proofs.face_row.Tie as tie
+use Rattle.lines.proofs.face_row.Lts as lts
+
+on-a : (st : tie.Start) → Reads (st .args .map .now) (st .args .p) (st .args .a)
+on-a st = reads (triple (st .args .nx) (st .args .ny) (st .args .nz)) (st .args .map .now) (st .args .p) (st .pre .0) (st .pre .1) ([]) (st .args .a) ([]) (st .pre .2)
+
+below-requires : tie.Need-below-requires
+below-requires c κs = let r = on-a (c .before) in (r .low, r .here)
+
+above-requires : tie.Need-above-requires
+above-requires c κs = on-a (c .before .before) .high
+
+row-of-two-requires : tie.Need-row-of-two-requires
+row-of-two-requires c κs = search needs
+
+returns : tie.Need-returns
+unfolding around
+returns c =
+    let a = (c .before .before .before .before) .args in
+    let e = triple (a .nx) (a .ny) (a .nz) in
+    c .row-of-two .ensures ∙ rw (c .before .before .below .ensures, c .before .above .ensures) (sym (row-odds e (a .map .now) (a .p) (a .a ∷ []) ((c .before .before .before .before) .pre .2)))
+
+pub face-row-spec : {M : Type 1} → statement M
+face-row-spec = tie.close (tie.spec below-requires above-requires row-of-two-requires returns)

@@ -1,0 +1,27 @@
+-- `lines::first_stride` meets its contract.
+use Prim.Native.Nat.{ℕ, suc, _+_, _-_, _*_, _≤_, _<_}
+use mathlib.Core.Path.{_≡_, refl, ap, _∙_, sym}
+use mathlib.Core.List.{List, [], _∷_, _++_}
+use native.Mathlib.Omega.{arith}
+use lib.ListN.{length, getD, drop, take, set, length-set}
+use borrow.Author.Needs.{needs}
+use borrow.Author.Tests.{eq-eqb, ne-eqb}
+use Rattle.lines.specs.Lines.{firstX, firstStride, lastStride}
+use Rattle.lines.proofs.first_stride.Statement.{statement}
+use Rattle.lines.proofs.first_stride.Tie as tie
+use Rattle.lines.proofs.first_stride.Lts as lts
+
+returns : tie.Need-returns
+unfolding firstStride
+returns c = rw (eq-eqb _ _ (c .if1 .taken))
+
+returns-2 : tie.Need-returns-2
+unfolding firstStride
+returns-2 c = rw (ne-eqb _ _ (c .before .if1 .left), eq-eqb _ _ (c .if2 .taken))
+
+returns-3 : tie.Need-returns-3
+unfolding firstStride
+returns-3 c = rw (ne-eqb _ _ (c .before .if1 .left), ne-eqb _ _ (c .if2 .left))
+
+pub first-stride-spec : {M : Type 1} → statement M
+first-stride-spec = tie.close (tie.spec returns returns-2 returns-3)

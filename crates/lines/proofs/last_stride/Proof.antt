@@ -1,0 +1,23 @@
+-- `lines::last_stride` meets its contract.
+use Prim.Native.Nat.{ℕ, suc, _+_, _-_, _*_, _≤_, _<_}
+use mathlib.Core.Path.{_≡_, refl, ap, _∙_, sym}
+use mathlib.Core.List.{List, [], _∷_, _++_}
+use native.Mathlib.Omega.{arith}
+use lib.ListN.{length, getD, drop, take, set, length-set}
+use borrow.Author.Needs.{needs}
+use borrow.Author.Tests.{eq-eqb, ne-eqb}
+use Rattle.lines.specs.Lines.{firstX, firstStride, lastStride}
+use Rattle.lines.proofs.last_stride.Statement.{statement}
+use Rattle.lines.proofs.last_stride.Tie as tie
+use Rattle.lines.proofs.last_stride.Lts as lts
+
+returns : tie.Need-returns
+unfolding lastStride
+returns c = rw (eq-eqb _ _ (c .if1 .taken))
+
+returns-2 : tie.Need-returns-2
+unfolding lastStride
+returns-2 c = rw (ne-eqb _ _ (c .if1 .left))
+
+pub last-stride-spec : {M : Type 1} → statement M
+last-stride-spec = tie.close (tie.spec returns returns-2)

@@ -1,0 +1,2 @@
+-- The laws that the proofs and the callers cite.
+pub mod LinkLaws

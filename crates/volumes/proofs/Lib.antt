@@ -1,0 +1,2 @@
+-- The definitions give what the table lists.
+pub mod VolumeLaws

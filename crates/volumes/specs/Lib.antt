@@ -1,0 +1,2 @@
+-- The table of volumes.
+pub mod Volumes
