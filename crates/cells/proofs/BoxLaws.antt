@@ -1,8 +1,8 @@
 -- Places and their numbers in a box.
 -- Assumes nothing.
-use mathlib.Core.Path.{_≡_, refl, sym, ap, _∙_, subst}
-use Prim.Native.Nat.{ℕ, zero, suc, _+_, _-_, _*_, _/_, _%_, _≤_, _<_}
-use native.Mathlib.Nat.{mod-lt, div-add-mod', div-div-eq-div-mul, div-lt-iff-lt-mul, mul-comm, mul-pos, mul-zero, zero-mul, not-suc-le-zero, mul-le-mul-right, mul-le-mul-left}
+use mathlib.Core.Path.{_≡_, refl, sym, ap, _∙_}
+use Prim.Native.Nat.{ℕ, zero, suc, _+_, _-_, _*_, _/_, _<_}
+use native.Mathlib.Nat.{mod-lt, div-add-mod', div-div-eq-div-mul, div-lt-iff-lt-mul, mul-comm, zero-mul, not-suc-le-zero}
 use native.Mathlib.Omega.{arith}
 use mathlib.Core.Logic.{_⊎_, inl, inr}
 use lib.Dec.{ltb}

@@ -1,7 +1,7 @@
 -- Bounds of the grid of a volume within the limit.
 -- Assumes nothing.
 use mathlib.Core.Path.{_≡_, refl}
-use Prim.Native.Nat.{ℕ, _+_, _-_, _*_, _≤_, _<_}
+use Prim.Native.Nat.{ℕ, _-_, _*_, _≤_, _<_}
 use native.Mathlib.Nat.{mul-pos, mul-le-mul}
 use native.Mathlib.Omega.{arith}
 use Rattle.cells.specs.Box.{Triple, volume}
@@ -19,6 +19,9 @@ module _ {limit : ℕ} {e : Triple} (s : Sized limit e) where
 
   pub layer-high : (2 * e .x - 1) * (2 * e .y - 1) ≤ (2 * limit - 1) * (2 * limit - 1)
   layer-high = mul-le-mul (omega (arith, s .x-high)) (omega (arith, s .y-high))
+
+  pub lines-high : (2 * e .y - 1) * (2 * e .z - 1) ≤ (2 * limit - 1) * (2 * limit - 1)
+  lines-high = mul-le-mul (omega (arith, s .y-high)) (omega (arith, s .z-high))
 
   pub cells-high : cells e ≤ (2 * limit - 1) * (2 * limit - 1) * (2 * limit - 1)
   cells-high = rw (cells-are e) (mul-le-mul layer-high (omega (arith, s .z-high)))

@@ -1,21 +1,14 @@
 -- The steps of a cell's pattern lead to its upper neighbours.
 -- Assumes nothing.
-use Prim.Native.Nat.{ℕ, zero, suc, _+_, _-_, _*_, _/_, _%_, _≤_, _<_}
-use mathlib.Core.Path.{_≡_, refl, ap, ap₂, _∙_, sym}
-use mathlib.Core.List.{List, [], _∷_, _++_, map, map-map, map-append}
+use Prim.Native.Nat.{ℕ, zero, suc, _+_, _-_, _/_, _%_, _≤_, _<_}
+use mathlib.Core.Path.{_≡_, refl, ap₂}
+use mathlib.Core.List.{List, [], _∷_, _++_, map, map-append}
 use native.Mathlib.Omega.{arith}
-use lib.Dec.{eqb}
-use lib.ListN.{getD, length, length-append, length-map}
-use borrow.Author.Tests.{eqb-true, ne-eqb}
-use Rattle.lists.specs.Lists.{tabulate, consecutive}
-use Rattle.lists.proofs.Cases.{by-test}
-use Rattle.lists.proofs.Lists.{tabulate-cons}
-use Rattle.cells.specs.Box.{Triple, Axis, X, Y, Z, stride}
-use Rattle.cells.specs.Grid.{sides, cells, odd, along, up}
-use Rattle.cells.specs.Row.{padTo, rowOf, row}
-use Rattle.cells.specs.Steps.{stepsAlong, stepsOf, stepAt, pattern, reach, moved}
-use Rattle.cells.proofs.RowLaws.{rowOf-pad}
-use Rattle.cells.proofs.GridLaws.{odd-lt, axis-down, axis-up}
+use lib.ListN.{getD, length, length-append}
+use Rattle.cells.specs.Box.{Triple, X, Y, Z, stride}
+use Rattle.cells.specs.Grid.{sides, odd, along, up}
+use Rattle.cells.specs.Steps.{stepsAlong, stepsOf, stepAt, pattern, moved}
+use Rattle.cells.proofs.GridLaws.{odd-lt}
 
 -- a property of each entry of a list
 abbrev pub All : (ℕ → Type 0) → List ℕ → Type 0

@@ -2,7 +2,7 @@
 -- Assumes nothing.
 use mathlib.Core.List.{List, [], _∷_, _++_}
 use Prim.Native.Nat.{ℕ, zero, suc, _+_, _-_, _*_, _/_, _%_}
-use Rattle.cells.specs.Box.{Triple, Axis, X, Y, Z, triple, coord, each, stride, volume, index, place}
+use Rattle.cells.specs.Box.{Triple, Axis, X, Y, Z, coord, each, stride, volume, index, place}
 
 -- "The cell grid has 2n−1 places on each axis, counted from 0."
 unfoldable pub sides : Triple → Triple

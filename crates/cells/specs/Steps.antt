@@ -6,7 +6,7 @@ use mathlib.Core.Bool.{cond}
 use mathlib.Core.List.{List, [], _∷_, _++_}
 use lib.Dec.{eqb}
 use lib.ListN.{getD}
-use Rattle.cells.specs.Box.{Triple, Axis, X, Y, Z}
+use Rattle.cells.specs.Box.{Triple, X, Y, Z}
 use Rattle.cells.specs.Grid.{odd}
 
 -- Which axes of cell p are odd: bit 0 for x, bit 1 for y, bit 2 for z.

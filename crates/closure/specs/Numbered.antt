@@ -1,5 +1,5 @@
 -- Classes numbered 1, 2, 3 by their least id, where only some ids are active.
-use Prim.Native.Nat.{ℕ, zero, suc, _+_}
+use Prim.Native.Nat.{ℕ, zero, suc}
 use mathlib.Core.Bool.{Bool, cond, _&&_}
 use lib.Dec.{eqb}
 

@@ -1,32 +1,29 @@
 -- What the numbering of a block says of the volume that it is cut from.
 -- Assumes nothing.
-use mathlib.Core.Path.{_≡_, refl, sym, ap, ap₂, _∙_, subst}
-use mathlib.Core.Bool.{Bool, true, false, cond}
-use mathlib.Core.Logic.{_⊎_, inl, inr, _↔_, _≢_}
-use mathlib.Core.List.{List, [], _∷_, _++_, map, map-map, List·Memᴰ, List·Memᴰ·head, List·Memᴰ·tail, List·Memᴰ·not-nil, Memᴰ·map, Memᴰ·of-map}
+use mathlib.Core.Path.{_≡_, refl, sym, ap, _∙_, subst}
+use mathlib.Core.Bool.{true, cond}
+use mathlib.Core.Logic.{_≢_}
+use mathlib.Core.List.{List, map, map-map, List·Memᴰ, Memᴰ·map, Memᴰ·of-map}
 use lib.Dec.{eqb}
-use borrow.Author.Tests.{eqb-true, eqb-false, eq-eqb}
-use Prim.Native.Nat.{ℕ, zero, suc, _+_, _-_, _*_, _/_, _%_, _≤_, _<_}
-use native.Mathlib.Nat.{zero-add}
+use borrow.Author.Tests.{eqb-true, eqb-false}
+use Prim.Native.Nat.{ℕ, zero, suc, _+_, _-_, _/_, _≤_, _<_}
 use native.Mathlib.Omega.{arith}
-use lib.ListN.{getD, length, length-append, length-map}
-use Rattle.cells.specs.Box.{Triple, Axis, X, Y, Z, triple, coord, each, stride, volume, index, place}
-use Rattle.cells.specs.Grid.{sides, cells, odd, order, along, up, voxel}
+use lib.ListN.{getD, length, length-map}
+use Rattle.cells.specs.Box.{Triple, Axis, X, Y, coord, each, volume, index, place}
+use Rattle.cells.specs.Grid.{sides, cells, order, up, voxel}
 use Rattle.cells.specs.Row.{rowOf, occupied, row, active}
-use Rattle.labels.specs.Number.{labels}
 use Rattle.labels.specs.Components.{firstCell}
-use Rattle.labels.specs.Numbering.{Meet, Joined, here, step, Numbering}
+use Rattle.labels.specs.Numbering.{Meet, Joined, here, step}
 use Rattle.cutting.specs.Cutting.{Cutting, goodCut, blocks, origin, blockExtents, blockCodes, embed}
 use Rattle.lists.proofs.Cases.{by-test, picked}
-use Rattle.cells.proofs.BoxLaws.{Inside, index-place, place-index, place-inside, index-inside, coord-each, same-triple}
+use Rattle.cells.proofs.BoxLaws.{Inside, place-index, index-inside, coord-each, same-triple}
 use Rattle.cells.proofs.GridLaws.{Upper, upper, side-on, inside, length-up}
-use Rattle.lists.specs.Lists.{tabulate}
 use Rattle.lists.proofs.Lists.{getD-tabulate, map-same}
 use Rattle.labels.proofs.ComponentLaws.{Belongs, belongs-at}
 use Rattle.cutting.proofs.RenameLaws.{Tells, row-renamed, occupied-renamed}
 use Rattle.labels.proofs.LabelLaws.{labels-numbering, joined-row, numbered-active}
-use Rattle.cutting.proofs.CutLaws.{shift, shift-on, shift-inside, embed-inside, embed-order, embed-up, embed-less, InBlock, blocks-cover}
-use Rattle.cutting.specs.Nodes.{whole, part, Held}
+use Rattle.cutting.proofs.CutLaws.{shift, shift-on, shift-inside, embed-inside, embed-order, embed-up, InBlock, blocks-cover}
+use Rattle.cutting.specs.Nodes.{whole, part}
 
 each-same : (f g : Axis → ℕ) → ((a : Axis) → f a ≡ g a) → each f ≡ each g
 each-same f g h = same-triple (each f) (each g) (λ a. coord-each f a ∙ h a ∙ sym (coord-each g a))

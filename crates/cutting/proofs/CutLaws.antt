@@ -2,13 +2,12 @@
 -- Assumes nothing.
 use mathlib.Core.Path.{_≡_, refl, sym, ap, ap₂, _∙_, subst}
 use mathlib.Core.Bool.{Bool, true, false, _&&_, true≢false}
-use mathlib.Core.List.{List, [], _∷_, _++_, map, map-append}
-use Prim.Native.Nat.{ℕ, zero, suc, _+_, _-_, _*_, _%_, _≤_, _<_, max}
+use mathlib.Core.List.{List, [], _∷_, map, map-append}
+use Prim.Native.Nat.{ℕ, zero, suc, _+_, _-_, _*_, _≤_, _<_}
 use native.Mathlib.Omega.{arith}
 use lib.Dec.{eqb, leb, ltb}
-use lib.ListN.{getD, length}
 use borrow.Author.Tests.{eqb-true, leb-true, leb-false, ltb-true}
-use Rattle.cells.specs.Box.{Triple, Axis, X, Y, Z, triple, coord, each, stride, volume, index, place}
+use Rattle.cells.specs.Box.{Triple, Axis, X, Y, Z, coord, each, stride, index, place}
 use Rattle.cells.specs.Extents.{Sized}
 use Rattle.cells.specs.Grid.{sides, cells, odd, order, along, up}
 use Rattle.cutting.specs.Cutting.{Cutting, cuts, ascends, cutList, intervals, low, high, blockSides, blocks, goodCut, interval, origin, blockExtents, embed}

@@ -1,28 +1,25 @@
 -- A component of the volume begins at the least, over the nodes tied in it, of the first cell of the node in its block.
 -- Assumes nothing.
 use mathlib.Core.Path.{_≡_, refl, sym, ap, _∙_, subst}
-use mathlib.Core.Bool.{true, false}
-use mathlib.Core.Logic.{_⊎_, inl, inr, _↔_, _≢_}
-use mathlib.Core.List.{List, [], _∷_, List·Memᴰ, List·Memᴰ·not-nil, List·Memᴰ·cases-cons}
-use Prim.Native.Nat.{ℕ, suc, _≤_, _<_}
+use mathlib.Core.Bool.{true}
+use mathlib.Core.List.{List}
+use Prim.Native.Nat.{ℕ, _≤_, _<_}
 use native.Mathlib.Nat.{le-antisymm}
 use native.Mathlib.Omega.{arith}
-use lib.Dec.{eqb, ltb}
+use lib.Dec.{ltb}
 use lib.ListN.{getD}
-use borrow.Author.Tests.{eqb-true, eqb-false, ltb-true, ltb-false}
-use Rattle.cells.specs.Box.{Triple}
+use borrow.Author.Tests.{ltb-true, ltb-false}
 use Rattle.cells.specs.Grid.{cells, order}
 use Rattle.cells.specs.Row.{active}
-use Rattle.labels.specs.Number.{labels}
 use Rattle.labels.specs.Components.{firstCell}
 use Rattle.cutting.specs.Cutting.{Cutting, goodCut, blocks, blockExtents, blockCodes, embed}
 use Rattle.cutting.specs.Nodes.{whole, part, Sees, Tied}
 use Rattle.lists.proofs.Cases.{by-test}
 use Rattle.labels.proofs.LabelLaws.{labels-numbering, numbered-active}
 use Rattle.labels.proofs.ComponentLaws.{Belongs, least-at, belongs-at}
-use Rattle.cutting.proofs.CutLaws.{InBlock, blocks-cover, embed-inside, embed-order, embed-less}
+use Rattle.cutting.proofs.CutLaws.{InBlock, blocks-cover, embed-order, embed-less}
 use Rattle.cutting.proofs.BlockLaws.{carried}
-use Rattle.cutting.proofs.NodeLaws.{node-tied, node-same, sees-in, sees-order, sees-active, held-sees}
+use Rattle.cutting.proofs.NodeLaws.{node-tied, node-same, sees-in, sees-order, sees-active}
 
 -- a node whose first cell, seen in the volume, is the first cell of the component
 pub record Earliest (k : Cutting) (codes : List ℕ) (j b n N : ℕ) : Type 0 where

@@ -2,23 +2,21 @@
 -- from one to the other, each link two cells of one number in a block, or two cells that meet in a block and have one row in the volume.
 -- The order, 2 or 1, is a parameter.
 -- Assumes nothing.
-use mathlib.Core.Path.{_≡_, refl, sym, ap, _∙_, subst}
-use mathlib.Core.Bool.{true, false}
+use mathlib.Core.Path.{_≡_, sym, ap, _∙_, subst}
+use mathlib.Core.Bool.{true}
 use mathlib.Core.Logic.{_↔_}
-use mathlib.Core.List.{List, [], _∷_, List·Memᴰ}
-use Prim.Native.Nat.{ℕ, suc, _≤_, _<_}
-use native.Mathlib.Omega.{arith}
+use mathlib.Core.List.{List}
+use Prim.Native.Nat.{ℕ, _<_}
 use lib.ListN.{getD}
 use Rattle.cells.specs.Box.{Triple}
-use Rattle.cells.specs.Grid.{cells, order, up}
-use Rattle.cells.specs.Row.{row, active, occupied}
-use Rattle.labels.specs.Number.{labels}
-use Rattle.labels.specs.Numbering.{Meet, Joined, here, step, Numbering}
+use Rattle.cells.specs.Grid.{cells, order}
+use Rattle.cells.specs.Row.{row, active}
+use Rattle.labels.specs.Numbering.{Meet, Joined, here, step}
 use Rattle.cutting.specs.Cutting.{Cutting, goodCut, blocks, blockExtents, blockCodes, embed}
 use Rattle.cutting.specs.Nodes.{whole, part}
 use Rattle.cells.proofs.GridLaws.{Upper, upper}
-use Rattle.labels.proofs.LabelLaws.{active-below, labels-numbering}
-use Rattle.cutting.proofs.CutLaws.{embed-inside, embed-order}
+use Rattle.labels.proofs.LabelLaws.{labels-numbering}
+use Rattle.cutting.proofs.CutLaws.{embed-order}
 use Rattle.cutting.proofs.BlockLaws.{MeetIn, meet-in, meet-embed, Carried, carried, joined-embed}
 
 -- cells x and y of the volume are cells of order j of one block, which gives them one number

@@ -3,26 +3,25 @@
 -- Assumes nothing.
 use mathlib.Core.Path.{_≡_, refl, sym, ap, _∙_, subst}
 use mathlib.Core.Bool.{Bool, true, false}
-use mathlib.Core.Logic.{_↔_, _≢_}
-use mathlib.Core.List.{List, [], _∷_}
-use Prim.Native.Nat.{ℕ, suc, _≤_, _<_}
+use mathlib.Core.Logic.{_↔_}
+use mathlib.Core.List.{List}
+use Prim.Native.Nat.{ℕ, _<_}
 use native.Mathlib.Omega.{arith}
 use lib.Dec.{ltb}
 use lib.ListN.{getD}
 use borrow.Author.Tests.{ltb-true, ltb-false}
 use Rattle.cells.specs.Box.{Triple}
-use Rattle.cells.specs.Grid.{cells, order, up}
+use Rattle.cells.specs.Grid.{cells, order}
 use Rattle.cells.specs.Row.{row, active, occupied}
-use Rattle.labels.specs.Number.{labels}
-use Rattle.labels.specs.Numbering.{Meet, Joined, here, step, Numbering}
-use Rattle.cutting.specs.Cutting.{Cutting, goodCut, blocks, blockExtents, blockCodes, embed, seam}
-use Rattle.cutting.specs.Nodes.{whole, part, Held, SeamPath, stay, next, last, Sees, AtSeam, AtCrossing, Tied, done, over, under, crossed}
+use Rattle.labels.specs.Numbering.{here, step}
+use Rattle.cutting.specs.Cutting.{Cutting, goodCut, blocks, blockExtents, blockCodes, embed}
+use Rattle.cutting.specs.Nodes.{whole, part, Held, SeamPath, stay, next, last, Sees, AtCrossing, Tied, done, over, under, crossed}
 use Rattle.lists.proofs.Cases.{by-test}
 use Rattle.cells.proofs.GridLaws.{Upper, upper}
-use Rattle.labels.proofs.LabelLaws.{active-below, labels-numbering}
+use Rattle.labels.proofs.LabelLaws.{labels-numbering}
 use Rattle.cutting.proofs.CutLaws.{embed-inside, embed-order, embed-less}
 use Rattle.cutting.proofs.BlockLaws.{MeetIn, meet-embed, face-row, Carried, carried, same-up}
-use Rattle.cutting.proofs.JoinLaws.{SameIn, CrossIn, Chained, end, alike, cross, number-chained}
+use Rattle.cutting.proofs.JoinLaws.{Chained, end, alike, cross, number-chained}
 use Rattle.cutting.proofs.SeamLaws.{seam-path}
 
 tied-link : {k : Cutting} {codes : List ℕ} {j : ℕ} {x : Bool} {b m c n d o : ℕ} → Tied k codes j x b m c n → Tied k codes j x c n d o → Tied k codes j x b m d o

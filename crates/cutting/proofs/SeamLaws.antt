@@ -4,16 +4,16 @@ use mathlib.Core.Path.{_≡_, refl, sym, ap, _∙_, subst}
 use mathlib.Core.Bool.{Bool, true, false, _&&_, _||_, true≢false}
 use mathlib.Core.Logic.{_⊎_, inl, inr, _≢_}
 use mathlib.Core.List.{List, [], _∷_}
-use Prim.Native.Nat.{ℕ, zero, suc, _+_, _-_, _*_, _%_, _≤_, _<_, max}
+use Prim.Native.Nat.{ℕ, zero, suc, _-_, _%_, _<_}
 use native.Mathlib.Omega.{arith}
-use lib.Dec.{eqb, leb, ltb}
+use lib.Dec.{eqb, ltb}
 use lib.ListN.{getD, length}
-use borrow.Author.Tests.{eqb-true, eqb-false, eq-eqb, ltb-true, ltb-false, lt-ltb, leb-true, leb-false}
-use Rattle.cells.specs.Box.{Triple, Axis, X, Y, Z, triple, coord, each, index, place}
-use Rattle.cells.specs.Grid.{sides, cells, odd, order}
-use Rattle.cutting.specs.Cutting.{Cutting, cuts, ascends, cutList, intervals, low, high, blockSides, blocks, goodCut, interval, blockExtents, embed, follows, level, seam}
+use borrow.Author.Tests.{eqb-true, eqb-false, eq-eqb, ltb-true, ltb-false, lt-ltb}
+use Rattle.cells.specs.Box.{Triple, Axis, X, Y, Z, triple, coord, index, place}
+use Rattle.cells.specs.Grid.{sides, odd, order}
+use Rattle.cutting.specs.Cutting.{Cutting, cuts, ascends, cutList, intervals, low, high, blockSides, blocks, goodCut, interval, follows, level, seam}
 use Rattle.cutting.specs.Nodes.{Held, SeamPath, stay, next, last}
-use Rattle.lists.proofs.Cases.{by-test, and-left, and-right, and-both}
+use Rattle.lists.proofs.Cases.{by-test, and-right, and-both}
 use Rattle.cells.proofs.BoxLaws.{Inside, index-place, place-index, place-inside, raised, same-triple}
 use Rattle.cutting.proofs.CutLaws.{step-up, step-rest, cut-on, Spans, held-spans, spans-held, block-in, interval-at, interval-is, block-sides-on}
 

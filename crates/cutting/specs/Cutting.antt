@@ -1,12 +1,12 @@
 -- A volume cut into blocks (document 01, "Cutting and joining"). Blocks and intervals count from 0.
 -- Assumes nothing.
-use mathlib.Core.Bool.{Bool, true, false, not, _&&_, _||_}
+use mathlib.Core.Bool.{Bool, false, _&&_, _||_}
 use mathlib.Core.List.{List, [], _∷_}
-use Prim.Native.Nat.{ℕ, zero, suc, _+_, _-_, _*_, max}
+use Prim.Native.Nat.{ℕ, suc, _+_, _-_, _*_, max}
 use lib.Dec.{leb, ltb, eqb}
 use lib.ListN.{getD, length}
 use Rattle.lists.specs.Lists.{tabulate}
-use Rattle.cells.specs.Box.{Triple, Axis, X, Y, Z, triple, coord, each, volume, index, place}
+use Rattle.cells.specs.Box.{Triple, Axis, X, Y, Z, coord, each, volume, index, place}
 use Rattle.cells.specs.Grid.{sides}
 
 -- What an opening states of the cutting: the volume's extents and a cut list for each axis.

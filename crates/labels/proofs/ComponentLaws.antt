@@ -1,7 +1,6 @@
 -- The cells of a component: membership, the first cell, and that no cell stands before it.
 -- Assumes nothing.
-use mathlib.Core.Path.{_≡_, refl, sym, ap, _∙_, subst}
-use mathlib.Core.Bool.{true, false}
+use mathlib.Core.Path.{_≡_, refl, subst}
 use mathlib.Core.Logic.{_⊎_, inl, inr}
 use mathlib.Core.List.{List, [], _∷_, List·Memᴰ, List·Memᴰ·head, List·Memᴰ·not-nil, List·Memᴰ·cases-cons}
 use Prim.Native.Nat.{ℕ, suc, _≤_, _<_}
@@ -9,7 +8,7 @@ use native.Mathlib.Omega.{arith}
 use lib.Dec.{eqb}
 use lib.ListN.{getD}
 use borrow.Author.Tests.{eqb-true, eq-eqb}
-use Rattle.lists.specs.Lists.{consecutive, keep}
+use Rattle.lists.specs.Lists.{consecutive}
 use Rattle.lists.proofs.Lists.{keep-in, keep-out, consecutive-in, consecutive-out, Ascends, ascends-consecutive, ascends-keep, ascends-le}
 use Rattle.cells.specs.Box.{Triple}
 use Rattle.cells.specs.Grid.{cells, order}

@@ -1,14 +1,14 @@
 -- The largest number of an order is how many components it has: no cell has a larger one, and each from 1 to it stands at a cell.
 -- Assumes nothing.
-use mathlib.Core.Path.{_≡_, refl, sym, ap, _∙_, subst}
-use mathlib.Core.Bool.{Bool, true, false}
+use mathlib.Core.Path.{_≡_, sym, ap, _∙_, subst}
+use mathlib.Core.Bool.{Bool}
 use mathlib.Core.Logic.{_⊎_, inl, inr, _≢_}
 use mathlib.Core.List.{List, [], _∷_, map, foldr, List·Memᴰ, List·Memᴰ·head, List·Memᴰ·tail, List·Memᴰ·not-nil, List·Memᴰ·cases-cons, Memᴰ·map, Memᴰ·of-map}
-use Prim.Native.Nat.{ℕ, zero, suc, _-_, _≤_, _<_, max}
+use Prim.Native.Nat.{ℕ, suc, _-_, _≤_, _<_, max}
 use native.Mathlib.Omega.{arith}
 use lib.Dec.{leb, eqb, ltb}
 use lib.ListN.{getD}
-use borrow.Author.Tests.{ltb-true, ltb-false, leb-true, leb-false, eqb-true, eqb-false, eq-eqb}
+use borrow.Author.Tests.{ltb-true, ltb-false, leb-true, leb-false, eqb-true, eqb-false}
 use native.Mathlib.Nat.{max-eq-left, max-eq-right, le-of-lt}
 use Rattle.cells.specs.Box.{Triple}
 use Rattle.cells.specs.Grid.{cells, order}
@@ -22,9 +22,8 @@ use Rattle.labels.proofs.LabelLaws.{Agree, numbered-own, final-agree}
 use Rattle.labels.specs.Numbering.{Numbering}
 use Rattle.labels.specs.Components.{ofOrder, largest, firstCell}
 use Rattle.labels.proofs.ComponentLaws.{of-order-in, of-order-out, Belongs, least-at, belongs-at}
-use Rattle.lists.specs.Lists.{consecutive, keep}
 use Rattle.lists.proofs.Cases.{by-test, and-left}
-use Rattle.lists.proofs.Lists.{keep-in, keep-out, consecutive-in, consecutive-out, map-same}
+use Rattle.lists.proofs.Lists.{map-same}
 
 max-bound : (l : List ℕ) {x : ℕ} → List·Memᴰ x l → x ≤ foldr max 0 l
 max-bound [] m = absurd (List·Memᴰ·not-nil m)

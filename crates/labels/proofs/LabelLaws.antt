@@ -1,11 +1,10 @@
 -- `labels` is a numbering, and the only one.
 -- Assumes nothing.
-use mathlib.Core.Path.{_≡_, refl, sym, ap, ap₂, _∙_, subst}
-use mathlib.Core.Bool.{Bool, true, false, cond, true≢false}
-use mathlib.Core.Logic.{_⊎_, inl, inr, _↔_, _≢_}
-use mathlib.Core.List.{List, [], _∷_, _++_, map, List·Memᴰ, List·Memᴰ·head, List·Memᴰ·tail}
+use mathlib.Core.Path.{_≡_, refl, sym, ap, _∙_, subst}
+use mathlib.Core.Bool.{true, false, cond, true≢false}
+use mathlib.Core.Logic.{_↔_, _≢_}
+use mathlib.Core.List.{List, []}
 use Prim.Native.Nat.{ℕ, zero, suc, _+_, _-_, _≤_, _<_}
-use native.Mathlib.Nat.{zero-add}
 use native.Mathlib.Omega.{arith}
 use lib.Dec.{eqb, ltb}
 use lib.ListN.{getD, length}
@@ -13,11 +12,11 @@ use lib.Seq.{ext-getD}
 use borrow.Author.Tests.{eqb-true, eqb-false, eq-eqb, ne-eqb, ltb-true, ltb-false}
 use Rattle.lists.proofs.Cases.{by-test}
 use Rattle.lists.proofs.Lists.{length-tabulate, getD-tabulate, map-same}
-use Rattle.cells.specs.Box.{Triple, Axis, X, Y, Z, stride}
+use Rattle.cells.specs.Box.{Triple, X, Y, Z, stride}
 use Rattle.cells.specs.Grid.{sides, cells, odd, order, along, up, voxel}
 use Rattle.cells.specs.Row.{rowOf, occupied, row, active}
 use Rattle.labels.specs.Number.{number, numberedAt, numbered, codeAt, mapDown, labels}
-use Rattle.labels.specs.Numbering.{Meet, Joined, here, step, Numbering}
+use Rattle.labels.specs.Numbering.{Joined, here, step, Numbering}
 use Rattle.cells.proofs.GridLaws.{Upper, upper, order-most}
 use Rattle.labels.proofs.NumberLaws.{Cell, number-inactive, number-shared, number-positive, number-earlier}
 

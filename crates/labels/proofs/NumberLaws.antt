@@ -2,10 +2,10 @@
 -- and numbers run by first cell. The order is a parameter.
 -- Assumes nothing.
 use mathlib.Core.Path.{_≡_, refl, sym, ap, _∙_, subst}
-use mathlib.Core.Bool.{Bool, true, false, _&&_}
+use mathlib.Core.Bool.{true, false}
 use mathlib.Core.Logic.{_⊎_, inl, inr, _↔_}
-use mathlib.Core.List.{List, [], _∷_, _++_, map, List·Memᴰ, List·Memᴰ·head, List·Memᴰ·tail, List·Memᴰ·not-nil, List·Memᴰ·cases-cons, List·Memᴰ·append-cases, Memᴰ·append-left, Memᴰ·append-right, Memᴰ·map, Memᴰ·of-map}
-use Prim.Native.Nat.{ℕ, zero, suc, _+_, _≤_, _<_}
+use mathlib.Core.List.{List, [], _∷_, map, List·Memᴰ, List·Memᴰ·head, List·Memᴰ·tail, List·Memᴰ·not-nil, List·Memᴰ·cases-cons, List·Memᴰ·append-cases, Memᴰ·append-left, Memᴰ·append-right, Memᴰ·map, Memᴰ·of-map}
+use Prim.Native.Nat.{ℕ, suc, _<_}
 use native.Mathlib.Omega.{arith}
 use lib.Dec.{eqb}
 use borrow.Author.Tests.{eqb-true, eq-eqb}
@@ -13,7 +13,6 @@ use Rattle.lists.specs.Lists.{consecutive, keep}
 use Rattle.lists.proofs.Cases.{by-test, and-left, and-right, and-both}
 use Rattle.lists.proofs.Lists.{keep-in, keep-out, consecutive-in, consecutive-out}
 use Rattle.closure.specs.Joined.{Edge, edge, Linked, stay, along, back, via, rep}
-use Rattle.closure.specs.Numbered.{label}
 use Rattle.closure.proofs.Classes.{rep-low, rep-idem, rep-path, path-rep, path-to-rep}
 use Rattle.closure.proofs.Numbers.{path-act, Leaders, label-off, label-is, label-same, label-inj, label-earlier}
 use Rattle.cells.specs.Box.{Triple}

@@ -1,11 +1,11 @@
 -- The odd axes of a cell and of its upper neighbours, and the orders along a line.
 -- Assumes nothing.
-use mathlib.Core.Path.{_≡_, refl, sym, ap, ap₂, _∙_, subst}
+use mathlib.Core.Path.{_≡_, refl, sym, ap, ap₂, _∙_}
 use mathlib.Core.Logic.{_⊎_, inl, inr, _≢_}
-use mathlib.Core.Bool.{Bool, true, false}
+use mathlib.Core.Bool.{Bool}
 use mathlib.Core.List.{List, [], _∷_, _++_, map, append-assoc, append-nil, head-eq-of-cons-eq, tail-eq-of-cons-eq}
 use Prim.Native.Nat.{ℕ, zero, suc, _+_, _-_, _*_, _/_, _%_, _≤_, _<_}
-use native.Mathlib.Nat.{mul-comm, mul-pos, mul-le-mul-right, div-div-eq-div-mul}
+use native.Mathlib.Nat.{mul-le-mul-right, div-div-eq-div-mul}
 use native.Mathlib.Omega.{arith}
 use lib.ListN.{length, getD, length-append}
 use lib.Arith.{digits-lt, digits-div, digits-mod}
@@ -14,10 +14,10 @@ use borrow.Author.Tests.{eqb-true, eqb-false, eq-eqb, ne-eqb, ltb-true, ltb-fals
 use Rattle.lists.specs.Lists.{consecutive, keep}
 use Rattle.lists.proofs.Cases.{by-test}
 use Rattle.lists.proofs.Lists.{consecutive-split}
-use Rattle.cells.specs.Box.{Triple, Axis, X, Y, Z, triple, coord, each, stride, volume, index, place}
+use Rattle.cells.specs.Box.{Triple, Axis, X, Y, Z, triple, coord, stride, volume, index, place}
 use Rattle.cells.specs.Grid.{sides, cells, odd, order, along, up}
-use Rattle.cells.proofs.BoxLaws.{Inside, index-place, place-index, place-inside, index-inside, raised, lowered, index-raised, index-lowered}
-use Rattle.cells.proofs.GridLaws.{odd-at, odd-lt, inside, low-side, high-side, raised-inside, lowered-inside, axis-down, axis-up}
+use Rattle.cells.proofs.BoxLaws.{index-place, raised, lowered, index-raised, index-lowered}
+use Rattle.cells.proofs.GridLaws.{odd-at, inside, low-side, high-side, raised-inside, lowered-inside, axis-down, axis-up}
 use Rattle.cells.specs.Row.{rowOf, row}
 use Rattle.lines.specs.Lines.{strideIf, odds, around, lineCount, lineY, lineZ, firstX, firstStride, lastStride, Strided, one, two, three}
 
@@ -186,18 +186,24 @@ unfolding cells volume lineCount
 cells-lines e = omega arith
 
 module _ (e : Triple) (l x : ℕ) (h : x < sides e .x) where
-  -- the parities of the cell at x of line l
+  -- the place of the cell at x of line l, and its parities
+  pub line-place : (a : Axis) → coord (place (sides e) (l * sides e .x + x)) a ≡ coord (triple x (l % sides e .y) (l / sides e .y)) a
+  unfolding place
+  line-place X = digits-mod l h
+  line-place Y = ap (λ (n : ℕ). n % sides e .y) (digits-div l h)
+  line-place Z = sym (div-div-eq-div-mul (l * sides e .x + x) (sides e .x) (sides e .y)) ∙ ap (λ (n : ℕ). n / sides e .y) (digits-div l h)
+
   pub line-x : odd e (l * sides e .x + x) X ≡ x % 2
-  unfolding odd place
-  line-x = ap (λ (n : ℕ). n % 2) (digits-mod l h)
+  unfolding odd
+  line-x = ap (λ (n : ℕ). n % 2) (line-place X)
 
   pub line-y : odd e (l * sides e .x + x) Y ≡ lineY e l
-  unfolding odd place lineY
-  line-y = ap (λ (n : ℕ). n % sides e .y % 2) (digits-div l h)
+  unfolding odd lineY
+  line-y = ap (λ (n : ℕ). n % 2) (line-place Y)
 
   pub line-z : odd e (l * sides e .x + x) Z ≡ lineZ e l
-  unfolding odd place lineZ
-  line-z = ap (λ (n : ℕ). n % 2) (sym (div-div-eq-div-mul (l * sides e .x + x) (sides e .x) (sides e .y)) ∙ ap (λ (n : ℕ). n / sides e .y) (digits-div l h))
+  unfolding odd lineZ
+  line-z = ap (λ (n : ℕ). n % 2) (line-place Z)
 
   pub line-order : order e (l * sides e .x + x) ≡ 3 - (x % 2 + lineY e l + lineZ e l)
   unfolding order

@@ -42,10 +42,17 @@ module _ (ls : List ℕ) (x : ℕ) where
   unfolding root
   root-idem = trees.root-idem (parent ls) (links-forest ls) x
 
-  -- An id that is its own parent is a root.
+  pub parent-low : parent ls x ≤ x
+  parent-low = links-forest ls .down x
+
+  -- An id that is its own parent is a root, and a root is its own parent.
   pub root-own : parent ls x ≡ x → root ls x ≡ x
   unfolding root
   root-own = trees.root-fixed (parent ls) (links-forest ls) x
+
+  pub own-root : root ls x ≡ x → parent ls x ≡ x
+  unfolding root
+  own-root = trees.root-own (parent ls) (links-forest ls) x
 
   -- An id and its parent have one root.
   pub root-up : {u : ℕ} → u ≡ parent ls x → root ls u ≡ root ls x

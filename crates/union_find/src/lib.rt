@@ -3,13 +3,23 @@
 ghost use mathlib.Core.Path.{_≡_};
 ghost use Prim.Native.Nat.{_-_};
 ghost use lib.ListN.{length, replicate};
-ghost use Rattle.union_find.specs.Links.{root, united, Rooted, Found};
+ghost use Rattle.union_find.specs.Links.{parent, root, united, Rooted, Found};
 
 // Where a link of d leads from x.
 fn back(x: u32, d: u32) -> u32
     ensures { λ r. ⌜ r ≡ x - d ⌝ }
 {
     if d < x { x - d } else { 0 }
+}
+
+// The parent of x.
+pub fn parent(links: &[u32], x: u32) -> u32
+    ensures { λ r. ⌜ r ≡ parent (now (links .entry)) x ⌝ }
+{
+    if x as usize >= links.len() {
+        return x;
+    }
+    back(x, links[x as usize])
 }
 
 // The root of x.

@@ -1,13 +1,13 @@
 -- The volumes of document 01, "Volumes to try", that are marked *, and Figure 5 of document 003: what is asked of each, and the numbers listed.
 -- Assumes nothing.
-use mathlib.Core.Bool.{Bool, true, false, cond}
+use mathlib.Core.Bool.{cond}
 use mathlib.Core.List.{List, [], _∷_, map}
 use Prim.Native.Nat.{ℕ}
 use Rattle.cells.specs.Box.{Triple, triple}
 use Rattle.cells.specs.Extents.{offSize}
-use Rattle.refusals.specs.Refusals.{Refusal, off-size, number}
+use Rattle.refusals.specs.Refusals.{off-size, number}
 use Rattle.labels.specs.Number.{labels}
-use Rattle.labels.specs.Components.{largest, firstCell, componentRow}
+use Rattle.labels.specs.Components.{largest, componentRow}
 use Rattle.cutting.specs.Cutting.{Cutting, goodCut, blockExtents, blockCodes}
 
 -- What is asked of a volume.

@@ -1,15 +1,11 @@
 -- `lines::first_x` meets its contract.
-use Prim.Native.Nat.{ℕ, suc, _+_, _-_, _*_, _≤_, _<_}
-use mathlib.Core.Path.{_≡_, refl, ap, _∙_, sym}
-use mathlib.Core.List.{List, [], _∷_, _++_}
+use Prim.Native.Nat.{suc, _-_}
 use native.Mathlib.Omega.{arith}
-use lib.ListN.{length, getD, drop, take, set, length-set}
 use borrow.Author.Needs.{needs}
 use borrow.Author.Tests.{eq-eqb, ne-eqb}
-use Rattle.lines.specs.Lines.{firstX, firstStride, lastStride}
+use Rattle.lines.specs.Lines.{firstX}
 use Rattle.lines.proofs.first_x.Statement.{statement}
 use Rattle.lines.proofs.first_x.Tie as tie
-use Rattle.lines.proofs.first_x.Lts as lts
 
 returns : tie.Need-returns
 unfolding firstX

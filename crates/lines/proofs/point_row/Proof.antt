@@ -1,17 +1,13 @@
 -- `lines::point_row` meets its contract.
-use Prim.Native.Nat.{ℕ, suc, _+_, _-_, _*_, _≤_, _<_}
-use mathlib.Core.Path.{_≡_, refl, ap, _∙_, sym}
-use mathlib.Core.List.{List, [], _∷_, _++_}
-use native.Mathlib.Omega.{arith}
-use lib.ListN.{length, getD, drop, take, set, length-set}
+use Prim.Native.Nat.{_-_}
+use mathlib.Core.Path.{_∙_, sym}
+use mathlib.Core.List.{[], _∷_}
 use borrow.Author.Needs.{needs}
 use Rattle.cells.specs.Box.{triple}
-use Rattle.cells.specs.Row.{rowOf}
 use Rattle.lines.specs.Lines.{around}
 use Rattle.lines.proofs.LineLaws.{Reads, reads, row-odds}
 use Rattle.lines.proofs.point_row.Statement.{statement}
 use Rattle.lines.proofs.point_row.Tie as tie
-use Rattle.lines.proofs.point_row.Lts as lts
 
 on-a : (st : tie.Start) → Reads (st .args .map .now) (st .args .p) (st .args .a)
 on-a st = reads (triple (st .args .nx) (st .args .ny) (st .args .nz)) (st .args .map .now) (st .args .p) (st .pre .0) (st .pre .1) ([]) (st .args .a) (st .args .b ∷ st .args .c ∷ []) (st .pre .2)

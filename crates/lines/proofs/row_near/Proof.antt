@@ -1,14 +1,9 @@
 -- `lines::row_near` meets its contract.
-use Prim.Native.Nat.{ℕ, suc, _+_, _-_, _*_, _≤_, _<_}
-use mathlib.Core.Path.{_≡_, refl, ap, _∙_, sym}
-use mathlib.Core.List.{List, [], _∷_, _++_}
-use native.Mathlib.Omega.{arith}
-use lib.ListN.{length, getD, drop, take, set, length-set}
+use Prim.Native.Nat.{_-_}
 use borrow.Author.Needs.{needs}
 use Rattle.lines.proofs.LineLaws.{strided-one, strided-two, strided-three}
 use Rattle.lines.proofs.row_near.Statement.{statement}
 use Rattle.lines.proofs.row_near.Tie as tie
-use Rattle.lines.proofs.row_near.Lts as lts
 
 face-row-requires : tie.Need-face-row-requires
 face-row-requires c κs = let st = c .before .before in (st .pre .0, st .pre .1, strided-one (st .pre .2) (c .if1 .taken))

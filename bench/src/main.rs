@@ -1,0 +1,84 @@
+//! Times of the proved labeller beside plain Rust, in one run: medians of several rounds, as ratios.
+mod plain;
+
+use plain::Counts;
+use std::time::Instant;
+
+extern "C" {
+    fn tugrelis_label(codes: *const u32, codes_len: usize, nx: u16, ny: u16, nz: u16, map: *mut u32, map_len: usize, work: *mut u32, work_len: usize, counts: *mut u32, counts_len: usize) -> u32;
+}
+
+const SIDE: usize = 64;
+const ROUNDS: usize = 7;
+
+fn proved(codes: &[u32], extents: [usize; 3], map: &mut [u32], work: &mut [u32]) -> Counts {
+    let mut counts = [0u32; 3];
+    let [nx, ny, nz] = extents.map(|n| n as u16);
+    let refusal = unsafe {
+        tugrelis_label(codes.as_ptr(), codes.len(), nx, ny, nz, map.as_mut_ptr(), map.len(), work.as_mut_ptr(), work.len(), counts.as_mut_ptr(), counts.len())
+    };
+    assert_eq!(refusal, 0);
+    Counts { faces: counts[0], curves: counts[1], points: counts[2] }
+}
+
+/// A small generator: the same volumes in every run.
+struct Random(u64);
+
+impl Random {
+    fn below(&mut self, n: u64) -> u64 {
+        self.0 = self.0.wrapping_mul(6364136223846793005).wrapping_add(1442695040888963407);
+        (self.0 >> 33) % n
+    }
+}
+
+fn volumes() -> Vec<(&'static str, Vec<u32>)> {
+    let n = SIDE * SIDE * SIDE;
+    let mut random = Random(1);
+    let seeds: Vec<[i64; 3]> = (0..60).map(|_| [0; 3].map(|_: i64| random.below(SIDE as u64) as i64)).collect();
+    let nearest = |v: usize| {
+        let p = [v % SIDE, v / SIDE % SIDE, v / SIDE / SIDE].map(|c| c as i64);
+        let far = |s: &[i64; 3]| (0..3).map(|a| (p[a] - s[a]) * (p[a] - s[a])).sum::<i64>();
+        (0..seeds.len()).min_by_key(|&i| far(&seeds[i])).unwrap() as u32 + 1
+    };
+    vec![
+        ("Voronoi, 60 seeds", (0..n).map(nearest).collect()),
+        ("random codes 1 to 3", (0..n).map(|_| 1 + random.below(3) as u32).collect()),
+        ("all codes different", (1..=n as u32).collect()),
+        ("one code", vec![7; n]),
+    ]
+}
+
+fn median(mut times: Vec<f64>) -> f64 {
+    times.sort_by(|a, b| a.total_cmp(b));
+    times[times.len() / 2]
+}
+
+fn main() {
+    let extents = [SIDE; 3];
+    let cells = plain::cells(extents);
+    println!("one block of 64x64x64, {} cells, medians of {} rounds, milliseconds", cells, ROUNDS);
+    println!("{:<22} {:>8} {:>10} {:>8} {:>12} {:>8}", "volume", "proved", "union-find", "ratio", "depth-first", "ratio");
+    for (name, codes) in volumes() {
+        let (mut map, mut work) = (vec![3; cells], vec![5; cells]);
+        let (mut other, mut scratch) = (vec![0; cells], vec![0; cells]);
+        let mut times = [Vec::new(), Vec::new(), Vec::new()];
+        for _ in 0..ROUNDS {
+            let began = Instant::now();
+            let counts = proved(&codes, extents, &mut map, &mut work);
+            times[0].push(began.elapsed().as_secs_f64() * 1e3);
+            let began = Instant::now();
+            let expected = plain::by_union_find(&codes, extents, &mut other, &mut scratch);
+            times[1].push(began.elapsed().as_secs_f64() * 1e3);
+            assert_eq!(counts, expected, "{name}");
+            assert!(map == other, "{name}: the maps differ");
+            assert!(work.iter().all(|&w| w == 0));
+            let began = Instant::now();
+            let expected = plain::by_depth_first(&codes, extents, &mut other);
+            times[2].push(began.elapsed().as_secs_f64() * 1e3);
+            assert_eq!(counts, expected, "{name}");
+            assert!(map == other, "{name}: the maps differ");
+        }
+        let [a, b, c] = times.map(median);
+        println!("{:<22} {:>8.1} {:>10.1} {:>8.2} {:>12.1} {:>8.2}", name, a, b, a / b, c, a / c);
+    }
+}

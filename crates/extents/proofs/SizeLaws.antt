@@ -1,0 +1,38 @@
+-- Extents that are not off size.
+-- Assumes nothing.
+use mathlib.Core.Path.{_≡_}
+use mathlib.Core.Bool.{true, false, _&&_}
+use Prim.Native.Nat.{ℕ, _≤_}
+use lib.Dec.{leb}
+use borrow.Author.Tests.{leb-true, not-false}
+use Rattle.lists.proofs.Cases.{and-left, and-right}
+use Rattle.cells.specs.Box.{Triple}
+use Rattle.cells.specs.Extents.{Sized, isExtent, offSize}
+
+module _ (limit n : ℕ) (t : isExtent limit n ≡ true) where
+  extent-low : 1 ≤ n
+  unfolding isExtent
+  extent-low = leb-true 1 n (and-left (leb 1 n) (leb n limit) t)
+
+  extent-high : n ≤ limit
+  unfolding isExtent
+  extent-high = leb-true n limit (and-right (leb 1 n) (leb n limit) t)
+
+pub sized-of : (limit : ℕ) (e : Triple) → offSize limit e ≡ false → Sized limit e
+unfolding offSize
+sized-of limit e t =
+    let x = isExtent limit (e .x) in
+    let y = isExtent limit (e .y) in
+    let z = isExtent limit (e .z) in
+    let a = not-false (x && (y && z)) t in
+    let on-x = and-left x (y && z) a in
+    let on-y = and-left y z (and-right x (y && z) a) in
+    let on-z = and-right y z (and-right x (y && z) a) in
+    record {
+      x-low = extent-low limit (e .x) on-x;
+      y-low = extent-low limit (e .y) on-y;
+      z-low = extent-low limit (e .z) on-z;
+      x-high = extent-high limit (e .x) on-x;
+      y-high = extent-high limit (e .y) on-y;
+      z-high = extent-high limit (e .z) on-z;
+    }
