@@ -1,3 +1,3 @@
 -- The laws that the proofs cite.
-pub mod RowTurns
 pub mod ReadLaws
+pub mod OrderLaws
