@@ -20,9 +20,6 @@ module _ {limit : ℕ} {e : Triple} (s : Sized limit e) where
   pub layer-high : (2 * e .x - 1) * (2 * e .y - 1) ≤ (2 * limit - 1) * (2 * limit - 1)
   layer-high = mul-le-mul (omega (arith, s .x-high)) (omega (arith, s .y-high))
 
-  pub lines-high : (2 * e .y - 1) * (2 * e .z - 1) ≤ (2 * limit - 1) * (2 * limit - 1)
-  lines-high = mul-le-mul (omega (arith, s .y-high)) (omega (arith, s .z-high))
-
   pub cells-high : cells e ≤ (2 * limit - 1) * (2 * limit - 1) * (2 * limit - 1)
   cells-high = rw (cells-are e) (mul-le-mul layer-high (omega (arith, s .z-high)))
 

@@ -2,19 +2,20 @@
 -- Assumes nothing.
 use mathlib.Core.Path.{_≡_, refl, sym, ap, ap₂, _∙_}
 use mathlib.Core.Logic.{_⊎_, inl, inr, _≢_}
-use mathlib.Core.Bool.{Bool}
+use mathlib.Core.Bool.{Bool, cond}
 use mathlib.Core.List.{List, [], _∷_, _++_, map, append-assoc, append-nil, head-eq-of-cons-eq, tail-eq-of-cons-eq}
 use Prim.Native.Nat.{ℕ, zero, suc, _+_, _-_, _*_, _/_, _%_, _≤_, _<_}
-use native.Mathlib.Nat.{mul-le-mul-right, div-div-eq-div-mul}
+use native.Mathlib.Nat.{mul-le-mul, mul-le-mul-right, div-div-eq-div-mul}
 use native.Mathlib.Omega.{arith}
 use lib.ListN.{length, getD, length-append}
 use lib.Arith.{digits-lt, digits-div, digits-mod}
 use lib.Dec.{eqb, ltb}
 use borrow.Author.Tests.{eqb-true, eqb-false, eq-eqb, ne-eqb, ltb-true, ltb-false}
 use Rattle.lists.specs.Lists.{consecutive, keep}
-use Rattle.lists.proofs.Cases.{by-test}
+use Rattle.lists.proofs.Cases.{by-test, picked}
 use Rattle.lists.proofs.Lists.{consecutive-split}
 use Rattle.cells.specs.Box.{Triple, Axis, X, Y, Z, triple, coord, stride, volume, index, place}
+use Rattle.cells.specs.Extents.{Sized}
 use Rattle.cells.specs.Grid.{sides, cells, odd, order, along, up}
 use Rattle.cells.proofs.BoxLaws.{index-place, raised, lowered, index-raised, index-lowered}
 use Rattle.cells.proofs.GridLaws.{odd-at, inside, low-side, high-side, raised-inside, lowered-inside, axis-down, axis-up}
@@ -185,6 +186,11 @@ pub cells-lines : (e : Triple) → cells e ≡ lineCount e * sides e .x
 unfolding cells volume lineCount
 cells-lines e = omega arith
 
+-- How many lines there are at most.
+pub lines-high : {limit : ℕ} {e : Triple} → Sized limit e → lineCount e ≤ (2 * limit - 1) * (2 * limit - 1)
+unfolding lineCount sides
+lines-high s = mul-le-mul (omega (arith, s .y-high)) (omega (arith, s .z-high))
+
 module _ (e : Triple) (l x : ℕ) (h : x < sides e .x) where
   -- the place of the cell at x of line l, and its parities
   pub line-place : (a : Axis) → coord (place (sides e) (l * sides e .x + x)) a ≡ coord (triple x (l % sides e .y) (l / sides e .y)) a
@@ -280,6 +286,14 @@ module _ {f : ℕ → Bool} {base w n q : ℕ} (T : Tests f base w n q) where
       let s : suc (base + x) ≡ base + suc x = omega arith in
       let i : suc (suc x) ≡ x + 2 = omega arith in
       rw (r, T .at x h, eq-eqb n (x % 2 + q) e, s, skip (suc x) (λ _ d. omega arith), i)
+
+-- Each cell at an even distance from the first one, s, has n odd axes.
+pub line-odd : (n q w : ℕ) {s x : ℕ} → s ≡ firstX n q w → s ≤ x → x % 2 ≡ s % 2 → x < w → (s ≡ x % 2) × (n ≡ x % 2 + q)
+unfolding firstX
+line-odd n q w {s} {x} e l o h =
+    let P : ℕ → Type 0 = λ t. s ≡ t → (s ≡ x % 2) × (n ≡ x % 2 + q) in
+    picked P (eqb n q) 0 (cond (eqb n (suc q)) 1 w) (λ t i. omega (arith, eqb-true n q t))
+    (λ _. picked P (eqb n (suc q)) 1 w (λ t i. omega (arith, eqb-true n (suc q) t)) (λ _ i. absurd (omega arith))) e
 
 -- A test for the order o of a cell, as one for its odd axes k, of which there are at most 3.
 pub order-odd : (o j k : ℕ) → j ≤ 3 → k ≤ 3 → o ≡ 3 - k → eqb o j ≡ eqb (3 - j) k

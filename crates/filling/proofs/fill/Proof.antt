@@ -8,8 +8,8 @@ use Rattle.lists.specs.Lists.{consecutive, tabulate}
 use Rattle.cells.specs.Box.{triple}
 use Rattle.cells.specs.Grid.{sides, cells}
 use Rattle.labels.specs.Number.{codeAt}
-use Rattle.cells.proofs.ExtentLaws.{lines-high}
 use Rattle.lines.specs.Lines.{lineCount}
+use Rattle.lines.proofs.LineLaws.{lines-high}
 use Rattle.filling.specs.Written.{written}
 use Rattle.filling.proofs.FillLaws.{line-first, line-turn, line-last}
 use Rattle.filling.proofs.fill.Statement.{statement}
@@ -37,6 +37,7 @@ sub-lines-2 : tie.Need-sub-lines-2 Inv-loop μ-loop
 sub-lines-2 c = search needs
 
 mul-lines-3 : tie.Need-mul-lines-3 Inv-loop μ-loop
+unfolding lineCount sides
 mul-lines-3 c = omega (arith, lines-high (c .before .before .pre .0))
 
 loop-holds : tie.Need-loop-holds Inv-loop μ-loop
@@ -51,6 +52,7 @@ fill-line-requires c κs =
     (st .pre .0, st .pre .1, c .before .before .loop .inv .1 ∙ st .pre .2, c .before .loop-test .taken)
 
 add-l : tie.Need-add-l Inv-loop μ-loop
+unfolding lineCount sides
 add-l c =
     omega (arith, lines-high (c .before .before .before .before .before .before .before .before .pre .0), c .before .before .before .before .loop-test .taken)
 

@@ -1,0 +1,93 @@
+-- `numbering::number_cells` meets its contract. The loop's invariant: the cells of the first l lines are numbered.
+use Prim.Native.Nat.{_-_, _*_, _≤_}
+use mathlib.Core.Path.{_≡_, refl, ap, _∙_, sym}
+use native.Mathlib.Nat.{zero-mul}
+use native.Mathlib.Omega.{arith}
+use lib.ListN.{length}
+use borrow.Author.Needs.{needs}
+use Rattle.closure.proofs.Numbers.{count-bound}
+use Rattle.cells.specs.Box.{triple}
+use Rattle.cells.specs.Grid.{sides}
+use Rattle.lines.specs.Lines.{lineCount}
+use Rattle.lines.proofs.LineLaws.{cells-lines, lines-high}
+use Rattle.numbering.specs.Scan.{Scan, scanned}
+use Rattle.numbering.proofs.ScanLaws.{numberedTo, numbers-none, numbers-line, numbers-all}
+use Rattle.numbering.proofs.number_cells.Statement.{statement}
+use Rattle.numbering.proofs.number_cells.Tie as tie
+
+abbrev Inv-loop : tie.InvT-loop
+Inv-loop map₀ nx ny nz j links lines total₀ l₀ map total l =
+    (l ≤ lines) × (length map ≡ length map₀) × (scanned map total ≡ numberedTo (triple nx ny nz) j map₀ (l * (2 * nx - 1)))
+
+abbrev μ-loop : tie.MeasureT-loop
+μ-loop map₀ nx ny nz j links lines total₀ l₀ map total l = lines - l
+
+mul-lines : tie.Need-mul-lines Inv-loop μ-loop
+mul-lines c = search needs
+
+sub-lines : tie.Need-sub-lines Inv-loop μ-loop
+sub-lines c = search needs
+
+mul-lines-2 : tie.Need-mul-lines-2 Inv-loop μ-loop
+mul-lines-2 c = search needs
+
+sub-lines-2 : tie.Need-sub-lines-2 Inv-loop μ-loop
+sub-lines-2 c = search needs
+
+mul-lines-3 : tie.Need-mul-lines-3 Inv-loop μ-loop
+unfolding lineCount sides
+mul-lines-3 c = omega (arith, lines-high (c .before .before .pre .0))
+
+loop-holds : tie.Need-loop-holds Inv-loop μ-loop
+loop-holds c = (omega arith, refl, rw zero-mul (numbers-none _ _ _))
+
+number-line-requires : tie.Need-number-line-requires Inv-loop μ-loop
+unfolding lineCount sides
+number-line-requires c κs =
+    let st = c .before .before .before .before .before in
+    let i = c .before .before .loop .inv in
+    (st .pre .0, i .1 ∙ st .pre .1, st .pre .2, omega arith, rw (ap (λ (s : Scan). s .total) (i .2)) (count-bound _ _))
+
+add-l : tie.Need-add-l Inv-loop μ-loop
+unfolding lineCount sides
+add-l c = omega (arith, lines-high (c .before .before .before .before .before .before .before .before .pre .0))
+
+loop-less : tie.Need-loop-less Inv-loop μ-loop
+loop-less c = search needs
+
+loop-again : tie.Need-loop-again Inv-loop μ-loop
+unfolding lineCount sides
+loop-again c =
+    let st = c .before .before .before .before .before .before .before .before in
+    let i = c .before .before .before .before .before .loop .inv in
+    (omega arith, omega arith, (rw (i .2) at (c .before .before .number-line .ensures)) ∙ numbers-line _ _ _ (st .pre .1) _ (st .pre .3) _ (omega arith))
+
+same-length : tie.Need-same-length Inv-loop μ-loop
+same-length c = search needs
+
+returns : tie.Need-returns Inv-loop μ-loop
+unfolding lineCount sides
+returns c =
+    let st = c .before .before .before .before in
+    let l = c .before .loop in
+    let i : l .l ≡ (2 * st .args .ny - 1) * (2 * st .args .nz - 1) = omega arith in
+    numbers-all _ _ _ (st .pre .1) (l .inv .2) (rw i (sym (cells-lines _)))
+
+pub number-cells-spec : {M : Type 1} → statement M
+number-cells-spec =
+    tie.close
+    (tie.spec
+    Inv-loop
+    μ-loop
+    mul-lines
+    sub-lines
+    mul-lines-2
+    sub-lines-2
+    mul-lines-3
+    loop-holds
+    number-line-requires
+    add-l
+    loop-less
+    loop-again
+    same-length
+    returns)

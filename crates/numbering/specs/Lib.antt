@@ -1,0 +1,2 @@
+-- What the contracts of the numbering pass cite.
+pub mod Scan

@@ -1,0 +1,30 @@
+-- The cells of one order numbered one after the other, in the order of their positions.
+-- Assumes nothing.
+use mathlib.Core.Bool.{cond}
+use mathlib.Core.List.{List, [], _∷_}
+use Prim.Native.Nat.{ℕ, _+_}
+use lib.Dec.{eqb}
+use lib.ListN.{getD, set}
+use Rattle.cells.specs.Box.{Triple}
+use Rattle.cells.specs.Row.{active}
+use Rattle.union_find.specs.Links.{parent}
+
+-- The map so far, and how many components are numbered in it.
+pub record Scan : Type 0 where
+  pub numbers : List ℕ
+  pub total : ℕ
+
+abbrev pub scanned : List ℕ → ℕ → Scan
+scanned m t = record { numbers = m; total = t }
+
+-- What cell p makes of it: an inactive cell gets 0, a root of the links the next number, and any other the number of its parent.
+unfoldable pub scanAt : Triple → List ℕ → ℕ → Scan → Scan
+scanAt e links p s =
+    cond (active e (s .numbers) p)
+    (cond (eqb (parent links p) p) (scanned (set (s .numbers) p (s .total + 1)) (s .total + 1)) (scanned (set (s .numbers) p (getD (s .numbers) (parent links p) 0)) (s .total)))
+    (scanned (set (s .numbers) p 0) (s .total))
+
+-- What the cells of a list make of it.
+unfoldable pub scan : Triple → List ℕ → List ℕ → Scan → Scan
+scan e links [] s = s
+scan e links (p ∷ ps) s = scan e links ps (scanAt e links p s)
