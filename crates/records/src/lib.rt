@@ -1,0 +1,1 @@
+// The block record: definitions in specs/, laws in proofs/. No code.
