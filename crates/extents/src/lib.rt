@@ -1,7 +1,9 @@
 // Extents against their limit, for every entry that is told some.
 ghost use mathlib.Core.Path.{_≡_};
+ghost use Prim.Native.Nat.{_+_};
+ghost use lib.Dec.{ltb};
 ghost use Rattle.cells.specs.Box.{triple};
-ghost use Rattle.cells.specs.Extents.{isExtent, offSize};
+ghost use Rattle.cells.specs.Extents.{isExtent, offSize, offPlace};
 
 fn is_extent(limit: usize, n: usize) -> bool
     ensures { λ r. ⌜ r ≡ isExtent limit n ⌝ }
@@ -22,4 +24,27 @@ pub fn off_size(limit: usize, nx: usize, ny: usize, nz: usize) -> bool
         }
     }
     true
+}
+
+// Whether origin + extent is above 1,024 on an axis.
+fn beyond(n: u16, o: u16) -> bool
+    ensures { λ r. ⌜ r ≡ ltb 1024 (o + n) ⌝ }
+{
+    (o as usize) + (n as usize) > 1024
+}
+
+// Whether a block's extent is off size, or origin + extent is above 1,024.
+pub fn off_place(nx: u16, ny: u16, nz: u16, ox: u16, oy: u16, oz: u16) -> bool
+    ensures { λ r. ⌜ r ≡ offPlace (triple nx ny nz) (triple ox oy oz) ⌝ }
+{
+    if off_size(64, nx as usize, ny as usize, nz as usize) {
+        return true;
+    }
+    if beyond(nx, ox) {
+        return true;
+    }
+    if beyond(ny, oy) {
+        return true;
+    }
+    beyond(nz, oz)
 }

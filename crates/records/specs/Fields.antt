@@ -1,9 +1,7 @@
 -- Numbers as bytes and as bits, the lowest first ("all fields are little-endian", "lowest bit first in each byte").
 -- Assumes nothing.
-use mathlib.Core.Bool.{cond}
 use mathlib.Core.List.{List, [], _∷_, _++_}
 use Prim.Native.Nat.{ℕ, zero, suc, _+_, _*_, _/_, _%_}
-use lib.Dec.{eqb}
 use lib.ListN.{length, take, drop}
 
 -- x in n bytes.

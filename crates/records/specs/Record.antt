@@ -1,15 +1,14 @@
 -- The block record (document 01, "Block record").
 -- Assumes nothing.
-use mathlib.Core.Bool.{Bool, true, false, cond, not, _&&_, _||_}
+use mathlib.Core.Bool.{Bool, false, cond, not, _||_}
 use mathlib.Core.List.{List, [], _∷_, _++_, map}
-use Prim.Native.Nat.{ℕ, zero, suc, _+_, _-_, _*_, _/_, _%_, _^_}
-use lib.Dec.{eqb, leb, ltb}
+use Prim.Native.Nat.{ℕ, _+_, _-_, _*_, _/_, _%_, _^_}
+use lib.Dec.{eqb}
 use lib.ListN.{length, getD, take, drop}
 use Rattle.lists.specs.Lists.{consecutive, tabulate}
 use Rattle.closure.specs.Numbered.{countBelow}
 use Rattle.cells.specs.Box.{Triple, triple}
 use Rattle.cells.specs.Grid.{cells}
-use Rattle.cells.specs.Extents.{offSize}
 use Rattle.labels.specs.Components.{ofOrder}
 use Rattle.records.specs.Fields.{bytes, field, packed}
 
@@ -72,10 +71,6 @@ decode n r = tabulate n (numberOf n r)
 unfoldable pub some : (ℕ → Bool) → List ℕ → Bool
 some f [] = false
 some f (x ∷ xs) = f x || some f xs
-
--- Refusal 1: "an extent is 0 or above its limit, or origin + extent is above 1,024".
-unfoldable pub offPlace : Triple → Triple → Bool
-offPlace e o = offSize 64 e || (ltb 1024 (o .x + e .x) || (ltb 1024 (o .y + e .y) || ltb 1024 (o .z + e .z)))
 
 -- Refusal 8: "a map has 0 at a voxel".
 unfoldable pub blankVoxel : Triple → List ℕ → Bool
