@@ -5,7 +5,7 @@ use plain::Counts;
 use std::time::Instant;
 
 extern "C" {
-    fn tugrelis_label(codes: *const u32, codes_len: usize, nx: u16, ny: u16, nz: u16, map: *mut u32, map_len: usize, work: *mut u32, work_len: usize, counts: *mut u32, counts_len: usize) -> u32;
+    fn tugrelis_label(codes: *const u32, codes_len: usize, nx: u16, ny: u16, nz: u16, map: *mut u32, map_len: usize, work: *mut u32, work_len: usize, counts: *mut [u32; 3]) -> u32;
 }
 
 const SIDE: usize = 64;
@@ -15,7 +15,7 @@ fn proved(codes: &[u32], extents: [usize; 3], map: &mut [u32], work: &mut [u32])
     let mut counts = [0u32; 3];
     let [nx, ny, nz] = extents.map(|n| n as u16);
     let refusal = unsafe {
-        tugrelis_label(codes.as_ptr(), codes.len(), nx, ny, nz, map.as_mut_ptr(), map.len(), work.as_mut_ptr(), work.len(), counts.as_mut_ptr(), counts.len())
+        tugrelis_label(codes.as_ptr(), codes.len(), nx, ny, nz, map.as_mut_ptr(), map.len(), work.as_mut_ptr(), work.len(), &mut counts)
     };
     assert_eq!(refusal, 0);
     Counts { faces: counts[0], curves: counts[1], points: counts[2] }

@@ -1,8 +1,9 @@
--- Ranges, tables of a function's values, and the entries that pass a test.
+-- Consecutive numbers, tables of a function's values, the entries that pass a test, and zeros.
 -- Assumes nothing.
 use mathlib.Core.Bool.{Bool, cond}
 use mathlib.Core.List.{List, [], _∷_, map}
 use Prim.Native.Nat.{ℕ, zero, suc}
+use lib.ListN.{replicate}
 
 -- n numbers from i on.
 unfoldable pub consecutive : ℕ → ℕ → List ℕ
@@ -17,3 +18,7 @@ tabulate n f = map f (consecutive 0 n)
 abbrev pub keep {ℓ} : {A : Type ℓ} → (A → Bool) → List A → List A
 keep f [] = []
 keep f (x ∷ xs) = cond (f x) (x ∷ keep f xs) (keep f xs)
+
+-- n zeros.
+unfoldable pub zeros : ℕ → List ℕ
+zeros n = replicate n 0

@@ -7,8 +7,9 @@ use mathlib.Core.Bool.{false, _&&_}
 use mathlib.Core.List.{List, [], _∷_, _++_}
 use mathlib.Core.Path.{_≡_, refl, sym, _∙_}
 use lib.Dec.{ltb}
-use lib.ListN.{length, getD, set, replicate, length-set, List·getD-eq-default}
+use lib.ListN.{length, getD, set, length-set, List·getD-eq-default}
 use lib.Seq.{getD-set-same, getD-set-other}
+use Rattle.lists.specs.Lists.{zeros}
 use borrow.Author.Tests.{lt-ltb}
 use Rattle.closure.specs.Joined.{Edge, edge, join, joins}
 use Rattle.closure.specs.Trees.{Forest, Changed, Roots}
@@ -67,15 +68,16 @@ module _ (ls : List ℕ) (x : ℕ) where
   pub root-inside : x < length ls → root ls x < length ls
   root-inside h = omega (arith, root-low)
 
-zeros-read : (n x : ℕ) → getD (replicate n 0) x 0 ≡ zero
+zeros-read : (n x : ℕ) → getD (zeros n) x 0 ≡ 0
+unfolding zeros
 zeros-read zero x = refl
 zeros-read (suc n) zero = refl
 zeros-read (suc n) (suc x) = zeros-read n x
 
 -- In a table of zeros every id is alone.
-pub zeros-alone : (n x : ℕ) → root (replicate n 0) x ≡ x
+pub zeros-alone : (n x : ℕ) → root (zeros n) x ≡ x
 unfolding parent
-zeros-alone n x = root-own (replicate n 0) x (rw (zeros-read n x) (omega arith))
+zeros-alone n x = root-own (zeros n) x (rw (zeros-read n x) (omega arith))
 
 -- ---- `Rooted`
 

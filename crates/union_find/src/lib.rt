@@ -2,7 +2,8 @@
 // A link is a distance back, so a table of any content is a forest, and every function answers for every input.
 ghost use mathlib.Core.Path.{_≡_};
 ghost use Prim.Native.Nat.{_-_};
-ghost use lib.ListN.{length, replicate};
+ghost use lib.ListN.{length};
+ghost use Rattle.lists.specs.Lists.{zeros};
 ghost use Rattle.union_find.specs.Links.{parent, root, united, Rooted, Found};
 
 // Where a link of d leads from x.
@@ -79,7 +80,7 @@ pub fn unite(links: &mut [u32], a: u32, b: u32)
 
 // Writes 0 everywhere: every id is alone.
 pub fn clear(links: &mut [u32])
-    ensures { λ _. ⌜ now (links .exit) ≡ replicate (length (now (links .entry))) 0 ⌝ }
+    ensures { λ _. ⌜ now (links .exit) ≡ zeros (length (now (links .entry))) ⌝ }
 {
     let mut i: usize = 0;
     while i < links.len() {

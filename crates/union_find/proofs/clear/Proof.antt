@@ -8,6 +8,7 @@ use lib.ListN.{length, drop, replicate, length-set}
 use lib.Seq.{drop-length}
 use borrow.Author.Fill.{fill-none, fill-more}
 use borrow.Author.Needs.{needs}
+use Rattle.lists.specs.Lists.{zeros}
 use Rattle.union_find.proofs.clear.Statement.{statement}
 use Rattle.union_find.proofs.clear.Tie as tie
 
@@ -41,6 +42,7 @@ same-length : tie.Need-same-length Inv-loop μ-loop
 same-length c = search needs
 
 returns : tie.Need-returns Inv-loop μ-loop
+unfolding zeros
 returns c =
     let l = c .before .loop in
     let d = c .before .before .args .links .now in

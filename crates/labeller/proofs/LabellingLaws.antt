@@ -1,0 +1,136 @@
+-- The ways of the labeller's functions, over plain lists and numbers.
+-- Assumes nothing.
+use mathlib.Core.Path.{_≡_, refl, sym, ap, _∙_}
+use mathlib.Core.Bool.{Bool, true, false, cond, _&&_}
+use mathlib.Core.List.{List}
+use Prim.Native.Nat.{ℕ, _+_, _-_, _≤_, _<_}
+use native.Mathlib.Numerals.{add-one}
+use native.Mathlib.Omega.{arith}
+use lib.Dec.{eqb}
+use lib.ListN.{length, getD, drop, length-replicate, drop-of-length-le}
+use lib.Seq.{drop-cons}
+use borrow.Author.Tests.{eqb-true, eq-eqb, ne-eqb, not-false}
+use Rattle.lists.specs.Lists.{tabulate, zeros}
+use Rattle.lists.proofs.Cases.{and-left, and-right}
+use Rattle.refusals.specs.Refusals.{off-size, wrong-tray, number, table, first, lowest}
+use Rattle.refusals.proofs.RefusalLaws.{lowest-none}
+use Rattle.closure.specs.Joined.{Edge, joins, rep}
+use Rattle.closure.proofs.Rooted.{joins-ext}
+use Rattle.union_find.specs.Links.{root, Rooted}
+use Rattle.union_find.proofs.LinkLaws.{zeros-alone}
+use Rattle.cells.specs.Box.{Triple, volume}
+use Rattle.cells.specs.Grid.{cells}
+use Rattle.cells.specs.Extents.{offSize}
+use Rattle.extents.proofs.SizeLaws.{sized-of}
+use Rattle.labels.specs.Number.{numbered, codeAt, mapDown, labels}
+use Rattle.labels.specs.Components.{largest}
+use Rattle.labels.proofs.CountLaws.{count-down}
+use Rattle.labeller.specs.declared.Labelled.{Labelled}
+use Rattle.labeller.specs.Labelling.{wrongTray, blank, declines, refusalOf, Ready, outcome, accepted, refused, labelling}
+
+-- ---- the ladder of refusals
+
+-- the refusal as a ladder of tests
+pub refusal-is : (e : Triple) (codes : List ℕ) (n m : ℕ)
+    → refusalOf e codes n m ≡ cond (offSize 64 e) 1 (cond (wrongTray e (length codes) n m) 6 (cond (blank codes) 7 0))
+unfolding refusalOf lowest first table number declines
+refusal-is e codes n m = refl
+
+-- t is the value of the code's test, b the test of the definition
+module _ {A : Type 0} (t b : Bool) (r x y : A) where
+  pub cond-here : t ≡ b → t ≡ true → r ≡ x → r ≡ cond b x y
+  cond-here e p q = rw (sym e ∙ p) q
+
+  pub cond-next : t ≡ b → t ≡ false → r ≡ y → r ≡ cond b x y
+  cond-next e p q = rw (sym e ∙ p) q
+
+-- what is right where nothing is refused
+pub ready-of : (e : Triple) (codes : List ℕ) (n m : ℕ) → refusalOf e codes n m ≡ 0 → Ready e (length codes) n m
+unfolding refusalOf wrongTray declines
+ready-of e codes n m h =
+    let none = lowest-none (declines e codes n m) .0 h in
+    let a = not-false (eqb (length codes) (volume e) && (eqb n (cells e) && eqb m (cells e))) (none wrong-tray) in
+    let b = and-right (eqb (length codes) (volume e)) (eqb n (cells e) && eqb m (cells e)) a in
+    record {
+      sized = sized-of 64 e (none off-size);
+      codes-are = eqb-true _ _ (and-left (eqb (length codes) (volume e)) (eqb n (cells e) && eqb m (cells e)) a);
+      map-is = eqb-true _ _ (and-left (eqb n (cells e)) (eqb m (cells e)) b);
+      work-is = eqb-true _ _ (and-right (eqb n (cells e)) (eqb m (cells e)) b);
+    }
+
+-- ---- blank codes
+
+pub blank-start : (xs : List ℕ) → blank xs ≡ blank (drop 0 xs)
+blank-start xs = refl
+
+pub blank-here : (xs : List ℕ) (i : ℕ) → i < length xs → getD xs i 0 ≡ 0 → blank xs ≡ blank (drop i xs) → true ≡ blank xs
+unfolding blank
+blank-here xs i h z e = sym (e ∙ rw (drop-cons xs i 0 h, eq-eqb (getD xs i 0) 0 z))
+
+pub blank-more : (xs : List ℕ) (i : ℕ) → i < length xs → (getD xs i 0 ≡ 0 → ⊥) → blank xs ≡ blank (drop i xs) → blank xs ≡ blank (drop (i + 1) xs)
+unfolding blank
+blank-more xs i h n e = e ∙ rw (drop-cons xs i 0 h, ne-eqb (getD xs i 0) 0 n, add-one)
+
+pub blank-none : (xs : List ℕ) (i : ℕ) → length xs ≤ i → blank xs ≡ blank (drop i xs) → false ≡ blank xs
+unfolding blank
+blank-none xs i h e = sym (e ∙ rw (drop-of-length-le xs {i = i} h))
+
+-- ---- the ways of `label`
+
+pub label-refused : (e : Triple) (codes m w : List ℕ) (n : ℕ) → n ≡ refusalOf e codes (length m) (length w) → (n ≡ 0 → ⊥)
+    → outcome (record { refusal = n; faces = 0; curves = 0; points = 0 }) m w ≡ labelling e codes m w
+unfolding labelling refused
+label-refused e codes m w n h z = rw (← h, ne-eqb n 0 z)
+
+pub label-accepted : (e : Triple) (codes m w : List ℕ) (n : ℕ) → n ≡ refusalOf e codes (length m) (length w) → n ≡ 0
+    → (r : Labelled) (m′ w′ : List ℕ) → outcome r m′ w′ ≡ accepted e codes → outcome r m′ w′ ≡ labelling e codes m w
+unfolding labelling
+label-accepted e codes m w n h z r m′ w′ q = rw (← h, eq-eqb n 0 z) q
+
+-- ---- the passes, one after the other
+
+module _ (e : Triple) (codes m₀ m₁ m₂ m₃ w : List ℕ) (f c p : ℕ)
+    (filled : m₀ ≡ tabulate (cells e) (codeAt e codes))
+    (faces : (m₁ ≡ numbered e 2 m₀) × (f ≡ largest e (numbered e 2 m₀) 2))
+    (curves : (m₂ ≡ numbered e 1 m₁) × (c ≡ largest e (numbered e 1 m₁) 1))
+    (points : (m₃ ≡ numbered e 0 m₂) × (p ≡ largest e (numbered e 0 m₂) 0))
+    (cleared : w ≡ zeros (cells e)) where
+  down-0 : m₀ ≡ mapDown e codes 0
+  unfolding mapDown
+  down-0 = filled
+
+  down-1 : m₁ ≡ mapDown e codes 1
+  unfolding mapDown
+  down-1 = faces .0 ∙ ap (numbered e 2) down-0
+
+  down-2 : m₂ ≡ mapDown e codes 2
+  unfolding mapDown
+  down-2 = curves .0 ∙ ap (numbered e 1) down-1
+
+  down-3 : m₃ ≡ labels e codes
+  unfolding labels mapDown
+  down-3 = points .0 ∙ ap (numbered e 0) down-2
+
+  face-count : f ≡ largest e (labels e codes) 2
+  face-count = faces .1 ∙ ap (λ (m : List ℕ). largest e m 2) (sym (faces .0) ∙ down-1) ∙ count-down e codes 0 (omega arith)
+
+  curve-count : c ≡ largest e (labels e codes) 1
+  curve-count = curves .1 ∙ ap (λ (m : List ℕ). largest e m 1) (sym (curves .0) ∙ down-2) ∙ count-down e codes 1 (omega arith)
+
+  point-count : p ≡ largest e (labels e codes) 0
+  point-count = points .1 ∙ ap (λ (m : List ℕ). largest e m 0) (sym (points .0) ∙ down-3)
+
+  pub block-labelled : outcome (record { refusal = 0; faces = f; curves = c; points = p }) m₃ w ≡ accepted e codes
+  unfolding accepted
+  block-labelled = rw (face-count, curve-count, point-count, down-3, cleared)
+
+-- ---- one order
+
+pub length-zeros : (n : ℕ) → length (zeros n) ≡ n
+unfolding zeros
+length-zeros n = length-replicate n 0
+
+-- Links that were all zeros, with the edges joined: the roots are the least cells.
+pub joined-rep : (n : ℕ) {ls ms : List ℕ} (es : List Edge) → ls ≡ zeros n → Rooted ls ms (joins (root ls) es) → (x : ℕ) → root ms x ≡ rep es x
+unfolding rep
+joined-rep n es z R x = R .roots x ∙ joins-ext es _ _ (λ y. rw z (zeros-alone n y)) x

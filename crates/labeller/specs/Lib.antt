@@ -1,0 +1,2 @@
+-- The definitions that the contract of `label` cites.
+pub mod Labelling
