@@ -1,0 +1,2 @@
+-- What the contracts of the exports cite.
+pub mod Exports
