@@ -1,8 +1,8 @@
 -- What the joining pass has left to join, turn by turn: among six cells, along a line, and line by line.
 -- Assumes nothing.
 use mathlib.Core.Path.{_≡_, refl, sym, ap, _∙_}
-use mathlib.Core.Bool.{false, cond, _&&_, false≢true}
-use mathlib.Core.List.{List, [], _∷_, _++_, map, append-assoc}
+use mathlib.Core.Bool.{Bool, true, false, cond, not, _&&_, false≢true}
+use mathlib.Core.List.{List, [], _∷_, _++_, map, append-assoc, append-nil}
 use Prim.Native.Nat.{ℕ, zero, suc, _+_, _-_, _*_, _%_, _≤_, _<_}
 use native.Mathlib.Nat.{mul-le-mul-right}
 use native.Mathlib.Numerals.{add-one}
@@ -10,13 +10,13 @@ use native.Mathlib.Omega.{arith}
 use lib.Dec.{eqb·suc-zero, eqb·suc-suc}
 use lib.ListN.{length, getD, drop}
 use lib.Seq.{drop-cons}
-use borrow.Author.Tests.{ne-eqb}
+use borrow.Author.Tests.{ne-eqb, not-true}
 use Rattle.lists.specs.Lists.{consecutive, keep}
 use Rattle.lists.proofs.Cases.{by-test, and-left, and-right}
 use Rattle.lists.proofs.Lists.{keep-append}
 use Rattle.closure.specs.Joined.{Edge, edge, joins}
 use Rattle.union_find.specs.Links.{root, Rooted}
-use Rattle.union_find.proofs.LinkLaws.{Left}
+use Rattle.union_find.proofs.LinkLaws.{Left, rooted-refl}
 use Rattle.cells.specs.Box.{Triple}
 use Rattle.cells.specs.Grid.{sides, cells, order, up}
 use Rattle.cells.specs.Row.{row, active, occupied, sameRow}
@@ -57,6 +57,10 @@ abbrev pub Blank : List (List ℕ) → Type 0
 Blank [] = Unit {0}
 Blank (v ∷ vs) = (occupied v ≡ false) × Blank vs
 
+-- What the test for a blank row tells.
+pub blank-row : {b : Bool} (r : List ℕ) → b ≡ not (occupied r) → b ≡ true → occupied r ≡ false
+blank-row r e t = not-true (occupied r) (sym e ∙ t)
+
 to-blank : (p : ℕ) (r us : List ℕ) (vs : List (List ℕ)) → Blank vs → alikeTo p r us vs ≡ []
 unfolding alikeTo
 to-blank p r [] vs b = refl
@@ -88,6 +92,15 @@ module _ (e : Triple) (m us : List ℕ) (vs : List (List ℕ)) (blank : Blank vs
   pub joined-around : {ls ms : List ℕ} {rs : List (List ℕ)} (t : ℕ) (ss : List ℕ) → odds e t ≡ ss → rs ≡ map (row e m) (around t ss) ++ vs
       → Rooted ls ms (joins (root ls) (alikePairs (around t ss ++ us) rs)) → Rooted ls ms (joins (root ls) (keep (alike e m) (pairs (up e t))))
   joined-around t ss o q R = rw (up-around e t, o, ← pairs-alike (around t ss), ← q) R
+
+-- Where no cell around t is active, nothing is joined.
+pub idle-around : (e : Triple) (m : List ℕ) {ls : List ℕ} (t : ℕ) (ss : List ℕ) → odds e t ≡ ss → (rs : List (List ℕ)) → rs ≡ map (row e m) (around t ss) → Blank rs
+    → Rooted ls ls (joins (root ls) (keep (alike e m) (pairs (up e t))))
+unfolding joins
+idle-around e m {ls} t ss o rs q b =
+    let none : keep (alike e m) (pairs (around t ss)) ≡ [] =
+    sym (pairs-alike e m [] [] tt (around t ss)) ∙ rw (append-nil (around t ss), append-nil (map (row e m) (around t ss)), ← q) (pairs-blank (around t ss) rs b) in
+    rw (up-around e t, o, none) (rooted-refl ls)
 
 -- The cells one stride s down and up from t: their positions fit 32 bits, and their rows are read by the strides ss.
 pub record Near (e : Triple) (m : List ℕ) (t s : ℕ) (ss : List ℕ) : Type 0 where

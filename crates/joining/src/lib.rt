@@ -7,6 +7,7 @@ use lines::last_stride;
 use rows::same_row;
 use union_find::unite;
 ghost use mathlib.Core.Path.{_≡_};
+ghost use mathlib.Core.Bool.{not};
 ghost use mathlib.Core.List.{[], _∷_};
 ghost use Prim.Native.Nat.{ℕ, suc, _*_, _-_, _<_, _≤_};
 ghost use lib.ListN.{length, getD, drop};
@@ -15,6 +16,7 @@ ghost use Rattle.closure.specs.Joined.{joins};
 ghost use Rattle.union_find.specs.Links.{root, Rooted};
 ghost use Rattle.cells.specs.Box.{triple};
 ghost use Rattle.cells.specs.Grid.{cells, up};
+ghost use Rattle.cells.specs.Row.{occupied};
 ghost use Rattle.labels.specs.Number.{pairs, alike, edgesAt, below, edges};
 ghost use Rattle.lines.specs.Lines.{odds, lineCount, Strided};
 ghost use Rattle.joining.specs.Joining.{Trays, alikeTo, alikePairs};
@@ -51,6 +53,13 @@ fn join_alike(at: [u32; 6], rows: [[u32; 6]; 6], links: &mut [u32])
     }
 }
 
+// A row has no entry.
+fn is_blank(r: [u32; 6]) -> bool
+    ensures { λ b. ⌜ b ≡ not (occupied r) ⌝ }
+{
+    r[0] == 0
+}
+
 // Joins the face cells around curve cell t, whose odd axes have the strides a and b.
 fn join_faces(
     map: &[u32],
@@ -70,12 +79,16 @@ fn join_faces(
     let q = t + a;
     let u = t - b;
     let v = t + b;
-    let none = [0u32; 6];
-    let at = [p as u32, q as u32, u as u32, v as u32, 0, 0];
     let r0 = face_row(map, nx, ny, nz, p, b);
     let r1 = face_row(map, nx, ny, nz, q, b);
     let r2 = face_row(map, nx, ny, nz, u, a);
     let r3 = face_row(map, nx, ny, nz, v, a);
+    // No active cell, the common case.
+    if is_blank(r0) & is_blank(r1) & is_blank(r2) & is_blank(r3) {
+        return;
+    }
+    let none = [0u32; 6];
+    let at = [p as u32, q as u32, u as u32, v as u32, 0, 0];
     join_alike(at, [r0, r1, r2, r3, none, none], links);
 }
 
@@ -95,6 +108,16 @@ fn join_curves(
     ensures { λ _. ⌜ Rooted (now (links .entry)) (now (links .exit))
         (joins (root (now (links .entry))) (keep (alike (triple nx ny nz) (now (map .entry))) (pairs (up (triple nx ny nz) t)))) ⌝ }
 {
+    let r0 = curve_row(map, nx, ny, nz, t - a, b, c);
+    let r1 = curve_row(map, nx, ny, nz, t + a, b, c);
+    let r2 = curve_row(map, nx, ny, nz, t - b, a, c);
+    let r3 = curve_row(map, nx, ny, nz, t + b, a, c);
+    let r4 = curve_row(map, nx, ny, nz, t - c, a, b);
+    let r5 = curve_row(map, nx, ny, nz, t + c, a, b);
+    // No active cell, the common case.
+    if is_blank(r0) & is_blank(r1) & is_blank(r2) & is_blank(r3) & is_blank(r4) & is_blank(r5) {
+        return;
+    }
     let at = [
         (t - a) as u32,
         (t + a) as u32,
@@ -103,12 +126,6 @@ fn join_curves(
         (t - c) as u32,
         (t + c) as u32,
     ];
-    let r0 = curve_row(map, nx, ny, nz, t - a, b, c);
-    let r1 = curve_row(map, nx, ny, nz, t + a, b, c);
-    let r2 = curve_row(map, nx, ny, nz, t - b, a, c);
-    let r3 = curve_row(map, nx, ny, nz, t + b, a, c);
-    let r4 = curve_row(map, nx, ny, nz, t - c, a, b);
-    let r5 = curve_row(map, nx, ny, nz, t + c, a, b);
     join_alike(at, [r0, r1, r2, r3, r4, r5], links);
 }
 

@@ -1,12 +1,14 @@
 -- `joining::join_curves` meets its contract.
 -- Assumes nothing.
 use Prim.Native.Nat.{_+_, _-_}
+use mathlib.Core.Bool.{_&&_}
 use mathlib.Core.List.{[], _∷_}
 use native.Mathlib.Omega.{arith}
 use borrow.Author.Needs.{needs}
+use Rattle.lists.proofs.Cases.{and-left, and-right}
 use Rattle.cells.specs.Box.{Triple, triple}
 use Rattle.lines.specs.Lines.{around}
-use Rattle.joining.proofs.JoinLaws.{joined-around, Near, near, getD-below}
+use Rattle.joining.proofs.JoinLaws.{blank-row, joined-around, idle-around, Near, near, getD-below}
 use Rattle.joining.proofs.join_curves.Statement.{statement}
 use Rattle.joining.proofs.join_curves.Tie as tie
 
@@ -22,42 +24,6 @@ on-b s = near (s .pre .0) (s .pre .1) (s .args .a ∷ []) _ (s .args .c ∷ []) 
 
 on-c : (s : tie.Start) → Near (grid s) (s .args .map .now) (s .args .t) (s .args .c) (s .args .a ∷ s .args .b ∷ [])
 on-c s = near (s .pre .0) (s .pre .1) (s .args .a ∷ s .args .b ∷ []) _ [] (s .pre .2)
-
-sub-t17 : tie.Need-sub-t17
-sub-t17 c = on-a (c .before .before) .low
-
-cast-t18 : tie.Need-cast-t18
-cast-t18 c = omega (arith, on-a (c .before .before) .fits)
-
-add-t19 : tie.Need-add-t19
-add-t19 c = omega (arith, on-a (c .before .before) .fits)
-
-cast-t20 : tie.Need-cast-t20
-cast-t20 c = omega (arith, on-a (c .before .before) .fits)
-
-sub-t21 : tie.Need-sub-t21
-sub-t21 c = on-b (c .before .before) .low
-
-cast-t22 : tie.Need-cast-t22
-cast-t22 c = omega (arith, on-b (c .before .before) .fits)
-
-add-t23 : tie.Need-add-t23
-add-t23 c = omega (arith, on-b (c .before .before) .fits)
-
-cast-t24 : tie.Need-cast-t24
-cast-t24 c = omega (arith, on-b (c .before .before) .fits)
-
-sub-t25 : tie.Need-sub-t25
-sub-t25 c = on-c (c .before .before) .low
-
-cast-t26 : tie.Need-cast-t26
-cast-t26 c = omega (arith, on-c (c .before .before) .fits)
-
-add-t27 : tie.Need-add-t27
-add-t27 c = omega (arith, on-c (c .before .before) .fits)
-
-cast-t28 : tie.Need-cast-t28
-cast-t28 c = omega (arith, on-c (c .before .before) .fits)
 
 sub-curve-row : tie.Need-sub-curve-row
 sub-curve-row c = on-a (c .before .before) .low
@@ -95,22 +61,91 @@ add-curve-row-3 c = omega (arith, on-c (c .before .before .before .before .befor
 curve-row-requires-6 : tie.Need-curve-row-requires-6
 curve-row-requires-6 c κs = on-c (c .before .before .before .before .before .before .before) .up
 
+is-blank-requires : tie.Need-is-blank-requires
+is-blank-requires c κs = search needs
+
+is-blank-requires-2 : tie.Need-is-blank-requires-2
+is-blank-requires-2 c κs = search needs
+
+is-blank-requires-3 : tie.Need-is-blank-requires-3
+is-blank-requires-3 c κs = search needs
+
+is-blank-requires-4 : tie.Need-is-blank-requires-4
+is-blank-requires-4 c κs = search needs
+
+is-blank-requires-5 : tie.Need-is-blank-requires-5
+is-blank-requires-5 c κs = search needs
+
+is-blank-requires-6 : tie.Need-is-blank-requires-6
+is-blank-requires-6 c κs = search needs
+
+returns : tie.Need-returns
+unfolding around
+returns c =
+    let s = c .before .before .before .before .before .before .before .before .before .before .before .before .before .before .before in
+    let t5 = c .if1 .taken in
+    let t4 = and-left ((((c .before .before .before .before .before .before .is-blank .result && c .before .before .before .before .before .is-blank2 .result) && c .before .before .before .before .is-blank3 .result) && c .before .before .before .is-blank4 .result) && c .before .before .is-blank5 .result) (c .before .is-blank6 .result) t5 in
+    let t3 = and-left (((c .before .before .before .before .before .before .is-blank .result && c .before .before .before .before .before .is-blank2 .result) && c .before .before .before .before .is-blank3 .result) && c .before .before .before .is-blank4 .result) (c .before .before .is-blank5 .result) t4 in
+    let t2 = and-left ((c .before .before .before .before .before .before .is-blank .result && c .before .before .before .before .before .is-blank2 .result) && c .before .before .before .before .is-blank3 .result) (c .before .before .before .is-blank4 .result) t3 in
+    let t1 = and-left (c .before .before .before .before .before .before .is-blank .result && c .before .before .before .before .before .is-blank2 .result) (c .before .before .before .before .is-blank3 .result) t2 in
+    let t0 = and-left (c .before .before .before .before .before .before .is-blank .result) (c .before .before .before .before .before .is-blank2 .result) t1 in
+    idle-around (grid s) (s .args .map .now) (s .args .t) (s .args .a ∷ s .args .b ∷ s .args .c ∷ []) (s .pre .2)
+    (c .before .before .before .before .before .before .before .before .before .before .before .before .curve-row .result ∷ c .before .before .before .before .before .before .before .before .before .before .before .curve-row2 .result ∷ c .before .before .before .before .before .before .before .before .before .before .curve-row3 .result ∷ c .before .before .before .before .before .before .before .before .before .curve-row4 .result ∷ c .before .before .before .before .before .before .before .before .curve-row5 .result ∷ c .before .before .before .before .before .before .before .curve-row6 .result ∷ [])
+    (rw (c .before .before .before .before .before .before .before .before .before .before .before .before .curve-row .ensures, c .before .before .before .before .before .before .before .before .before .before .before .curve-row2 .ensures, c .before .before .before .before .before .before .before .before .before .before .curve-row3 .ensures, c .before .before .before .before .before .before .before .before .before .curve-row4 .ensures, c .before .before .before .before .before .before .before .before .curve-row5 .ensures, c .before .before .before .before .before .before .before .curve-row6 .ensures))
+    (blank-row _ (c .before .before .before .before .before .before .is-blank .ensures) t0, (blank-row _ (c .before .before .before .before .before .is-blank2 .ensures) (and-right (c .before .before .before .before .before .before .is-blank .result) (c .before .before .before .before .before .is-blank2 .result) t1), (blank-row _ (c .before .before .before .before .is-blank3 .ensures) (and-right (c .before .before .before .before .before .before .is-blank .result && c .before .before .before .before .before .is-blank2 .result) (c .before .before .before .before .is-blank3 .result) t2), (blank-row _ (c .before .before .before .is-blank4 .ensures) (and-right ((c .before .before .before .before .before .before .is-blank .result && c .before .before .before .before .before .is-blank2 .result) && c .before .before .before .before .is-blank3 .result) (c .before .before .before .is-blank4 .result) t3), (blank-row _ (c .before .before .is-blank5 .ensures) (and-right (((c .before .before .before .before .before .before .is-blank .result && c .before .before .before .before .before .is-blank2 .result) && c .before .before .before .before .is-blank3 .result) && c .before .before .before .is-blank4 .result) (c .before .before .is-blank5 .result) t4), (blank-row _ (c .before .is-blank6 .ensures) (and-right ((((c .before .before .before .before .before .before .is-blank .result && c .before .before .before .before .before .is-blank2 .result) && c .before .before .before .before .is-blank3 .result) && c .before .before .before .is-blank4 .result) && c .before .before .is-blank5 .result) (c .before .is-blank6 .result) t5), tt))))))
+
+sub-t17 : tie.Need-sub-t17
+sub-t17 c = on-a (c .before .before .before .before .before .before .before .before .before .before .before .before .before .before .before) .low
+
+cast-t29 : tie.Need-cast-t29
+cast-t29 c = omega (arith, on-a (c .before .before .before .before .before .before .before .before .before .before .before .before .before .before .before) .fits)
+
+add-t30 : tie.Need-add-t30
+add-t30 c = omega (arith, on-a (c .before .before .before .before .before .before .before .before .before .before .before .before .before .before .before) .fits)
+
+cast-t31 : tie.Need-cast-t31
+cast-t31 c = omega (arith, on-a (c .before .before .before .before .before .before .before .before .before .before .before .before .before .before .before) .fits)
+
+sub-t32 : tie.Need-sub-t32
+sub-t32 c = on-b (c .before .before .before .before .before .before .before .before .before .before .before .before .before .before .before) .low
+
+cast-t33 : tie.Need-cast-t33
+cast-t33 c = omega (arith, on-b (c .before .before .before .before .before .before .before .before .before .before .before .before .before .before .before) .fits)
+
+add-t34 : tie.Need-add-t34
+add-t34 c = omega (arith, on-b (c .before .before .before .before .before .before .before .before .before .before .before .before .before .before .before) .fits)
+
+cast-t35 : tie.Need-cast-t35
+cast-t35 c = omega (arith, on-b (c .before .before .before .before .before .before .before .before .before .before .before .before .before .before .before) .fits)
+
+sub-t36 : tie.Need-sub-t36
+sub-t36 c = on-c (c .before .before .before .before .before .before .before .before .before .before .before .before .before .before .before) .low
+
+cast-t37 : tie.Need-cast-t37
+cast-t37 c = omega (arith, on-c (c .before .before .before .before .before .before .before .before .before .before .before .before .before .before .before) .fits)
+
+add-t38 : tie.Need-add-t38
+add-t38 c = omega (arith, on-c (c .before .before .before .before .before .before .before .before .before .before .before .before .before .before .before) .fits)
+
+cast-t39 : tie.Need-cast-t39
+cast-t39 c = omega (arith, on-c (c .before .before .before .before .before .before .before .before .before .before .before .before .before .before .before) .fits)
+
 join-alike-requires : tie.Need-join-alike-requires
 join-alike-requires c κs k h =
-    let s = c .before .before .before .before .before .before .before .before .before in
+    let s = c .before .before .before .before .before .before .before .before .before .before .before .before .before .before .before .before in
     let x = s .args in
-    let p = on-a s in
-    let q = on-b s in
-    let r = on-c s in
+    let na = on-a s in
+    let nb = on-b s in
+    let nc = on-c s in
     getD-below _ ((x .t - x .a) ∷ (x .t + x .a) ∷ (x .t - x .b) ∷ (x .t + x .b) ∷ (x .t - x .c) ∷ (x .t + x .c) ∷ []) (omega arith) k
 
 same-length : tie.Need-same-length
 same-length c = search needs
 
-returns : tie.Need-returns
+returns-2 : tie.Need-returns-2
 unfolding around
-returns c =
-    let d = c .before .before .before .before in
+returns-2 c =
+    let d = c .before .before .before .before .before .before .before .before .before .before .before in
     let s = d .before .before .before .before .before .before .before .before in
     joined-around (grid s) _ [] [] tt _ (s .args .a ∷ s .args .b ∷ s .args .c ∷ []) (s .pre .2)
     (rw (d .before .before .before .before .before .curve-row .ensures, d .before .before .before .before .curve-row2 .ensures, d .before .before .before .curve-row3 .ensures, d .before .before .curve-row4 .ensures, d .before .curve-row5 .ensures, d .curve-row6 .ensures))
@@ -120,18 +155,6 @@ pub join-curves-spec : {M : Type 1} → statement M
 join-curves-spec =
     tie.close
     (tie.spec
-    sub-t17
-    cast-t18
-    add-t19
-    cast-t20
-    sub-t21
-    cast-t22
-    add-t23
-    cast-t24
-    sub-t25
-    cast-t26
-    add-t27
-    cast-t28
     sub-curve-row
     curve-row-requires
     add-curve-row
@@ -144,6 +167,25 @@ join-curves-spec =
     curve-row-requires-5
     add-curve-row-3
     curve-row-requires-6
+    is-blank-requires
+    is-blank-requires-2
+    is-blank-requires-3
+    is-blank-requires-4
+    is-blank-requires-5
+    is-blank-requires-6
+    returns
+    sub-t17
+    cast-t29
+    add-t30
+    cast-t31
+    sub-t32
+    cast-t33
+    add-t34
+    cast-t35
+    sub-t36
+    cast-t37
+    add-t38
+    cast-t39
     join-alike-requires
     same-length
-    returns)
+    returns-2)

@@ -3,13 +3,15 @@
 -- Assumes nothing.
 use Prim.Native.Nat.{ℕ, _+_, _-_}
 use mathlib.Core.Path.{refl}
+use mathlib.Core.Bool.{_&&_}
 use mathlib.Core.List.{List, [], _∷_}
 use native.Mathlib.Omega.{arith}
 use borrow.Author.Needs.{needs}
+use Rattle.lists.proofs.Cases.{and-left, and-right}
 use Rattle.cells.specs.Box.{Triple, triple}
 use Rattle.cells.specs.Row.{occupied}
 use Rattle.lines.specs.Lines.{around}
-use Rattle.joining.proofs.JoinLaws.{joined-around, Near, near, getD-below}
+use Rattle.joining.proofs.JoinLaws.{blank-row, joined-around, idle-around, Near, near, getD-below}
 use Rattle.joining.proofs.join_faces.Statement.{statement}
 use Rattle.joining.proofs.join_faces.Tie as tie
 
@@ -39,18 +41,6 @@ sub-u c = on-b (c .before .before) .low
 add-v : tie.Need-add-v
 add-v c = omega (arith, on-b (c .before .before) .fits)
 
-cast-t19 : tie.Need-cast-t19
-cast-t19 c = omega (arith, on-a (c .before .before) .fits)
-
-cast-t20 : tie.Need-cast-t20
-cast-t20 c = omega (arith, on-a (c .before .before) .fits)
-
-cast-t21 : tie.Need-cast-t21
-cast-t21 c = omega (arith, on-b (c .before .before) .fits)
-
-cast-t22 : tie.Need-cast-t22
-cast-t22 c = omega (arith, on-b (c .before .before) .fits)
-
 face-row-requires : tie.Need-face-row-requires
 face-row-requires c κs = on-a (c .before .before) .down
 
@@ -63,21 +53,58 @@ face-row-requires-3 c κs = on-b (c .before .before .before .before) .down
 face-row-requires-4 : tie.Need-face-row-requires-4
 face-row-requires-4 c κs = on-b (c .before .before .before .before .before) .up
 
+is-blank-requires : tie.Need-is-blank-requires
+is-blank-requires c κs = search needs
+
+is-blank-requires-2 : tie.Need-is-blank-requires-2
+is-blank-requires-2 c κs = search needs
+
+is-blank-requires-3 : tie.Need-is-blank-requires-3
+is-blank-requires-3 c κs = search needs
+
+is-blank-requires-4 : tie.Need-is-blank-requires-4
+is-blank-requires-4 c κs = search needs
+
+returns : tie.Need-returns
+unfolding around
+returns c =
+    let s = c .before .before .before .before .before .before .before .before .before .before .before in
+    let t3 = c .if1 .taken in
+    let t2 = and-left ((c .before .before .before .before .is-blank .result && c .before .before .before .is-blank2 .result) && c .before .before .is-blank3 .result) (c .before .is-blank4 .result) t3 in
+    let t1 = and-left (c .before .before .before .before .is-blank .result && c .before .before .before .is-blank2 .result) (c .before .before .is-blank3 .result) t2 in
+    let t0 = and-left (c .before .before .before .before .is-blank .result) (c .before .before .before .is-blank2 .result) t1 in
+    idle-around (grid s) (s .args .map .now) (s .args .t) (s .args .a ∷ s .args .b ∷ []) (s .pre .2)
+    (c .before .before .before .before .before .before .before .before .face-row .result ∷ c .before .before .before .before .before .before .before .face-row2 .result ∷ c .before .before .before .before .before .before .face-row3 .result ∷ c .before .before .before .before .before .face-row4 .result ∷ [])
+    (rw (c .before .before .before .before .before .before .before .before .face-row .ensures, c .before .before .before .before .before .before .before .face-row2 .ensures, c .before .before .before .before .before .before .face-row3 .ensures, c .before .before .before .before .before .face-row4 .ensures))
+    (blank-row _ (c .before .before .before .before .is-blank .ensures) t0, (blank-row _ (c .before .before .before .is-blank2 .ensures) (and-right (c .before .before .before .before .is-blank .result) (c .before .before .before .is-blank2 .result) t1), (blank-row _ (c .before .before .is-blank3 .ensures) (and-right (c .before .before .before .before .is-blank .result && c .before .before .before .is-blank2 .result) (c .before .before .is-blank3 .result) t2), (blank-row _ (c .before .is-blank4 .ensures) (and-right ((c .before .before .before .before .is-blank .result && c .before .before .before .is-blank2 .result) && c .before .before .is-blank3 .result) (c .before .is-blank4 .result) t3), tt))))
+
+cast-t26 : tie.Need-cast-t26
+cast-t26 c = omega (arith, on-a (c .before .before .before .before .before .before .before .before .before .before .before) .fits)
+
+cast-t27 : tie.Need-cast-t27
+cast-t27 c = omega (arith, on-a (c .before .before .before .before .before .before .before .before .before .before .before) .fits)
+
+cast-t28 : tie.Need-cast-t28
+cast-t28 c = omega (arith, on-b (c .before .before .before .before .before .before .before .before .before .before .before) .fits)
+
+cast-t29 : tie.Need-cast-t29
+cast-t29 c = omega (arith, on-b (c .before .before .before .before .before .before .before .before .before .before .before) .fits)
+
 join-alike-requires : tie.Need-join-alike-requires
 join-alike-requires c κs k h =
-    let s = c .before .before .before .before .before .before .before in
+    let s = c .before .before .before .before .before .before .before .before .before .before .before .before in
     let x = s .args in
-    let p = on-a s in
-    let q = on-b s in
+    let na = on-a s in
+    let nb = on-b s in
     getD-below _ ((x .t - x .a) ∷ (x .t + x .a) ∷ (x .t - x .b) ∷ (x .t + x .b) ∷ 0 ∷ 0 ∷ []) (omega arith) k
 
 same-length : tie.Need-same-length
 same-length c = search needs
 
-returns : tie.Need-returns
+returns-2 : tie.Need-returns-2
 unfolding around occupied
-returns c =
-    let d = c .before .before .before .before in
+returns-2 c =
+    let d = c .before .before .before .before .before .before .before .before .before in
     let s = d .before .before .before .before .before .before in
     joined-around (grid s) _ (0 ∷ 0 ∷ []) (none ∷ none ∷ []) (refl, (refl, tt)) _ (s .args .a ∷ s .args .b ∷ []) (s .pre .2)
     (rw (d .before .before .before .face-row .ensures, d .before .before .face-row2 .ensures, d .before .face-row3 .ensures, d .face-row4 .ensures))
@@ -91,14 +118,19 @@ join-faces-spec =
     add-q
     sub-u
     add-v
-    cast-t19
-    cast-t20
-    cast-t21
-    cast-t22
     face-row-requires
     face-row-requires-2
     face-row-requires-3
     face-row-requires-4
+    is-blank-requires
+    is-blank-requires-2
+    is-blank-requires-3
+    is-blank-requires-4
+    returns
+    cast-t26
+    cast-t27
+    cast-t28
+    cast-t29
     join-alike-requires
     same-length
-    returns)
+    returns-2)

@@ -1,0 +1,85 @@
+-- What a record that is not damaged has.
+-- Assumes nothing.
+use mathlib.Core.Path.{_≡_, refl, ap, _∙_}
+use mathlib.Core.Bool.{Bool, true, false, not, _||_}
+use mathlib.Core.Logic.{_⊎_, inl, inr}
+use mathlib.Core.List.{List, [], _∷_, List·Memᴰ, List·Memᴰ·head, List·Memᴰ·tail, List·Memᴰ·not-nil, List·Memᴰ·cases-cons}
+use Prim.Native.Nat.{ℕ, _+_, _-_, _*_, _≤_, _<_}
+use native.Mathlib.Omega.{arith}
+use lib.Dec.{eqb}
+use lib.ListN.{length}
+use borrow.Author.Tests.{eqb-true, eqb-false, eq-eqb, ne-eqb, not-false}
+use Rattle.lists.specs.Lists.{consecutive}
+use Rattle.lists.proofs.Lists.{consecutive-in, consecutive-out}
+use Rattle.cells.specs.Box.{Triple}
+use Rattle.cells.specs.Grid.{cells}
+use Rattle.labels.specs.Components.{ofOrder}
+use Rattle.records.specs.Fields.{field}
+use Rattle.records.specs.Record.{bitmapLength, bitAt, standing, some, lengthOf, damaged}
+use Rattle.records.proofs.ReadLaws.{bit-at-lt}
+
+or-left : (s t : Bool) → (s || t) ≡ false → s ≡ false
+or-left true t e = e
+or-left false t e = refl
+
+or-right : (s t : Bool) → (s || t) ≡ false → t ≡ false
+or-right true true e = e
+or-right true false e = refl
+or-right false t e = e
+
+pub some-none : (f : ℕ → Bool) (l : List ℕ) → ((p : ℕ) → List·Memᴰ p l → f p ≡ false) → some f l ≡ false
+unfolding some
+some-none f [] h = refl
+some-none f (y ∷ l) h = rw (h y (List·Memᴰ·head refl)) (some-none f l (λ p k. h p (List·Memᴰ·tail k)))
+
+pub none-some : (f : ℕ → Bool) (l : List ℕ) → some f l ≡ false → {p : ℕ} → List·Memᴰ p l → f p ≡ false
+unfolding some
+none-some f [] e k = absurd (List·Memᴰ·not-nil k)
+none-some f (y ∷ l) e {p} k = go (List·Memᴰ·cases-cons k) (λ j. none-some f l (or-right (f y) (some f l) e) j)
+  where
+    go : (p ≡ y) ⊎ List·Memᴰ p l → (List·Memᴰ p l → f p ≡ false) → f p ≡ false
+    go (inl q) ih = ap f q ∙ or-left (f y) (some f l) e
+    go (inr j) ih = ih j
+
+-- The four parts of refusal 11, each the other way round.
+pub record Whole (e : Triple) (r : List ℕ) : Type 0 where
+  pub sized : length r ≡ lengthOf (cells e) r
+  pub spared : (c : ℕ) → cells e ≤ c → c < 8 * bitmapLength (cells e) → bitAt r c ≡ 0
+  pub voxels : (c : ℕ) → List·Memᴰ c (ofOrder e 3) → bitAt r c ≡ 1
+  pub nonzero : (k : ℕ) → k < standing r (cells e) → field r (12 + bitmapLength (cells e) + 4 * k) 4 ≡ 0 → ⊥
+
+pub whole-damaged : (e : Triple) (r : List ℕ) → Whole e r → damaged e r ≡ false
+unfolding damaged
+whole-damaged e r w =
+    rw (eq-eqb (length r) (lengthOf (cells e) r) (w .sized), s, v) n
+  where
+    s : some (λ c. eqb (bitAt r c) 1) (consecutive (cells e) (8 * bitmapLength (cells e) - cells e)) ≡ false
+    s = some-none _ _ (λ c k. let b = consecutive-out (cells e) (8 * bitmapLength (cells e) - cells e) k in rw (w .spared c (b .0) (omega arith)))
+
+    v : some (λ c. eqb (bitAt r c) 0) (ofOrder e 3) ≡ false
+    v = some-none _ _ (λ c k. rw (w .voxels c k))
+
+    n : some (λ k. eqb (field r (12 + bitmapLength (cells e) + 4 * k) 4) 0) (consecutive 0 (standing r (cells e))) ≡ false
+    n = some-none _ _ (λ k h. let b = consecutive-out 0 (standing r (cells e)) h in ne-eqb (field r (12 + bitmapLength (cells e) + 4 * k) 4) 0 (w .nonzero k (omega arith)))
+
+pub damaged-whole : (e : Triple) (r : List ℕ) → damaged e r ≡ false → Whole e r
+unfolding damaged
+damaged-whole e r d =
+    let n : ℕ = cells e in
+    let spare : ℕ → Bool = λ c. eqb (bitAt r c) 1 in
+    let clear : ℕ → Bool = λ c. eqb (bitAt r c) 0 in
+    let empty : ℕ → Bool = λ k. eqb (field r (12 + bitmapLength n + 4 * k) 4) 0 in
+    let sp : List ℕ = consecutive n (8 * bitmapLength n - n) in
+    let st : List ℕ = consecutive 0 (standing r n) in
+    let d₁ : (some spare sp || (some clear (ofOrder e 3) || some empty st)) ≡ false = or-right (not (eqb (length r) (lengthOf n r))) _ d in
+    let d₂ : (some clear (ofOrder e 3) || some empty st) ≡ false = or-right (some spare sp) _ d₁ in
+    record {
+      sized = eqb-true (length r) (lengthOf n r) (not-false (eqb (length r) (lengthOf n r)) (or-left (not (eqb (length r) (lengthOf n r))) _ d));
+      spared = λ c h b.
+          let f : bitAt r c ≡ 1 → ⊥ = eqb-false (bitAt r c) 1 (none-some spare sp (or-left (some spare sp) _ d₁) (consecutive-in n (8 * bitmapLength n - n) h (omega arith))) in
+          omega (arith, bit-at-lt r c);
+      voxels = λ c k.
+          let f : bitAt r c ≡ 0 → ⊥ = eqb-false (bitAt r c) 0 (none-some clear (ofOrder e 3) (or-left (some clear (ofOrder e 3)) _ d₂) k) in
+          omega (arith, bit-at-lt r c);
+      nonzero = λ k h. eqb-false (field r (12 + bitmapLength n + 4 * k) 4) 0 (none-some empty st (or-right (some clear (ofOrder e 3)) _ d₂) (consecutive-in 0 (standing r n) (omega arith) (omega arith)));
+    }
