@@ -4,3 +4,4 @@ pub mod MapLaws
 pub mod ReadLaws
 pub mod DamageLaws
 pub mod RoundTrip
+pub mod LaidLaws

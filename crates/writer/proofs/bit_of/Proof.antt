@@ -1,0 +1,17 @@
+-- `writer::bit_of` meets its contract.
+use native.Mathlib.Omega.{arith}
+use borrow.Author.Tests.{eq-eqb, ne-eqb}
+use Rattle.records.specs.Record.{bit}
+use Rattle.writer.proofs.bit_of.Statement.{statement}
+use Rattle.writer.proofs.bit_of.Tie as tie
+
+returns : tie.Need-returns
+unfolding bit
+returns c = (rw (eq-eqb _ _ (c .if1 .taken)), omega arith)
+
+returns-2 : tie.Need-returns-2
+unfolding bit
+returns-2 c = (rw (ne-eqb _ _ (c .if1 .left)), omega arith)
+
+pub bit-of-spec : {M : Type 1} → statement M
+bit-of-spec = tie.close (tie.spec returns returns-2)

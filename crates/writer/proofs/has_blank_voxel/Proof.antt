@@ -1,0 +1,92 @@
+-- `writer::has_blank_voxel` meets its contract. The loop's invariant: the answer is that of the lines from l on.
+use Prim.Native.Nat.{_-_, _*_, _≤_}
+use mathlib.Core.Path.{_≡_, _∙_, sym}
+use native.Mathlib.Omega.{arith}
+use lib.ListN.{getD}
+use lib.Dec.{eqb}
+use borrow.Author.Needs.{needs}
+use Rattle.lists.specs.Lists.{consecutive, keep}
+use Rattle.cells.specs.Box.{triple}
+use Rattle.cells.specs.Grid.{sides, cells, order}
+use Rattle.lines.specs.Lines.{lineCount}
+use Rattle.lines.proofs.LineLaws.{lines-high}
+use Rattle.labels.specs.Components.{ofOrder}
+use Rattle.records.specs.Record.{some, blankVoxel}
+use Rattle.writer.proofs.WriteLaws.{grid-start, grid-here, grid-next, grid-end}
+use Rattle.writer.proofs.has_blank_voxel.Statement.{statement}
+use Rattle.writer.proofs.has_blank_voxel.Tie as tie
+
+abbrev Inv-loop : tie.InvT-loop
+Inv-loop map nx ny nz lines l₀ l =
+    (l ≤ lines) × (blankVoxel (triple nx ny nz) map ≡ some (λ p. eqb (getD map p 0) 0) (keep (λ p. eqb (order (triple nx ny nz) p) 3) (consecutive (l * sides (triple nx ny nz) .x) (cells (triple nx ny nz) - l * sides (triple nx ny nz) .x))))
+
+abbrev μ-loop : tie.MeasureT-loop
+μ-loop map nx ny nz lines l₀ l = lines - l
+
+mul-lines : tie.Need-mul-lines Inv-loop μ-loop
+mul-lines c = search needs
+
+sub-lines : tie.Need-sub-lines Inv-loop μ-loop
+sub-lines c = search needs
+
+mul-lines-2 : tie.Need-mul-lines-2 Inv-loop μ-loop
+mul-lines-2 c = search needs
+
+sub-lines-2 : tie.Need-sub-lines-2 Inv-loop μ-loop
+sub-lines-2 c = search needs
+
+mul-lines-3 : tie.Need-mul-lines-3 Inv-loop μ-loop
+unfolding lineCount sides
+mul-lines-3 c = omega (arith, lines-high (c .before .pre .0))
+
+loop-holds : tie.Need-loop-holds Inv-loop μ-loop
+unfolding blankVoxel ofOrder
+loop-holds c = (omega arith, grid-start _ _ _)
+
+blank-on-requires : tie.Need-blank-on-requires Inv-loop μ-loop
+unfolding lineCount sides
+blank-on-requires c κs = search needs
+
+returns : tie.Need-returns Inv-loop μ-loop
+unfolding lineCount sides
+returns c =
+    let l = c .before .before .before .loop in
+    sym (l .inv .1 ∙ grid-here _ _ _ _ (c .before .before .loop-test .taken) (sym (c .before .blank-on .ensures) ∙ c .if1 .taken))
+
+add-l : tie.Need-add-l Inv-loop μ-loop
+unfolding lineCount sides
+add-l c = omega (arith, lines-high (c .before .before .before .before .before .pre .0), c .before .before .loop-test .taken)
+
+loop-less : tie.Need-loop-less Inv-loop μ-loop
+loop-less c = search needs
+
+loop-again : tie.Need-loop-again Inv-loop μ-loop
+unfolding lineCount sides
+loop-again c =
+    let l = c .before .before .before .loop in
+    (omega (arith, c .before .before .loop-test .taken), l .inv .1 ∙ grid-next _ _ _ _ (c .before .before .loop-test .taken) (sym (c .before .blank-on .ensures) ∙ c .if1 .left))
+
+returns-2 : tie.Need-returns-2 Inv-loop μ-loop
+unfolding lineCount sides
+returns-2 c =
+    let l = c .before .loop in
+    sym (l .inv .1 ∙ grid-end _ _ _ _ (c .loop-test .left) (l .inv .0))
+
+pub has-blank-voxel-spec : {M : Type 1} → statement M
+has-blank-voxel-spec =
+    tie.close
+    (tie.spec
+    Inv-loop
+    μ-loop
+    mul-lines
+    sub-lines
+    mul-lines-2
+    sub-lines-2
+    mul-lines-3
+    loop-holds
+    blank-on-requires
+    returns
+    add-l
+    loop-less
+    loop-again
+    returns-2)

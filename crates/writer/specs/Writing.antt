@@ -1,0 +1,50 @@
+-- What `write_record` answers and leaves in the tray, for every input (document 01, "Block record" and "What the service declines").
+-- Assumes nothing.
+use mathlib.Core.Bool.{Bool, false, cond, not, _||_}
+use mathlib.Core.List.{List, _++_}
+use Prim.Native.Nat.{ℕ}
+use lib.Dec.{eqb, ltb}
+use lib.ListN.{length, drop}
+use Rattle.refusals.specs.Refusals.{Refusal, off-size, bad-cut, wrong-stage, no-such-place, done-already, wrong-tray, blank-voxel, stray-label, layers-differ, table-full, bad-record, lowest}
+use Rattle.cells.specs.Box.{Triple}
+use Rattle.cells.specs.Extents.{offPlace}
+use Rattle.cells.specs.Grid.{cells}
+use Rattle.records.specs.Record.{encode, blankVoxel}
+use Rattle.writer.specs.declared.Written.{Written}
+
+-- When each refusal applies. The tray goes in by its length.
+unfoldable pub declines : Triple → Triple → List ℕ → ℕ → Refusal → Bool
+declines e o m tray off-size = offPlace e o
+declines e o m tray bad-cut = false
+declines e o m tray wrong-stage = false
+declines e o m tray no-such-place = false
+declines e o m tray done-already = false
+declines e o m tray wrong-tray = not (eqb (length m) (cells e)) || ltb tray (length (encode e o m))
+declines e o m tray blank-voxel = false
+declines e o m tray stray-label = blankVoxel e m
+declines e o m tray layers-differ = false
+declines e o m tray table-full = false
+declines e o m tray bad-record = false
+
+unfoldable pub refusalOf : Triple → Triple → List ℕ → ℕ → ℕ
+refusalOf e o m tray = lowest (declines e o m tray)
+
+-- The answer, and what the record tray holds.
+pub record Outcome : Type 0 where
+  pub answer : Written
+  pub tray : List ℕ
+
+abbrev pub outcome : Written → List ℕ → Outcome
+outcome a t = record { answer = a; tray = t }
+
+-- Accepted: the record, "its bytes after the record stay", and the record's length.
+unfoldable pub accepted : Triple → Triple → List ℕ → List ℕ → Outcome
+accepted e o m t = outcome (record { refusal = 0; length = length (encode e o m) }) (encode e o m ++ drop (length (encode e o m)) t)
+
+-- Refused: the number, and the tray as it was.
+unfoldable pub refused : ℕ → List ℕ → Outcome
+refused n t = outcome (record { refusal = n; length = 0 }) t
+
+-- The outcome of a call.
+unfoldable pub writing : Triple → Triple → List ℕ → List ℕ → Outcome
+writing e o m t = cond (eqb (refusalOf e o m (length t)) 0) (accepted e o m t) (refused (refusalOf e o m (length t)) t)
