@@ -5,9 +5,9 @@ use mathlib.Core.Bool.{true, false, _&&_}
 use Prim.Native.Nat.{ℕ, _≤_}
 use lib.Dec.{leb}
 use borrow.Author.Tests.{leb-true, not-false}
-use Rattle.lists.proofs.Cases.{and-left, and-right}
+use Rattle.lists.proofs.Cases.{and-left, and-right, neither}
 use Rattle.cells.specs.Box.{Triple}
-use Rattle.cells.specs.Extents.{Sized, isExtent, offSize}
+use Rattle.cells.specs.Extents.{Sized, isExtent, offSize, offPlace}
 
 module _ (limit n : ℕ) (t : isExtent limit n ≡ true) where
   extent-low : 1 ≤ n
@@ -36,3 +36,8 @@ sized-of limit e t =
       y-high = extent-high limit (e .y) on-y;
       z-high = extent-high limit (e .z) on-z;
     }
+
+-- A block in its place is of a right size.
+pub sized-at : (e o : Triple) → offPlace e o ≡ false → Sized 64 e
+unfolding offPlace
+sized-at e o t = sized-of 64 e (neither (offSize 64 e) _ t .0)

@@ -1,7 +1,7 @@
 -- What a record that is not damaged has.
 -- Assumes nothing.
 use mathlib.Core.Path.{_≡_, refl, ap, _∙_}
-use mathlib.Core.Bool.{Bool, true, false, not, _||_}
+use mathlib.Core.Bool.{Bool, false, not, _||_}
 use mathlib.Core.Logic.{_⊎_, inl, inr}
 use mathlib.Core.List.{List, [], _∷_, List·Memᴰ, List·Memᴰ·head, List·Memᴰ·tail, List·Memᴰ·not-nil, List·Memᴰ·cases-cons}
 use Prim.Native.Nat.{ℕ, _+_, _-_, _*_, _≤_, _<_}
@@ -14,18 +14,10 @@ use Rattle.lists.proofs.Lists.{consecutive-in, consecutive-out}
 use Rattle.cells.specs.Box.{Triple}
 use Rattle.cells.specs.Grid.{cells}
 use Rattle.labels.specs.Components.{ofOrder}
+use Rattle.lists.proofs.Cases.{neither}
 use Rattle.records.specs.Fields.{field}
 use Rattle.records.specs.Record.{bitmapLength, bitAt, standing, some, lengthOf, damaged}
 use Rattle.records.proofs.ReadLaws.{bit-at-lt}
-
-or-left : (s t : Bool) → (s || t) ≡ false → s ≡ false
-or-left true t e = e
-or-left false t e = refl
-
-or-right : (s t : Bool) → (s || t) ≡ false → t ≡ false
-or-right true true e = e
-or-right true false e = refl
-or-right false t e = e
 
 pub some-none : (f : ℕ → Bool) (l : List ℕ) → ((p : ℕ) → List·Memᴰ p l → f p ≡ false) → some f l ≡ false
 unfolding some
@@ -35,10 +27,10 @@ some-none f (y ∷ l) h = rw (h y (List·Memᴰ·head refl)) (some-none f l (λ 
 pub none-some : (f : ℕ → Bool) (l : List ℕ) → some f l ≡ false → {p : ℕ} → List·Memᴰ p l → f p ≡ false
 unfolding some
 none-some f [] e k = absurd (List·Memᴰ·not-nil k)
-none-some f (y ∷ l) e {p} k = go (List·Memᴰ·cases-cons k) (λ j. none-some f l (or-right (f y) (some f l) e) j)
+none-some f (y ∷ l) e {p} k = go (List·Memᴰ·cases-cons k) (λ j. none-some f l (neither (f y) (some f l) e .1) j)
   where
     go : (p ≡ y) ⊎ List·Memᴰ p l → (List·Memᴰ p l → f p ≡ false) → f p ≡ false
-    go (inl q) ih = ap f q ∙ or-left (f y) (some f l) e
+    go (inl q) ih = ap f q ∙ neither (f y) (some f l) e .0
     go (inr j) ih = ih j
 
 -- The four parts of refusal 11, each the other way round.
@@ -71,15 +63,15 @@ damaged-whole e r d =
     let empty : ℕ → Bool = λ k. eqb (field r (12 + bitmapLength n + 4 * k) 4) 0 in
     let sp : List ℕ = consecutive n (8 * bitmapLength n - n) in
     let st : List ℕ = consecutive 0 (standing r n) in
-    let d₁ : (some spare sp || (some clear (ofOrder e 3) || some empty st)) ≡ false = or-right (not (eqb (length r) (lengthOf n r))) _ d in
-    let d₂ : (some clear (ofOrder e 3) || some empty st) ≡ false = or-right (some spare sp) _ d₁ in
+    let d₁ : (some spare sp || (some clear (ofOrder e 3) || some empty st)) ≡ false = neither (not (eqb (length r) (lengthOf n r))) _ d .1 in
+    let d₂ : (some clear (ofOrder e 3) || some empty st) ≡ false = neither (some spare sp) _ d₁ .1 in
     record {
-      sized = eqb-true (length r) (lengthOf n r) (not-false (eqb (length r) (lengthOf n r)) (or-left (not (eqb (length r) (lengthOf n r))) _ d));
+      sized = eqb-true (length r) (lengthOf n r) (not-false (eqb (length r) (lengthOf n r)) (neither (not (eqb (length r) (lengthOf n r))) _ d .0));
       spared = λ c h b.
-          let f : bitAt r c ≡ 1 → ⊥ = eqb-false (bitAt r c) 1 (none-some spare sp (or-left (some spare sp) _ d₁) (consecutive-in n (8 * bitmapLength n - n) h (omega arith))) in
+          let f : bitAt r c ≡ 1 → ⊥ = eqb-false (bitAt r c) 1 (none-some spare sp (neither (some spare sp) _ d₁ .0) (consecutive-in n (8 * bitmapLength n - n) h (omega arith))) in
           omega (arith, bit-at-lt r c);
       voxels = λ c k.
-          let f : bitAt r c ≡ 0 → ⊥ = eqb-false (bitAt r c) 0 (none-some clear (ofOrder e 3) (or-left (some clear (ofOrder e 3)) _ d₂) k) in
+          let f : bitAt r c ≡ 0 → ⊥ = eqb-false (bitAt r c) 0 (none-some clear (ofOrder e 3) (neither (some clear (ofOrder e 3)) _ d₂ .0) k) in
           omega (arith, bit-at-lt r c);
-      nonzero = λ k h. eqb-false (field r (12 + bitmapLength n + 4 * k) 4) 0 (none-some empty st (or-right (some clear (ofOrder e 3)) _ d₂) (consecutive-in 0 (standing r n) (omega arith) (omega arith)));
+      nonzero = λ k h. eqb-false (field r (12 + bitmapLength n + 4 * k) 4) 0 (none-some empty st (neither (some clear (ofOrder e 3)) _ d₂ .1) (consecutive-in 0 (standing r n) (omega arith) (omega arith)));
     }

@@ -5,3 +5,4 @@ pub mod ReadLaws
 pub mod DamageLaws
 pub mod RoundTrip
 pub mod LaidLaws
+pub mod BitLaws

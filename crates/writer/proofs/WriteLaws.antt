@@ -1,7 +1,7 @@
 -- The ways of the writer's functions, over plain lists and numbers.
 -- Assumes nothing.
 use mathlib.Core.Path.{_≡_, refl, sym, ap, _∙_}
-use mathlib.Core.Bool.{Bool, true, false, cond, not, _||_, true≢false}
+use mathlib.Core.Bool.{Bool, true, false, cond, not, _||_}
 use mathlib.Core.List.{List, [], _∷_, _++_}
 use Prim.Native.Nat.{ℕ, zero, suc, _+_, _-_, _*_, _%_, _^_, _≤_, _<_}
 use native.Mathlib.Nat.{two-pow-succ}
@@ -12,13 +12,13 @@ use lib.ListN.{length, getD, take, drop, set, drop-of-length-le, length-append, 
 use lib.Seq.{drop-cons, take-all}
 use borrow.Author.Tests.{eqb-true, eq-eqb, ne-eqb, ltb-false, lt-ltb, le-ltb, not-false}
 use Rattle.lists.specs.Lists.{consecutive, tabulate, keep}
-use Rattle.lists.proofs.Cases.{by-test}
+use Rattle.lists.proofs.Cases.{by-test, neither}
 use Rattle.lists.proofs.Lists.{keep-append, length-tabulate, tabulate-snoc, drop-down}
 use Rattle.cells.specs.Box.{Triple}
-use Rattle.cells.specs.Extents.{Sized, offSize, offPlace}
+use Rattle.cells.specs.Extents.{offPlace}
 use Rattle.cells.specs.Grid.{sides, cells}
 use Rattle.cells.proofs.ExtentLaws.{cells-high}
-use Rattle.extents.proofs.SizeLaws.{sized-of}
+use Rattle.extents.proofs.SizeLaws.{sized-at}
 use Rattle.refusals.specs.Refusals.{off-size, wrong-tray, number, table, first, lowest}
 use Rattle.refusals.proofs.RefusalLaws.{lowest-none}
 use Rattle.lines.specs.Lines.{lineCount, firstX}
@@ -205,18 +205,6 @@ pieces e o m t t₁ t₂ t₃ at r g a b c d = (
 
 -- ---- the refusals
 
-neither-left : (a b : Bool) → (a || b) ≡ false → a ≡ false
-neither-left true b h = h
-neither-left false b h = refl
-
-neither-right : (a b : Bool) → (a || b) ≡ false → b ≡ false
-neither-right true b h = absurd (true≢false h)
-neither-right false b h = h
-
-pub placed-sized : (e o : Triple) → offPlace e o ≡ false → Sized 64 e
-unfolding offPlace
-placed-sized e o h = sized-of 64 e (neither-left (offSize 64 e) _ h)
-
 module _ (e o : Triple) (m : List ℕ) (tray : ℕ) where
   -- the tests in the order of the code
   ladder : refusalOf e o m tray ≡ cond (offPlace e o) 1 (cond (not (eqb (length m) (cells e)) || ltb tray (length (encode e o m))) 6 (cond (blankVoxel e m) 8 0))
@@ -245,12 +233,12 @@ module _ (e o : Triple) (m : List ℕ) (tray : ℕ) where
   unfolding refusalOf declines
   ready-of z =
       let n = lowest-none (declines e o m tray) .0 z in
-      let s = placed-sized e o (n off-size) in
+      let s = sized-at e o (n off-size) in
       let w = n wrong-tray in
       let a = not (eqb (length m) (cells e)) in
       let b = ltb tray (length (encode e o m)) in
-      let k : length m ≡ cells e = eqb-true _ _ (not-false _ (neither-left a b w)) in
-      let f = ltb-false tray (length (encode e o m)) (neither-right a b w) in
+      let k : length m ≡ cells e = eqb-true _ _ (not-false _ (neither a b w .0)) in
+      let f = ltb-false tray (length (encode e o m)) (neither a b w .1) in
       record { short = omega (arith, cells-high s); fits = rw (length-encode e o m) at f }
 
 -- ---- the ways of `write_record`

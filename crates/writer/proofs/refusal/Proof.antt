@@ -5,7 +5,8 @@ use borrow.Author.Needs.{needs}
 use Rattle.cells.specs.Box.{volume}
 use Rattle.cells.specs.Grid.{sides, cells}
 use Rattle.cells.proofs.ExtentLaws.{layer-high, cells-high}
-use Rattle.writer.proofs.WriteLaws.{placed-sized, off-size-given, wrong-map-given, wrong-tray-given, stray-label-given, none-given}
+use Rattle.extents.proofs.SizeLaws.{sized-at}
+use Rattle.writer.proofs.WriteLaws.{off-size-given, wrong-map-given, wrong-tray-given, stray-label-given, none-given}
 use Rattle.writer.proofs.refusal.Statement.{statement}
 use Rattle.writer.proofs.refusal.Tie as tie
 
@@ -19,26 +20,26 @@ mul-if2 : tie.Need-mul-if2
 mul-if2 c = search needs
 
 sub-if2 : tie.Need-sub-if2
-sub-if2 c = let s = placed-sized _ _ (sym (c .before .off-place .ensures) ∙ c .if1 .left) in omega arith
+sub-if2 c = let s = sized-at _ _ (sym (c .before .off-place .ensures) ∙ c .if1 .left) in omega arith
 
 mul-if2-2 : tie.Need-mul-if2-2
 mul-if2-2 c = search needs
 
 sub-if2-2 : tie.Need-sub-if2-2
-sub-if2-2 c = let s = placed-sized _ _ (sym (c .before .off-place .ensures) ∙ c .if1 .left) in omega arith
+sub-if2-2 c = let s = sized-at _ _ (sym (c .before .off-place .ensures) ∙ c .if1 .left) in omega arith
 
 mul-if2-3 : tie.Need-mul-if2-3
-mul-if2-3 c = let s = placed-sized _ _ (sym (c .before .off-place .ensures) ∙ c .if1 .left) in omega (arith, layer-high s)
+mul-if2-3 c = let s = sized-at _ _ (sym (c .before .off-place .ensures) ∙ c .if1 .left) in omega (arith, layer-high s)
 
 mul-if2-4 : tie.Need-mul-if2-4
 mul-if2-4 c = search needs
 
 sub-if2-3 : tie.Need-sub-if2-3
-sub-if2-3 c = let s = placed-sized _ _ (sym (c .before .off-place .ensures) ∙ c .if1 .left) in omega arith
+sub-if2-3 c = let s = sized-at _ _ (sym (c .before .off-place .ensures) ∙ c .if1 .left) in omega arith
 
 mul-if2-5 : tie.Need-mul-if2-5
 unfolding cells volume sides
-mul-if2-5 c = let s = placed-sized _ _ (sym (c .before .off-place .ensures) ∙ c .if1 .left) in omega (arith, cells-high s)
+mul-if2-5 c = let s = sized-at _ _ (sym (c .before .off-place .ensures) ∙ c .if1 .left) in omega (arith, cells-high s)
 
 returns-2 : tie.Need-returns-2
 unfolding cells volume sides
@@ -46,7 +47,7 @@ returns-2 c = wrong-map-given _ _ _ _ (sym (c .before .before .off-place .ensure
 
 record-length-requires : tie.Need-record-length-requires
 unfolding cells volume sides
-record-length-requires c κs = let s = placed-sized _ _ (sym (c .before .before .off-place .ensures) ∙ c .before .if1 .left) in omega (arith, cells-high s, c .if2 .left)
+record-length-requires c κs = let s = sized-at _ _ (sym (c .before .before .off-place .ensures) ∙ c .before .if1 .left) in omega (arith, cells-high s, c .if2 .left)
 
 returns-3 : tie.Need-returns-3
 unfolding cells volume sides
@@ -54,7 +55,7 @@ returns-3 c = wrong-tray-given _ _ _ _ (sym (c .before .before .before .before .
 
 has-blank-voxel-requires : tie.Need-has-blank-voxel-requires
 unfolding cells volume sides
-has-blank-voxel-requires c κs = (placed-sized _ _ (sym (c .before .before .before .before .off-place .ensures) ∙ c .before .before .before .if1 .left), c .before .before .if2 .left)
+has-blank-voxel-requires c κs = (sized-at _ _ (sym (c .before .before .before .before .off-place .ensures) ∙ c .before .before .before .if1 .left), c .before .before .if2 .left)
 
 returns-4 : tie.Need-returns-4
 unfolding cells volume sides

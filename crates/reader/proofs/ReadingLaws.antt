@@ -1,0 +1,198 @@
+-- The ways of the reader's functions, over plain lists and numbers.
+-- Assumes nothing.
+use Prim.Native.Nat.{ℕ, zero, suc, _+_, _-_, _*_, _≤_, _<_}
+use mathlib.Core.Path.{_≡_, refl, sym, ap, _∙_}
+use mathlib.Core.Logic.{_≢_}
+use mathlib.Core.Bool.{Bool, true, false, cond, not, _||_}
+use mathlib.Core.List.{List, []}
+use native.Mathlib.Nat.{zero-mul, mul-one, sub-zero, mul-le-mul-right}
+use native.Mathlib.Omega.{arith}
+use lib.Dec.{eqb, leb}
+use lib.ListN.{length}
+use borrow.Author.Tests.{eqb-true, eq-eqb, ne-eqb, leb-true, le-leb, lt-leb, not-false}
+use Rattle.lists.proofs.Cases.{neither}
+use Rattle.lists.specs.Lists.{consecutive, keep}
+use Rattle.lists.proofs.Lists.{keep-append}
+use Rattle.refusals.specs.Refusals.{off-size, wrong-tray, bad-record, number, table, first, lowest}
+use Rattle.refusals.proofs.RefusalLaws.{lowest-none}
+use Rattle.cells.specs.Box.{Triple, triple}
+use Rattle.cells.specs.Extents.{offPlace}
+use Rattle.cells.specs.Grid.{sides, cells, order}
+use Rattle.cells.proofs.ExtentLaws.{cells-high}
+use Rattle.extents.proofs.SizeLaws.{sized-at}
+use Rattle.labels.specs.Components.{ofOrder}
+use Rattle.lines.specs.Lines.{lineCount}
+use Rattle.lines.proofs.LineLaws.{cells-lines, next-line}
+use Rattle.records.specs.Fields.{field}
+use Rattle.records.specs.Record.{extentsOf, originOf, bitAt, standing, bitmapLength, numberOf, decode, some, lengthOf, damaged}
+use Rattle.records.proofs.BitLaws.{standing-more, some-append, some-none}
+use Rattle.records.proofs.ReadLaws.{standing-mono}
+use Rattle.reader.specs.declared.Head.{Head}
+use Rattle.reader.specs.Parts.{Mapped, numberAt}
+use Rattle.reader.specs.Reading.{headed, declines, refusalOf, outcome, headOf, accepted, refused, reading}
+
+-- ---- tests
+
+-- The sides of an alternative: t is the value of the code's test, b the test of the definition.
+pub or-here : (t b d : Bool) → t ≡ b → t ≡ true → true ≡ (b || d)
+or-here t b d e h = rw (sym e ∙ h)
+
+pub or-next : (t b d : Bool) {r : Bool} → t ≡ b → t ≡ false → r ≡ d → r ≡ (b || d)
+or-next t b d e h q = rw (sym e ∙ h) q
+
+-- Nothing is left past the last number.
+pub none-left : (i n : ℕ) → n ≤ i → consecutive i (n - i) ≡ []
+unfolding consecutive
+none-left i n h = let e : n - i ≡ 0 = omega arith in rw e
+
+-- ---- voxels
+
+-- The voxels from line l on.
+abbrev pub voxelsFrom : Triple → ℕ → List ℕ
+voxelsFrom e l = keep (λ p. eqb (order e p) 3) (consecutive (l * sides e .x) (cells e - l * sides e .x))
+
+abbrev voxelsOn : Triple → ℕ → List ℕ
+voxelsOn e l = keep (λ p. eqb (order e p) 3) (consecutive (l * sides e .x) (sides e .x))
+
+module _ (f : ℕ → Bool) (e : Triple) where
+  pub lines-all : some f (ofOrder e 3) ≡ some f (voxelsFrom e 0)
+  unfolding ofOrder
+  lines-all = rw (zero-mul (sides e .x), sub-zero (cells e))
+
+  module _ (l : ℕ) where
+    pub lines-none : {b : Bool} → lineCount e ≤ l → b ≡ some f (voxelsFrom e l) → false ≡ b
+    lines-none h q =
+        let m : lineCount e * sides e .x ≤ l * sides e .x = mul-le-mul-right (sides e .x) h in
+        some-none f q (ap (keep (λ p. eqb (order e p) 3)) (none-left (l * sides e .x) (cells e) (omega (arith, cells-lines e))))
+
+    module _ (h : l < lineCount e) {b : Bool} (q : b ≡ some f (voxelsFrom e l)) where
+      parted : b ≡ (some f (voxelsOn e l) || some f (voxelsFrom e (l + 1)))
+      parted = q ∙ rw (next-line e l h, keep-append) (some-append f (voxelsOn e l) (voxelsFrom e (l + 1)))
+
+      pub lines-here : true ≡ some f (voxelsOn e l) → true ≡ b
+      lines-here t = sym (parted ∙ rw (sym t))
+
+      pub lines-next : false ≡ some f (voxelsOn e l) → b ≡ some f (voxelsFrom e (l + 1))
+      lines-next t = parted ∙ rw (sym t)
+
+-- ---- one cell
+
+-- A place or a number, times a bit.
+pub times-low : (x b : ℕ) → b < 2 → x * b ≤ x
+times-low x zero h = omega arith
+times-low x (suc zero) h = omega arith
+times-low x (suc (suc b)) h = absurd (omega arith)
+
+pub times-room : (p b n : ℕ) → b < 2 → 4 ≤ n → (b ≡ 1 → p + 4 ≤ n) → p * b + 4 ≤ n
+times-room p zero n h k r = omega arith
+times-room p (suc zero) n h k r = let s : p + 4 ≤ n = r refl in omega arith
+times-room p (suc (suc b)) n h k r = absurd (omega arith)
+
+pub number-times : (r : List ℕ) (p b x : ℕ) → b < 2 → x ≡ field r (p * b) 4 → x * b ≡ numberAt r b p
+unfolding numberAt
+number-times r p zero x h e = omega arith
+number-times r p (suc zero) x h e = mul-one x ∙ e ∙ rw (mul-one p)
+number-times r p (suc (suc b)) x h e = absurd (omega arith)
+
+-- The number of a cell, by its bit and the place of the next listed number.
+pub number-is : (n : ℕ) (r : List ℕ) (c b p : ℕ) → b ≡ bitAt r c → p ≡ 12 + bitmapLength n + 4 * standing r c → numberAt r b p ≡ numberOf n r c
+unfolding numberAt numberOf
+number-is n r c b p e f = rw (e, f)
+
+-- The number of a cell whose bit stands is there.
+pub listed-room : (n : ℕ) (r : List ℕ) (c : ℕ) → length r ≡ lengthOf n r → c < n → bitAt r c ≡ 1 → 12 + bitmapLength n + 4 * standing r c + 4 ≤ length r
+unfolding lengthOf
+listed-room n r c e h b = omega (arith, standing-more r c, standing-mono r (c + 1) n (omega arith))
+
+-- ---- damage
+
+module _ (e : Triple) (r : List ℕ) where
+  -- Where n cells have k standing bits.
+  module _ {n k : ℕ} (i : n ≡ cells e) (j : k ≡ standing r n) where
+    pub damaged-length : length r ≢ 12 + bitmapLength n + 4 * k → true ≡ damaged e r
+    unfolding damaged lengthOf
+    damaged-length d = rw (ne-eqb _ _ (rw (j, i) at d))
+
+    pub damaged-rest : length r ≡ 12 + bitmapLength n + 4 * k → damaged e r
+        ≡ (some (λ c. eqb (bitAt r c) 1) (consecutive n (8 * bitmapLength n - n)) ||
+        (some (λ c. eqb (bitAt r c) 0) (ofOrder e 3) ||
+        some (λ c. eqb (field r (12 + bitmapLength n + 4 * c) 4) 0) (consecutive 0 k)))
+    unfolding damaged lengthOf
+    damaged-rest d = rw (j, i, eq-eqb _ _ (rw (j, i) at d))
+
+  whole-of : damaged e r ≡ false → length r ≡ lengthOf (cells e) r
+  unfolding damaged
+  whole-of d = eqb-true _ _ (not-false _ (neither _ _ d .0))
+
+-- ---- refusals
+
+-- The head, field by field.
+pub head-is : (r : List ℕ) (a b c x y z : ℕ) → a ≡ field r 0 2 → b ≡ field r 2 2 → c ≡ field r 4 2 → x ≡ field r 6 2 → y ≡ field r 8 2 → z ≡ field r 10 2
+    → record { refusal = 0; nx = a; ny = b; nz = c; ox = x; oy = y; oz = z } ≡ headOf 0 (extentsOf r) (originOf r)
+unfolding extentsOf originOf
+head-is r a b c x y z i j k l m n = rw (i, j, k, l, m, n)
+
+-- A block that has its place has its size.
+module _ (r : List ℕ) (tray : ℕ) where
+  pub refusal-short : length r < 12 → 11 ≡ refusalOf r tray
+  unfolding refusalOf lowest first table number declines headed
+  refusal-short h = rw (lt-leb _ _ h)
+
+  -- The tests of a whole head, in the order of the code.
+  module _ (w : 12 ≤ length r) {h : Head} (i : h ≡ headOf 0 (extentsOf r) (originOf r)) where
+    abbrev e : Triple
+    e = triple (h .nx) (h .ny) (h .nz)
+
+    abbrev o : Triple
+    o = triple (h .ox) (h .oy) (h .oz)
+
+    ladder : refusalOf r tray ≡ cond (offPlace e o) 1 (cond (not (eqb tray (cells e))) 6 (cond (damaged e r) 11 0))
+    unfolding refusalOf lowest first table number declines headed
+    ladder = rw (i, le-leb _ _ w)
+
+    pub refusal-size : offPlace e o ≡ true → 1 ≡ refusalOf r tray
+    refusal-size t = sym (ladder ∙ rw t)
+
+    pub refusal-tray : offPlace e o ≡ false → tray ≢ cells e → 6 ≡ refusalOf r tray
+    refusal-tray t d = sym (ladder ∙ rw (t, ne-eqb _ _ d))
+
+    pub refusal-last : offPlace e o ≡ false → tray ≡ cells e → refusalOf r tray ≡ cond (damaged e r) 11 0
+    refusal-last t d = ladder ∙ rw (t, eq-eqb _ _ d)
+
+-- What holds of a record that is not refused.
+pub record Readable (r : List ℕ) (tray : ℕ) : Type 0 where
+  pub has-head : 12 ≤ length r
+  pub is : tray ≡ cells (extentsOf r)
+  pub few : tray ≤ 2048383
+  pub whole : length r ≡ lengthOf tray r
+
+pub readable : (r : List ℕ) (tray : ℕ) → refusalOf r tray ≡ 0 → Readable r tray
+unfolding refusalOf declines headed
+readable r tray z =
+    let e = extentsOf r in
+    let no = lowest-none (declines r tray) .0 z in
+    let bad = neither _ _ (no bad-record) in
+    let t : leb 12 (length r) ≡ true = not-false _ (bad .0) in
+    let on-place : offPlace e (originOf r) ≡ false = rw t at (no off-size) in
+    let n : tray ≡ cells e = eqb-true _ _ (not-false _ (rw t at (no wrong-tray))) in
+    record {
+      has-head = leb-true _ _ t;
+      is = n;
+      few = omega (arith, cells-high (sized-at e (originOf r) on-place));
+      whole = rw n (whole-of e r (bad .1));
+    }
+
+pub mapped-of : {r : List ℕ} {tray : ℕ} → Readable r tray → Mapped r tray
+unfolding lengthOf
+mapped-of R = record { few = R .few; bits = omega (arith, R .whole) }
+
+-- ---- the ways of `read_record`
+
+module _ (r t : List ℕ) (n : ℕ) (is : n ≡ refusalOf r (length t)) where
+  pub read-refused : n ≢ 0 → outcome (record { refusal = n; nx = 0; ny = 0; nz = 0; ox = 0; oy = 0; oz = 0 }) t ≡ reading r t
+  unfolding reading refused
+  read-refused d = rw (← is, ne-eqb n 0 d)
+
+  pub read-accepted : n ≡ 0 → (h : Head) (m : List ℕ) → h ≡ headOf 0 (extentsOf r) (originOf r) → m ≡ decode (length t) r → outcome h m ≡ reading r t
+  unfolding reading accepted
+  read-accepted z h m i j = rw (← is, eq-eqb n 0 z, i, j, ← readable r (length t) (sym is ∙ z) .is)

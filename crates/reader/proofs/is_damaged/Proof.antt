@@ -1,0 +1,88 @@
+-- `reader::is_damaged` meets its contract.
+use Prim.Native.Nat.{_≤_}
+use mathlib.Core.Path.{refl, _∙_, sym}
+use native.Mathlib.Omega.{arith}
+use borrow.Author.Needs.{needs}
+use Rattle.cells.proofs.ExtentLaws.{cells-high}
+use Rattle.records.specs.Record.{bitmapLength}
+use Rattle.records.proofs.BitLaws.{standing-bound}
+use Rattle.reader.specs.Parts.{Mapped}
+use Rattle.reader.proofs.ReadingLaws.{or-here, or-next, damaged-length, damaged-rest}
+use Rattle.reader.proofs.is_damaged.Statement.{statement}
+use Rattle.reader.proofs.is_damaged.Tie as tie
+
+-- what the bits ask, once the length has room for them
+mapped : (c : tie.Else1) → Mapped (c .before .before .before .args .bytes .now) (c .before .cell-count .result)
+unfolding bitmapLength
+mapped c = record { few = omega (arith, c .before .cell-count .ensures, cells-high (c .before .before .before .pre)); bits = omega arith }
+
+cell-count-requires : tie.Need-cell-count-requires
+cell-count-requires c κs = c .before .pre
+
+add-at : tie.Need-add-at
+add-at c = omega (arith, c .cell-count .ensures, cells-high (c .before .before .pre))
+
+add-at-2 : tie.Need-add-at-2
+add-at-2 c = search needs
+
+returns : tie.Need-returns
+unfolding bitmapLength
+returns c = damaged-length _ _ (c .before .cell-count .ensures) refl (λ e. omega arith)
+
+standing-bits-requires : tie.Need-standing-bits-requires
+standing-bits-requires c κs = mapped c
+
+few-stand : (c : tie.After-standing-bits) → c .standing-bits .result ≤ 2048383
+few-stand c =
+    omega (arith, c .standing-bits .ensures, standing-bound (c .before .before .before .before .args .bytes .now) (c .before .before .cell-count .result), mapped (c .before) .few)
+
+mul-if2 : tie.Need-mul-if2
+mul-if2 c = omega (arith, few-stand c)
+
+add-if2 : tie.Need-add-if2
+add-if2 c = omega (arith, few-stand c)
+
+returns-2 : tie.Need-returns-2
+unfolding bitmapLength
+returns-2 c = damaged-length _ _ (c .before .before .before .cell-count .ensures) (c .before .standing-bits .ensures) (c .if2 .taken)
+
+spare-set-requires : tie.Need-spare-set-requires
+spare-set-requires c κs = mapped (c .before .before)
+
+returns-3 : tie.Need-returns-3
+unfolding bitmapLength
+returns-3 c = or-here _ _ _ (c .before .spare-set .ensures) (c .if3 .taken) ∙ sym (damaged-rest _ _ (c .before .before .before .before .before .cell-count .ensures) (c .before .before .before .standing-bits .ensures) (c .before .before .if2 .left))
+
+voxel-clear-requires : tie.Need-voxel-clear-requires
+voxel-clear-requires c κs = (c .before .before .before .before .before .before .before .pre, rw (c .before .before .before .before .before .cell-count .ensures) at (mapped (c .before .before .before .before)))
+
+returns-4 : tie.Need-returns-4
+unfolding bitmapLength
+returns-4 c = or-next _ _ _ (c .before .before .before .spare-set .ensures) (c .before .before .if3 .left) (or-here _ _ _ (c .before .voxel-clear .ensures) (c .if4 .taken)) ∙ sym (damaged-rest _ _ (c .before .before .before .before .before .before .before .cell-count .ensures) (c .before .before .before .before .before .standing-bits .ensures) (c .before .before .before .before .if2 .left))
+
+zero-listed-requires : tie.Need-zero-listed-requires
+zero-listed-requires c κs = omega arith
+
+returns-5 : tie.Need-returns-5
+unfolding bitmapLength
+returns-5 c =
+    or-next _ _ _ (c .before .before .before .before .spare-set .ensures) (c .before .before .before .if3 .left) (or-next _ _ _ (c .before .before .voxel-clear .ensures) (c .before .if4 .left) (c .zero-listed .ensures)) ∙ sym (damaged-rest _ _ (c .before .before .before .before .before .before .before .before .cell-count .ensures) (c .before .before .before .before .before .before .standing-bits .ensures) (c .before .before .before .before .before .if2 .left))
+
+pub is-damaged-spec : {M : Type 1} → statement M
+is-damaged-spec =
+    tie.close
+    (tie.spec
+    cell-count-requires
+    add-at
+    add-at-2
+    returns
+    standing-bits-requires
+    mul-if2
+    add-if2
+    returns-2
+    spare-set-requires
+    returns-3
+    voxel-clear-requires
+    returns-4
+    zero-listed-requires
+    returns-5)

@@ -1,0 +1,76 @@
+-- `reader::refusal` meets its contract.
+use mathlib.Core.Path.{_≡_, _∙_, sym}
+use mathlib.Core.Bool.{false, cond}
+use borrow.Author.Needs.{needs}
+use Rattle.cells.specs.Box.{triple}
+use Rattle.cells.specs.Extents.{offPlace}
+use Rattle.reader.specs.Reading.{refusalOf}
+use Rattle.extents.proofs.SizeLaws.{sized-at}
+use Rattle.reader.proofs.ReadingLaws.{refusal-short, refusal-size, refusal-tray, refusal-last}
+use Rattle.reader.proofs.refusal.Statement.{statement}
+use Rattle.reader.proofs.refusal.Tie as tie
+
+returns : tie.Need-returns
+returns c = refusal-short _ _ (c .if1 .taken)
+
+head-of-requires : tie.Need-head-of-requires
+head-of-requires c κs = search needs
+
+off-place-requires : tie.Need-off-place-requires
+off-place-requires c κs = search needs
+
+returns-2 : tie.Need-returns-2
+returns-2 c = refusal-size _ _ (c .before .before .before .if1 .left) (c .before .before .head-of .ensures) (sym (c .before .off-place .ensures) ∙ c .if2 .taken)
+
+-- the block has its place, once the first test has passed
+placed : (c : tie.Else2) → let h = c .before .before .head-of .result in offPlace (triple (h .nx) (h .ny) (h .nz)) (triple (h .ox) (h .oy) (h .oz)) ≡ false
+placed c = sym (c .before .off-place .ensures) ∙ c .if2 .left
+
+cast-nx : tie.Need-cast-nx
+cast-nx c = search needs
+
+cast-ny : tie.Need-cast-ny
+cast-ny c = search needs
+
+cast-nz : tie.Need-cast-nz
+cast-nz c = search needs
+
+cell-count-requires : tie.Need-cell-count-requires
+cell-count-requires c κs = sized-at _ _ (placed (c .before .before .before))
+
+returns-3 : tie.Need-returns-3
+returns-3 c =
+    refusal-tray _ _ (c .before .before .before .before .before .before .before .before .if1 .left) (c .before .before .before .before .before .before .before .head-of .ensures) (placed (c .before .before .before .before .before)) (λ e. c .if3 .taken (e ∙ sym (c .before .cell-count .ensures)))
+
+is-damaged-requires : tie.Need-is-damaged-requires
+is-damaged-requires c κs = sized-at _ _ (placed (c .before .before .before .before .before))
+
+-- what is left of the tests
+last : (c : tie.After-is-damaged) → let a = c .before .before .before .before .before .before .before .before .before .before .before .args in refusalOf (a .bytes .now) (a .tray) ≡ cond (c .is-damaged .result) 11 0
+last c =
+    refusal-last _ _ (c .before .before .before .before .before .before .before .before .before .if1 .left) (c .before .before .before .before .before .before .before .before .head-of .ensures) (placed (c .before .before .before .before .before .before))
+    (c .before .if3 .left ∙ c .before .before .cell-count .ensures)
+    ∙ rw (c .is-damaged .ensures)
+
+returns-4 : tie.Need-returns-4
+returns-4 c = sym (last (c .before) ∙ rw (c .if4 .taken))
+
+returns-5 : tie.Need-returns-5
+returns-5 c = sym (last (c .before) ∙ rw (c .if4 .left))
+
+pub refusal-spec : {M : Type 1} → statement M
+refusal-spec =
+    tie.close
+    (tie.spec
+    returns
+    head-of-requires
+    off-place-requires
+    returns-2
+    cast-nx
+    cast-ny
+    cast-nz
+    cell-count-requires
+    returns-3
+    is-damaged-requires
+    returns-4
+    returns-5)

@@ -1,0 +1,67 @@
+-- `reader::standing_bits` meets its contract. The loop's invariant: the standing bits of the first c cells are counted.
+use Prim.Native.Nat.{_-_, _≤_}
+use mathlib.Core.Path.{_≡_, refl, _∙_}
+use native.Mathlib.Omega.{arith}
+use borrow.Author.Needs.{needs}
+use Rattle.closure.specs.Numbered.{countBelow}
+use Rattle.records.specs.Record.{standing, bitmapLength}
+use Rattle.records.proofs.BitLaws.{standing-more, standing-bound}
+use Rattle.records.proofs.ReadLaws.{bit-at-lt}
+use Rattle.reader.proofs.standing_bits.Statement.{statement}
+use Rattle.reader.proofs.standing_bits.Tie as tie
+
+abbrev Inv-loop : tie.InvT-loop
+Inv-loop bytes n count₀ c₀ count c = (c ≤ n) × (count ≡ standing bytes c)
+
+abbrev μ-loop : tie.MeasureT-loop
+μ-loop bytes n count₀ c₀ count c = n - c
+
+loop-holds : tie.Need-loop-holds Inv-loop μ-loop
+unfolding standing countBelow
+loop-holds c = (omega arith, refl)
+
+bit-at-requires : tie.Need-bit-at-requires Inv-loop μ-loop
+unfolding bitmapLength
+bit-at-requires c κs = let m = c .before .before .before .pre in omega (arith, m .few, m .bits)
+
+cast-count : tie.Need-cast-count Inv-loop μ-loop
+cast-count c = omega (arith, c .bit-at .ensures, bit-at-lt (c .before .before .before .before .args .bytes .now) (c .before .before .loop .c))
+
+add-count : tie.Need-add-count Inv-loop μ-loop
+add-count c =
+    let r = c .before .before .before .before .args .bytes .now in
+    let l = c .before .before .loop in
+    omega (arith, c .bit-at .ensures, bit-at-lt r (l .c), standing-bound r (l .c), c .before .before .before .before .pre .few)
+
+add-c : tie.Need-add-c Inv-loop μ-loop
+add-c c = search needs
+
+loop-less : tie.Need-loop-less Inv-loop μ-loop
+loop-less c = search needs
+
+loop-again : tie.Need-loop-again Inv-loop μ-loop
+loop-again c =
+    let r = c .before .before .before .before .args .bytes .now in
+    let l = c .before .before .loop in
+    (omega arith, omega (arith, c .bit-at .ensures, standing-more r (l .c)))
+
+returns : tie.Need-returns Inv-loop μ-loop
+returns c =
+    let l = c .before .loop in
+    let e : l .c ≡ c .before .before .before .args .n = omega arith in
+    l .inv .1 ∙ rw e
+
+pub standing-bits-spec : {M : Type 1} → statement M
+standing-bits-spec =
+    tie.close
+    (tie.spec
+    Inv-loop
+    μ-loop
+    loop-holds
+    bit-at-requires
+    cast-count
+    add-count
+    add-c
+    loop-less
+    loop-again
+    returns)

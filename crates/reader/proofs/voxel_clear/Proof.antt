@@ -1,0 +1,84 @@
+-- `reader::voxel_clear` meets its contract. The loop's invariant: the voxels from line l on answer for all of them.
+use Prim.Native.Nat.{_-_, _≤_}
+use mathlib.Core.Path.{_≡_, _∙_, sym}
+use native.Mathlib.Omega.{arith}
+use lib.Dec.{eqb}
+use borrow.Author.Needs.{needs}
+use Rattle.cells.specs.Box.{triple}
+use Rattle.cells.specs.Grid.{sides}
+use Rattle.labels.specs.Components.{ofOrder}
+use Rattle.lines.specs.Lines.{lineCount}
+use Rattle.lines.proofs.LineLaws.{lines-high}
+use Rattle.records.specs.Record.{bitAt, some}
+use Rattle.reader.proofs.ReadingLaws.{voxelsFrom, lines-all, lines-here, lines-next, lines-none}
+use Rattle.reader.proofs.voxel_clear.Statement.{statement}
+use Rattle.reader.proofs.voxel_clear.Tie as tie
+
+abbrev Inv-loop : tie.InvT-loop
+Inv-loop bytes nx ny nz lines l₀ l =
+    let e = triple nx ny nz in
+    (l ≤ lines) × (some (λ c. eqb (bitAt bytes c) 0) (ofOrder e 3) ≡ some (λ c. eqb (bitAt bytes c) 0) (voxelsFrom e l))
+
+abbrev μ-loop : tie.MeasureT-loop
+μ-loop bytes nx ny nz lines l₀ l = lines - l
+
+mul-lines : tie.Need-mul-lines Inv-loop μ-loop
+mul-lines c = search needs
+
+sub-lines : tie.Need-sub-lines Inv-loop μ-loop
+sub-lines c = search needs
+
+mul-lines-2 : tie.Need-mul-lines-2 Inv-loop μ-loop
+mul-lines-2 c = search needs
+
+sub-lines-2 : tie.Need-sub-lines-2 Inv-loop μ-loop
+sub-lines-2 c = search needs
+
+mul-lines-3 : tie.Need-mul-lines-3 Inv-loop μ-loop
+unfolding lineCount sides
+mul-lines-3 c = omega (arith, lines-high (c .before .pre .0))
+
+loop-holds : tie.Need-loop-holds Inv-loop μ-loop
+loop-holds c = (omega arith, lines-all _ _)
+
+line-clear-requires : tie.Need-line-clear-requires Inv-loop μ-loop
+unfolding lineCount sides
+line-clear-requires c κs = search needs
+
+returns : tie.Need-returns Inv-loop μ-loop
+unfolding lineCount sides
+returns c = lines-here _ _ _ (c .before .before .loop-test .taken) (c .before .before .before .loop .inv .1) (sym (c .if1 .taken) ∙ c .before .line-clear .ensures)
+
+add-l : tie.Need-add-l Inv-loop μ-loop
+unfolding lineCount sides
+add-l c = omega (arith, lines-high (c .before .before .before .before .before .pre .0))
+
+loop-less : tie.Need-loop-less Inv-loop μ-loop
+loop-less c = search needs
+
+loop-again : tie.Need-loop-again Inv-loop μ-loop
+unfolding lineCount sides
+loop-again c = (omega arith, lines-next _ _ _ (c .before .before .loop-test .taken) (c .before .before .before .loop .inv .1) (sym (c .if1 .left) ∙ c .before .line-clear .ensures))
+
+returns-2 : tie.Need-returns-2 Inv-loop μ-loop
+unfolding lineCount sides
+returns-2 c = lines-none _ _ _ (omega arith) (c .before .loop .inv .1)
+
+pub voxel-clear-spec : {M : Type 1} → statement M
+voxel-clear-spec =
+    tie.close
+    (tie.spec
+    Inv-loop
+    μ-loop
+    mul-lines
+    sub-lines
+    mul-lines-2
+    sub-lines-2
+    mul-lines-3
+    loop-holds
+    line-clear-requires
+    returns
+    add-l
+    loop-less
+    loop-again
+    returns-2)

@@ -1,0 +1,18 @@
+-- What the contracts of the reader's inner functions cite.
+-- Assumes nothing.
+use mathlib.Core.Bool.{cond}
+use mathlib.Core.List.{List}
+use Prim.Native.Nat.{ℕ, _+_, _≤_}
+use lib.Dec.{eqb}
+use lib.ListN.{length}
+use Rattle.records.specs.Fields.{field}
+use Rattle.records.specs.Record.{bitmapLength}
+
+-- The bit map of n cells is there, and n is at most the 127 × 127 × 127 of the largest block.
+pub record Mapped (r : List ℕ) (n : ℕ) : Type 0 where
+  pub few : n ≤ 2048383
+  pub bits : 12 + bitmapLength n ≤ length r
+
+-- The number of a cell whose bit is b: listed at a place, or 0.
+unfoldable pub numberAt : List ℕ → ℕ → ℕ → ℕ
+numberAt r b p = cond (eqb b 1) (field r p 4) 0

@@ -1,0 +1,77 @@
+-- The laws of fields, of bits and of their count, and of a test over a list.
+-- Assumes nothing.
+use mathlib.Core.Path.{_≡_, refl, sym, _∙_}
+use mathlib.Core.Bool.{Bool, true, false, _||_}
+use mathlib.Core.Logic.{_≢_}
+use mathlib.Core.List.{List, [], _∷_, _++_}
+use Prim.Native.Nat.{ℕ, suc, _+_, _*_, _≤_, _<_}
+use native.Mathlib.Numerals.{add-one}
+use native.Mathlib.Omega.{arith}
+use lib.Dec.{eqb}
+use lib.ListN.{length, getD}
+use lib.Seq.{drop-cons}
+use borrow.Author.Tests.{eqb-true, eqb-false}
+use Rattle.lists.proofs.Cases.{by-test}
+use Rattle.closure.proofs.Numbers.{count-hit, count-miss, count-bound}
+use Rattle.records.specs.Fields.{value, field}
+use Rattle.records.proofs.ReadLaws.{bit-at-lt}
+use Rattle.records.specs.Record.{bitAt, standing, some}
+
+-- ---- fields
+
+field-more : (r : List ℕ) (p n : ℕ) → p < length r → field r p (suc n) ≡ getD r p 0 + 256 * field r (suc p) n
+unfolding field value
+field-more r p n h = rw (drop-cons r p 0 h)
+
+field-none : (r : List ℕ) (p : ℕ) → field r p 0 ≡ 0
+unfolding field value
+field-none r p = refl
+
+-- The bytes of a field of two and of four bytes.
+pub field-two : (r : List ℕ) (p : ℕ) → p + 2 ≤ length r → getD r p 0 + 256 * getD r (p + 1) 0 ≡ field r p 2
+field-two r p h =
+    rw (field-more r p 1 (omega arith), field-more r (suc p) 0 (omega arith), field-none r (suc (suc p)), add-one p) (omega arith)
+
+pub field-four : (r : List ℕ) (p : ℕ) → p + 4 ≤ length r
+    → getD r p 0 + 256 * (getD r (p + 1) 0 + 256 * (getD r (p + 2) 0 + 256 * getD r (p + 3) 0)) ≡ field r p 4
+field-four r p h =
+    let a : p + 2 ≡ suc (suc p) = omega arith in
+    let b : p + 3 ≡ suc (suc (suc p)) = omega arith in
+    rw (field-more r p 3 (omega arith), field-more r (suc p) 2 (omega arith), field-more r (suc (suc p)) 1 (omega arith), field-more r (suc (suc (suc p))) 0 (omega arith), field-none r (suc (suc (suc (suc p)))), add-one p, a, b) (omega arith)
+
+-- ---- bits
+
+module _ (r : List ℕ) where
+  -- One cell more.
+  pub standing-more : (c : ℕ) → standing r (c + 1) ≡ standing r c + bitAt r c
+  unfolding standing
+  standing-more c =
+      rw add-one
+      (by-test (eqb (bitAt r c) 1) (λ t. count-hit (λ d. eqb (bitAt r d) 1) c t ∙ omega (arith, eqb-true (bitAt r c) 1 t))
+      (λ t. let d : bitAt r c ≢ 1 = eqb-false (bitAt r c) 1 t in count-miss (λ d. eqb (bitAt r d) 1) c t ∙ omega (arith, bit-at-lt r c)))
+
+  pub standing-bound : (c : ℕ) → standing r c ≤ c
+  unfolding standing
+  standing-bound c = count-bound _ c
+
+-- ---- a test over a list
+
+module _ (f : ℕ → Bool) where
+  pub some-append : (l k : List ℕ) → some f (l ++ k) ≡ (some f l || some f k)
+  unfolding some
+  some-append [] k = refl
+  some-append (x ∷ l) k = by-test (f x) (λ t. rw t) (λ t. rw t (some-append l k))
+
+  -- A loop over a list: b is what the whole list answers, and k what is left of it, which begins with x.
+  module _ {b : Bool} {k m : List ℕ} {x : ℕ} (e : b ≡ some f k) (s : k ≡ x ∷ m) where
+    pub some-here : f x ≡ true → true ≡ b
+    unfolding some
+    some-here t = sym (e ∙ rw (s, t))
+
+    pub some-next : f x ≡ false → b ≡ some f m
+    unfolding some
+    some-next t = e ∙ rw (s, t)
+
+  pub some-none : {b : Bool} {k : List ℕ} → b ≡ some f k → k ≡ [] → false ≡ b
+  unfolding some
+  some-none e s = sym (e ∙ rw s)
