@@ -1,0 +1,1 @@
+-- The definitions that the theorems cite are those of `records`, `writer` and `reader`.
