@@ -1,7 +1,29 @@
-//! Block records in plain Rust, written from document 01 and not from the proved code.
+//! Block records in plain Rust, written from document 01 and not from the proved code, with the same tests.
 
-/// The record of a map.
-pub fn write(extents: [u16; 3], origin: [u16; 3], map: &[u32], out: &mut [u8]) -> usize {
+/// Whether a test holds at every voxel cell of a block.
+fn every_voxel(extents: [u16; 3], mut test: impl FnMut(usize) -> bool) -> bool {
+    let sides = extents.map(|n| 2 * n as usize - 1);
+    for z in (0..sides[2]).step_by(2) {
+        for y in (0..sides[1]).step_by(2) {
+            let line = (z * sides[1] + y) * sides[0];
+            if !(0..sides[0]).step_by(2).all(|x| test(line + x)) {
+                return false;
+            }
+        }
+    }
+    true
+}
+
+fn cells(extents: [u16; 3]) -> usize {
+    extents.iter().map(|&n| 2 * n as usize - 1).product()
+}
+
+/// The record of a map and its length, if the map has no 0 at a voxel and the tray is long enough.
+pub fn write(extents: [u16; 3], origin: [u16; 3], map: &[u32], out: &mut [u8]) -> Option<usize> {
+    let length = 12 + map.len().div_ceil(8) + 4 * map.iter().filter(|&&v| v != 0).count();
+    if map.len() != cells(extents) || out.len() < length || !every_voxel(extents, |c| map[c] != 0) {
+        return None;
+    }
     let mut at = 0;
     for v in extents.into_iter().chain(origin) {
         out[at..at + 2].copy_from_slice(&v.to_le_bytes());
@@ -17,29 +39,30 @@ pub fn write(extents: [u16; 3], origin: [u16; 3], map: &[u32], out: &mut [u8]) -
             at += 4;
         }
     }
-    at
+    Some(at)
 }
 
-/// The map of a record, if the record is whole.
+/// The map of a record, with its extents and origin, if the record is whole.
 pub fn read(record: &[u8], map: &mut [u32]) -> Option<([u16; 3], [u16; 3])> {
-    let field = |k: usize| u16::from_le_bytes([record[2 * k], record[2 * k + 1]]);
+    let head = record.get(..12)?;
+    let field = |k: usize| u16::from_le_bytes([head[2 * k], head[2 * k + 1]]);
     let (extents, origin) = ([field(0), field(1), field(2)], [field(3), field(4), field(5)]);
-    let sides = extents.map(|n| 2 * n as usize - 1);
-    let cells: usize = sides.iter().product();
+    let cells = cells(extents);
     let bits = record.get(12..12 + cells.div_ceil(8))?;
-    let standing: usize = bits.iter().map(|b| b.count_ones() as usize).sum();
     let numbers = &record[12 + bits.len()..];
+    let standing: usize = bits.iter().map(|b| b.count_ones() as usize).sum();
     let bit = |c: usize| bits[c / 8] >> (c % 8) & 1 == 1;
-    let voxel = |c: usize| (c % sides[0]) % 2 + (c / sides[0] % sides[1]) % 2 + (c / sides[0] / sides[1]) % 2 == 0;
-    if numbers.len() != 4 * standing || (cells..8 * bits.len()).any(bit) || (0..cells).any(|c| voxel(c) && !bit(c)) {
+    if numbers.len() != 4 * standing || (cells..8 * bits.len()).any(bit) || !every_voxel(extents, bit) {
         return None;
     }
-    if numbers.chunks(4).any(|n| n == [0; 4]) {
+    if numbers.chunks_exact(4).any(|n| n == [0; 4]) || map.len() != cells {
         return None;
     }
     let mut next = numbers.chunks_exact(4);
-    for (c, cell) in map.iter_mut().enumerate() {
-        *cell = if bit(c) { u32::from_le_bytes(next.next()?.try_into().unwrap()) } else { 0 };
+    for (eight, &byte) in map.chunks_mut(8).zip(bits) {
+        for (k, cell) in eight.iter_mut().enumerate() {
+            *cell = if byte >> k & 1 == 1 { u32::from_le_bytes(next.next()?.try_into().unwrap()) } else { 0 };
+        }
     }
     Some((extents, origin))
 }

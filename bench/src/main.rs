@@ -1,4 +1,5 @@
-//! Times of the proved labeller beside plain Rust, in one run: medians of several rounds, as ratios.
+//! Times of the proved labeller, writer and reader beside plain Rust, in one run: medians of several rounds, as ratios.
+mod codec;
 mod plain;
 
 use plain::Counts;
@@ -6,10 +7,12 @@ use std::time::Instant;
 
 extern "C" {
     fn tugrelis_label(codes: *const u32, codes_len: usize, nx: u16, ny: u16, nz: u16, map: *mut u32, map_len: usize, work: *mut u32, work_len: usize, counts: *mut [u32; 3]) -> u32;
+    fn tugrelis_write_record(nx: u16, ny: u16, nz: u16, ox: u16, oy: u16, oz: u16, map: *const u32, map_len: usize, tray: *mut u8, tray_len: usize, size: *mut usize) -> u32;
+    fn tugrelis_read_record(bytes: *const u8, bytes_len: usize, map: *mut u32, map_len: usize, fields: *mut [u16; 6]) -> u32;
 }
 
 const SIDE: usize = 64;
-const ROUNDS: usize = 7;
+const ROUNDS: usize = 11;
 
 fn proved(codes: &[u32], extents: [usize; 3], map: &mut [u32], work: &mut [u32]) -> Counts {
     let mut counts = [0u32; 3];
@@ -53,32 +56,73 @@ fn median(mut times: Vec<f64>) -> f64 {
     times[times.len() / 2]
 }
 
-fn main() {
+fn timed<T>(times: &mut Vec<f64>, work: impl FnOnce() -> T) -> T {
+    let began = Instant::now();
+    let answer = work();
+    times.push(began.elapsed().as_secs_f64() * 1e3);
+    answer
+}
+
+fn labelling(name: &str, codes: &[u32], map: &mut [u32]) {
     let extents = [SIDE; 3];
-    let cells = plain::cells(extents);
+    let cells = map.len();
+    let mut work = vec![5; cells];
+    let (mut other, mut scratch) = (vec![0; cells], vec![0; cells]);
+    let mut times = [Vec::new(), Vec::new(), Vec::new()];
+    for _ in 0..ROUNDS {
+        let counts = timed(&mut times[0], || proved(codes, extents, map, &mut work));
+        let expected = timed(&mut times[1], || plain::by_union_find(codes, extents, &mut other, &mut scratch));
+        assert_eq!(counts, expected, "{name}");
+        assert!(map == other, "{name}: the maps differ");
+        assert!(work.iter().all(|&w| w == 0));
+        let expected = timed(&mut times[2], || plain::by_depth_first(codes, extents, &mut other));
+        assert_eq!(counts, expected, "{name}");
+        assert!(map == other, "{name}: the maps differ");
+    }
+    let [a, b, c] = times.map(median);
+    println!("{:<22} {:>8.1} {:>10.1} {:>8.2} {:>12.1} {:>8.2}", name, a, b, a / b, c, a / c);
+}
+
+fn records(name: &str, map: &[u32]) {
+    let (extents, origin) = ([SIDE as u16; 3], [1, 2, 3]);
+    let room = 12 + map.len().div_ceil(8) + 4 * map.len();
+    let (mut tray, mut other) = (vec![9u8; room], vec![9u8; room]);
+    let (mut back, mut again) = (vec![1u32; map.len()], vec![1u32; map.len()]);
+    let mut times = [Vec::new(), Vec::new(), Vec::new(), Vec::new()];
+    for _ in 0..ROUNDS {
+        let mut size = 0;
+        let refusal = timed(&mut times[0], || unsafe {
+            tugrelis_write_record(extents[0], extents[1], extents[2], origin[0], origin[1], origin[2], map.as_ptr(), map.len(), tray.as_mut_ptr(), tray.len(), &mut size)
+        });
+        assert_eq!(refusal, 0);
+        let length = timed(&mut times[1], || codec::write(extents, origin, map, &mut other)).unwrap();
+        assert!(size == length && tray == other, "{name}: the records differ");
+        let mut fields = [0u16; 6];
+        let refusal = timed(&mut times[2], || unsafe {
+            tugrelis_read_record(tray.as_ptr(), size, back.as_mut_ptr(), back.len(), &mut fields)
+        });
+        assert_eq!(refusal, 0);
+        let head = timed(&mut times[3], || codec::read(&other[..length], &mut again));
+        assert_eq!(head, Some((extents, origin)));
+        assert_eq!(fields, [64, 64, 64, 1, 2, 3]);
+        assert!(back == map && again == map, "{name}: the maps differ");
+    }
+    let [a, b, c, d] = times.map(median);
+    println!("{:<22} {:>8.1} {:>10.1} {:>8.2} {:>12.1} {:>10.1} {:>8.2}", name, a, b, a / b, c, d, c / d);
+}
+
+fn main() {
+    let cells = plain::cells([SIDE; 3]);
     println!("one block of 64x64x64, {} cells, medians of {} rounds, milliseconds", cells, ROUNDS);
-    println!("{:<22} {:>8} {:>10} {:>8} {:>12} {:>8}", "volume", "proved", "union-find", "ratio", "depth-first", "ratio");
+    println!("{:<22} {:>8} {:>10} {:>8} {:>12} {:>8}", "labelling", "proved", "union-find", "ratio", "depth-first", "ratio");
+    let mut maps = Vec::new();
     for (name, codes) in volumes() {
-        let (mut map, mut work) = (vec![3; cells], vec![5; cells]);
-        let (mut other, mut scratch) = (vec![0; cells], vec![0; cells]);
-        let mut times = [Vec::new(), Vec::new(), Vec::new()];
-        for _ in 0..ROUNDS {
-            let began = Instant::now();
-            let counts = proved(&codes, extents, &mut map, &mut work);
-            times[0].push(began.elapsed().as_secs_f64() * 1e3);
-            let began = Instant::now();
-            let expected = plain::by_union_find(&codes, extents, &mut other, &mut scratch);
-            times[1].push(began.elapsed().as_secs_f64() * 1e3);
-            assert_eq!(counts, expected, "{name}");
-            assert!(map == other, "{name}: the maps differ");
-            assert!(work.iter().all(|&w| w == 0));
-            let began = Instant::now();
-            let expected = plain::by_depth_first(&codes, extents, &mut other);
-            times[2].push(began.elapsed().as_secs_f64() * 1e3);
-            assert_eq!(counts, expected, "{name}");
-            assert!(map == other, "{name}: the maps differ");
-        }
-        let [a, b, c] = times.map(median);
-        println!("{:<22} {:>8.1} {:>10.1} {:>8.2} {:>12.1} {:>8.2}", name, a, b, a / b, c, a / c);
+        let mut map = vec![3; cells];
+        labelling(name, &codes, &mut map);
+        maps.push((name, map));
+    }
+    println!("{:<22} {:>8} {:>10} {:>8} {:>12} {:>10} {:>8}", "records", "write", "plain", "ratio", "read", "plain", "ratio");
+    for (name, map) in maps {
+        records(name, &map);
     }
 }

@@ -6,8 +6,10 @@ use Prim.Native.Nat.{ℕ}
 use lib.Dec.{eqb}
 use lib.ListN.{set}
 use Rattle.labeller.specs.Labelling.{Outcome}
+use Rattle.writer.specs.Writing.{Outcome as Writing·Outcome}
+use Rattle.reader.specs.Reading.{Outcome as Reading·Outcome}
 
--- The number given back, and what the trays and the three counts hold.
+-- Of a labelling: the number given back, and what the trays and the three counts hold.
 pub record Exported : Type 0 where
   pub refusal : ℕ
   pub map-tray : List ℕ
@@ -22,3 +24,32 @@ unfoldable pub export : Outcome → List ℕ → Exported
 export o c =
     exported (o .answer .refusal) (o .map-tray) (o .work-tray)
     (cond (eqb (o .answer .refusal) 0) (set (set (set c 0 (o .answer .faces)) 1 (o .answer .curves)) 2 (o .answer .points)) c)
+
+-- Of a writing: the number given back, what the tray holds, and the length.
+pub record ExportedWriting : Type 0 where
+  pub refusal : ℕ
+  pub tray : List ℕ
+  pub size : ℕ
+
+abbrev pub exportedWriting : ℕ → List ℕ → ℕ → ExportedWriting
+exportedWriting n t l = record { refusal = n; tray = t; size = l }
+
+-- The length is stored if the writing is accepted, and stays if it is refused.
+unfoldable pub exportWriting : Writing·Outcome → ℕ → ExportedWriting
+exportWriting o l = exportedWriting (o .answer .refusal) (o .tray) (cond (eqb (o .answer .refusal) 0) (o .answer .length) l)
+
+-- Of a reading: the number given back, what the map tray holds, and the six numbers of the head.
+pub record ExportedReading : Type 0 where
+  pub refusal : ℕ
+  pub tray : List ℕ
+  pub fields : List ℕ
+
+abbrev pub exportedReading : ℕ → List ℕ → List ℕ → ExportedReading
+exportedReading n t h = record { refusal = n; tray = t; fields = h }
+
+-- Extents and origin are stored at the six places if the reading is accepted, and these stay if it is refused.
+unfoldable pub exportReading : Reading·Outcome → List ℕ → ExportedReading
+exportReading o h =
+    exportedReading (o .answer .refusal) (o .tray)
+    (cond (eqb (o .answer .refusal) 0)
+    (set (set (set (set (set (set h 0 (o .answer .nx)) 1 (o .answer .ny)) 2 (o .answer .nz)) 3 (o .answer .ox)) 4 (o .answer .oy)) 5 (o .answer .oz)) h)
