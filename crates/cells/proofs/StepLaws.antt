@@ -44,10 +44,6 @@ pub step-lt : (b k : ℕ) → stepAt b k < 7
 step-lt b = all-steps (λ s. s < 7) b (omega arith) (λ _. omega arith) (λ _. omega arith) (λ _. omega arith)
 
 module _ (e : Triple) (p : ℕ) where
-  pub pattern-lt : pattern e p < 8
-  unfolding pattern
-  pattern-lt = omega (arith, odd-lt e p X, odd-lt e p Y, odd-lt e p Z)
-
   pub bit-x : pattern e p % 2 ≡ odd e p X
   unfolding pattern
   bit-x = omega (arith, odd-lt e p X, odd-lt e p Y, odd-lt e p Z)

@@ -6,13 +6,13 @@ use native.Mathlib.Decide.{le-ind}
 use native.Mathlib.Omega.{arith}
 use mathlib.Core.Bool.{Bool, true, false}
 use mathlib.Core.Logic.{_⊎_, inl, inr, ⊎-elim}
-use mathlib.Core.List.{List, [], _∷_, _++_}
+use mathlib.Core.List.{List, [], _∷_}
 use mathlib.Core.Path.{_≡_, refl, sym, ap, _∙_}
 use lib.Dec.{eqb}
 use borrow.Author.Tests.{eqb-true, eqb-false}
-use Rattle.closure.specs.Joined.{Edge, merge, join, joins, rep}
+use Rattle.closure.specs.Joined.{Edge, merge, join, joins}
 use Rattle.closure.specs.Trees.{Forest, climb, rootOf, Changed, Roots}
-use Rattle.closure.proofs.Classes.{merge-comm, merge-self, merge-miss, merge-left, merge-right, joins-append}
+use Rattle.closure.proofs.Classes.{merge-comm, merge-self, merge-miss, merge-left, merge-right}
 
 -- y is i, or is not
 pub same? : (y i : ℕ) → (y ≡ i) ⊎ ¬ (y ≡ i)
@@ -158,28 +158,10 @@ module _ (up : ℕ → ℕ) (F : Forest up) (a b : ℕ) where
 
 -- ---- `Roots`
 
-pub roots-refl : (up : ℕ → ℕ) → Forest up → Roots up (rootOf up)
-roots-refl up F = record { forest = F; roots = λ y. refl }
-
--- A forest with the roots g of another, changed again.
-pub roots-then : (vp : ℕ → ℕ) (f g : ℕ → ℕ) → ((y : ℕ) → f y ≡ g y) → Roots vp f → Roots vp g
-roots-then vp f g h r = record { forest = r .forest; roots = λ y. r .roots y ∙ h y }
-
--- Every id alone is a forest, whose roots are the ids.
-pub alone : (up : ℕ → ℕ) → ((x : ℕ) → up x ≡ x) → Roots up (λ y. y)
-alone up h =
-    let F : Forest up = record { down = λ x. rw h (le-refl x) } in
-    record { forest = F; roots = λ y. root-fixed up F y (h y) }
-
 -- `join` goes by the values of the function.
 pub join-ext : (f g : ℕ → ℕ) → ((y : ℕ) → f y ≡ g y) → (a b y : ℕ) → join f a b y ≡ join g a b y
 unfolding join
 join-ext f g h a b y = rw (h a, h b, h y)
-
--- One more edge at the end of the list is one more `join`.
-pub rep-snoc : (es : List Edge) (e : Edge) (y : ℕ) → rep (es ++ e ∷ []) y ≡ join (rep es) (e .from) (e .to) y
-unfolding rep joins
-rep-snoc es e y = joins-append es (e ∷ []) (λ z. z) y
 
 pub joins-ext : (es : List Edge) (f g : ℕ → ℕ) → ((y : ℕ) → f y ≡ g y) → (y : ℕ) → joins f es y ≡ joins g es y
 unfolding joins

@@ -9,8 +9,8 @@ use native.Mathlib.Nat.{le-refl, suc-add, add-suc, add-zero, zero-add}
 use native.Mathlib.Numerals.{add-one}
 use native.Mathlib.Omega.{arith}
 use lib.Dec.{eqb}
-use lib.ListN.{length, getD, set, drop, length-append, length-drop, drop-of-length-le, List·getD-append}
-use lib.Seq.{set-at, drop-cons, getD-append-add, getD-drop, ext-getD}
+use lib.ListN.{length, getD, set, drop, drop-of-length-le, List·getD-append}
+use lib.Seq.{set-at, drop-cons, getD-append-add, getD-drop}
 use borrow.Author.Tests.{eqb-true, eqb-false}
 use Rattle.lists.specs.Lists.{consecutive, tabulate, keep}
 use Rattle.lists.proofs.Cases.{by-test, picked}
@@ -110,11 +110,6 @@ pub tabulate-cons : (n : ℕ) (f : ℕ → ℕ) → tabulate (suc n) f ≡ f 0 �
 unfolding tabulate consecutive
 tabulate-cons n f = ap (λ l. f 0 ∷ l) (map-consecutive-suc f 0 n)
 
-pub tabulate-same : (n : ℕ) (f g : ℕ → ℕ) → ((k : ℕ) → k < n → f k ≡ g k) → tabulate n f ≡ tabulate n g
-tabulate-same n f g h =
-    ext-getD 0 (tabulate n f) (tabulate n g) (length-tabulate n f ∙ sym (length-tabulate n g))
-    (λ k l. let b : k < n = omega (arith, length-tabulate n f) in getD-tabulate n f k b ∙ h k b ∙ sym (getD-tabulate n g k b))
-
 -- ---- n values written over the front of d: nothing yet, one more, all
 
 pub front-none : (d : List ℕ) (f : ℕ → ℕ) → d ≡ tabulate 0 f ++ drop 0 d
@@ -127,9 +122,6 @@ front-more n d f h =
 
 pub front-all : (d : List ℕ) (f : ℕ → ℕ) (n : ℕ) → length d ≡ n → tabulate n f ++ drop n d ≡ tabulate n f
 front-all d f n h = rw (drop-of-length-le d {i = n} (omega arith)) (append-nil _)
-
-pub front-length : (n : ℕ) (d : List ℕ) (f : ℕ → ℕ) → n ≤ length d → length (tabulate n f ++ drop n d) ≡ length d
-front-length n d f h = simp (length-append, length-tabulate, length-drop) (omega arith)
 
 -- what stands there: the values, and then what was there before
 pub front-rest : (n : ℕ) (d : List ℕ) (f : ℕ → ℕ) (k : ℕ) → n ≤ k → getD (tabulate n f ++ drop n d) k 0 ≡ getD d k 0
