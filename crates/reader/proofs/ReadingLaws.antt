@@ -4,15 +4,16 @@ use Prim.Native.Nat.{ℕ, zero, suc, _+_, _-_, _*_, _≤_, _<_}
 use mathlib.Core.Path.{_≡_, refl, sym, ap, _∙_}
 use mathlib.Core.Logic.{_≢_}
 use mathlib.Core.Bool.{Bool, true, false, cond, not, _||_}
-use mathlib.Core.List.{List, []}
+use mathlib.Core.List.{List, [], _++_}
 use native.Mathlib.Nat.{zero-mul, mul-one, sub-zero, mul-le-mul-right}
 use native.Mathlib.Omega.{arith}
 use lib.Dec.{eqb, leb}
-use lib.ListN.{length}
+use lib.ListN.{length, drop}
+use lib.Seq.{drop-append-add, drop-drop}
 use borrow.Author.Tests.{eqb-true, eq-eqb, ne-eqb, leb-true, le-leb, lt-leb, not-false}
 use Rattle.lists.proofs.Cases.{neither}
-use Rattle.lists.specs.Lists.{consecutive, keep}
-use Rattle.lists.proofs.Lists.{keep-append}
+use Rattle.lists.specs.Lists.{consecutive, keep, tabulate}
+use Rattle.lists.proofs.Lists.{keep-append, length-tabulate}
 use Rattle.refusals.specs.Refusals.{off-size, wrong-tray, bad-record, number, table, first, lowest}
 use Rattle.refusals.proofs.RefusalLaws.{lowest-none}
 use Rattle.cells.specs.Box.{Triple, triple}
@@ -44,6 +45,21 @@ or-next t b d e h q = rw (sym e ∙ h) q
 pub none-left : (i n : ℕ) → n ≤ i → consecutive i (n - i) ≡ []
 unfolding consecutive
 none-left i n h = let e : n - i ≡ 0 = omega arith in rw e
+
+-- ---- fronts
+
+-- A front that is written over a front: what is left, and the whole, at its end and at its start.
+front-drop : (d : List ℕ) (f : ℕ → ℕ) (c k : ℕ) → c ≤ k → drop k (tabulate c f ++ drop c d) ≡ drop k d
+front-drop d f c k h =
+    let e : k ≡ length (tabulate c f) + (k - c) = omega (arith, length-tabulate c f) in
+    let g : c + (k - c) ≡ k = omega arith in
+    ap (λ j. drop j (tabulate c f ++ drop c d)) e ∙ drop-append-add (tabulate c f) (drop c d) (k - c) ∙ drop-drop (k - c) c d ∙ ap (λ j. drop j d) g
+
+pub front-on : {m l : List ℕ} (d : List ℕ) (f : ℕ → ℕ) (c k : ℕ) → m ≡ tabulate c f ++ drop c d → c ≤ k → l ≡ tabulate k f ++ drop k m → l ≡ tabulate k f ++ drop k d
+front-on d f c k e h q = q ∙ ap (λ x. tabulate k f ++ x) (ap (drop k) e ∙ front-drop d f c k h)
+
+pub front-same : {m : List ℕ} (d : List ℕ) (f : ℕ → ℕ) (c : ℕ) → m ≡ tabulate c f ++ drop c d → m ≡ tabulate c f ++ drop c m
+front-same d f c e = e ∙ ap (λ x. tabulate c f ++ x) (sym (ap (drop c) e ∙ front-drop d f c c (omega arith)))
 
 -- ---- voxels
 

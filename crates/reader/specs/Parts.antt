@@ -2,7 +2,7 @@
 -- Assumes nothing.
 use mathlib.Core.Bool.{cond}
 use mathlib.Core.List.{List}
-use Prim.Native.Nat.{ℕ, _+_, _≤_}
+use Prim.Native.Nat.{ℕ, _+_, _/_, _%_, _≤_}
 use lib.Dec.{eqb}
 use lib.ListN.{length}
 use Rattle.records.specs.Fields.{field}
@@ -12,6 +12,10 @@ use Rattle.records.specs.Record.{bitmapLength}
 pub record Mapped (r : List ℕ) (n : ℕ) : Type 0 where
   pub few : n ≤ 2048383
   pub bits : 12 + bitmapLength n ≤ length r
+
+-- How many bits of a byte stand.
+unfoldable pub ones : ℕ → ℕ
+ones b = b % 2 + b / 2 % 2 + b / 4 % 2 + b / 8 % 2 + b / 16 % 2 + b / 32 % 2 + b / 64 % 2 + b / 128 % 2
 
 -- The number of a cell whose bit is b: listed at a place, or 0.
 unfoldable pub numberAt : List ℕ → ℕ → ℕ → ℕ

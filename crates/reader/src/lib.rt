@@ -16,7 +16,7 @@ ghost use Rattle.labels.specs.Components.{ofOrder};
 ghost use Rattle.lines.specs.Lines.{lineCount};
 ghost use Rattle.records.specs.Fields.{field};
 ghost use Rattle.records.specs.Record.{extentsOf, originOf, bitAt, standing, some, bitmapLength, lengthOf, decode, damaged};
-ghost use Rattle.reader.specs.Parts.{Mapped, numberAt};
+ghost use Rattle.reader.specs.Parts.{Mapped, ones, numberAt};
 ghost use Rattle.reader.specs.Reading.{refusalOf, outcome, headOf, reading};
 
 // What a reading answers: the number of its refusal, 0 for none, and the extents and the origin of the block.
@@ -57,13 +57,33 @@ fn bit_at(bytes: &[u8], c: usize) -> u8
     (bytes[12 + c / 8] >> (c % 8)) % 2
 }
 
-// How many bits of n cells stand.
+// How many bits of a byte stand.
+fn ones(b: u8) -> usize
+    ensures { λ r. ⌜ r ≡ ones b ⌝ }
+{
+    (b % 2
+        + b / 2 % 2
+        + b / 4 % 2
+        + b / 8 % 2
+        + b / 16 % 2
+        + b / 32 % 2
+        + b / 64 % 2
+        + b / 128 % 2) as usize
+}
+
+// How many bits of n cells stand: those of the whole bytes, then the rest.
 fn standing_bits(bytes: &[u8], n: usize) -> usize
     requires { ⌜ Mapped (now bytes) n ⌝ }
     ensures { λ r. ⌜ r ≡ standing (now (bytes .entry)) n ⌝ }
 {
+    let whole = n / 8;
     let mut count: usize = 0;
-    let mut c: usize = 0;
+    let mut i: usize = 0;
+    while i < whole {
+        count += ones(bytes[12 + i]);
+        i += 1;
+    }
+    let mut c = 8 * whole;
     while c < n {
         count += bit_at(bytes, c) as usize;
         c += 1;
@@ -223,7 +243,20 @@ fn load(bytes: &[u8], map: &mut [u32])
 {
     let n = map.len();
     let mut at = 12 + (n + 7) / 8;
-    let mut c: usize = 0;
+    let whole = n / 8;
+    let mut i: usize = 0;
+    while i < whole {
+        let byte = bytes[12 + i];
+        let mut k: usize = 0;
+        while k < 8 {
+            let b = (byte >> k) % 2;
+            map[8 * i + k] = number_at(bytes, b, at);
+            at += 4 * (b as usize);
+            k += 1;
+        }
+        i += 1;
+    }
+    let mut c = 8 * whole;
     while c < n {
         let b = bit_at(bytes, c);
         map[c] = number_at(bytes, b, at);

@@ -1,10 +1,10 @@
 -- The laws of fields, of bits and of their count, and of a test over a list.
 -- Assumes nothing.
-use mathlib.Core.Path.{_≡_, refl, sym, _∙_}
+use mathlib.Core.Path.{_≡_, refl, sym, ap, _∙_}
 use mathlib.Core.Bool.{Bool, true, false, _||_}
 use mathlib.Core.Logic.{_≢_}
 use mathlib.Core.List.{List, [], _∷_, _++_}
-use Prim.Native.Nat.{ℕ, suc, _+_, _*_, _≤_, _<_}
+use Prim.Native.Nat.{ℕ, suc, _+_, _*_, _/_, _%_, _^_, _≤_, _<_}
 use native.Mathlib.Numerals.{add-one}
 use native.Mathlib.Omega.{arith}
 use lib.Dec.{eqb}
@@ -14,7 +14,7 @@ use borrow.Author.Tests.{eqb-true, eqb-false}
 use Rattle.lists.proofs.Cases.{by-test}
 use Rattle.closure.proofs.Numbers.{count-hit, count-miss, count-bound}
 use Rattle.records.specs.Fields.{value, field}
-use Rattle.records.proofs.ReadLaws.{bit-at-lt}
+use Rattle.records.proofs.ReadLaws.{bit-at-lt, bit-at-byte}
 use Rattle.records.specs.Record.{bitAt, standing, some}
 
 -- ---- fields
@@ -53,6 +53,20 @@ module _ (r : List ℕ) where
   pub standing-bound : (c : ℕ) → standing r c ≤ c
   unfolding standing
   standing-bound c = count-bound _ c
+
+  -- The eight cells of byte i, one more and all.
+  byte-more : (i k : ℕ) → k < 8 → standing r (8 * i + suc k) ≡ standing r (8 * i + k) + getD r (12 + i) 0 / 2 ^ k % 2
+  byte-more i k h =
+      let e : 8 * i + suc k ≡ 8 * i + k + 1 = omega arith in
+      ap (standing r) e ∙ standing-more (8 * i + k) ∙ ap (λ x. standing r (8 * i + k) + x) (bit-at-byte r i k h)
+
+  pub standing-byte : (i b : ℕ) → b ≡ getD r (12 + i) 0
+      → standing r (8 * (i + 1)) ≡ standing r (8 * i) + (b % 2 + b / 2 % 2 + b / 4 % 2 + b / 8 % 2 + b / 16 % 2 + b / 32 % 2 + b / 64 % 2 + b / 128 % 2)
+  standing-byte i b e =
+      let w : 8 * (i + 1) ≡ 8 * i + 8 = omega arith in
+      let z : 8 * i ≡ 8 * i + 0 = omega arith in
+      rw (e, w)
+      (omega (arith, ap (standing r) z, byte-more i 0 (omega arith), byte-more i 1 (omega arith), byte-more i 2 (omega arith), byte-more i 3 (omega arith), byte-more i 4 (omega arith), byte-more i 5 (omega arith), byte-more i 6 (omega arith), byte-more i 7 (omega arith)))
 
 -- ---- a test over a list
 
