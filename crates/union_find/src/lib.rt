@@ -82,9 +82,9 @@ pub fn unite(links: &mut [u32], a: u32, b: u32)
 pub fn clear(links: &mut [u32])
     ensures { λ _. ⌜ now (links .exit) ≡ zeros (length (now (links .entry))) ⌝ }
 {
-    let mut i: usize = 0;
-    while i < links.len() {
-        links[i] = 0;
-        i += 1;
+    let mut next: usize = 1;
+    while next <= links.len() {
+        links[next - 1] = 0;
+        next += 1;
     }
 }
