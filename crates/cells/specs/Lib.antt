@@ -1,5 +1,6 @@
 -- The definitions of the crate, in reading order.
 pub mod Box
+pub mod Codes
 pub mod Extents
 pub mod Grid
 pub mod Steps

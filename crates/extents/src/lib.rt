@@ -1,8 +1,9 @@
-// Extents against their limit, for every entry that is told some.
+// Extents against their limit and codes against 0, for every entry that is told some.
 ghost use mathlib.Core.Path.{_≡_};
 ghost use Prim.Native.Nat.{_+_};
 ghost use lib.Dec.{ltb};
 ghost use Rattle.cells.specs.Box.{triple};
+ghost use Rattle.cells.specs.Codes.{blank};
 ghost use Rattle.cells.specs.Extents.{isExtent, offSize, offPlace};
 
 fn is_extent(limit: usize, n: usize) -> bool
@@ -47,4 +48,18 @@ pub fn off_place(nx: u16, ny: u16, nz: u16, ox: u16, oy: u16, oz: u16) -> bool
         return true;
     }
     beyond(nz, oz)
+}
+
+// Whether a code is 0.
+pub fn has_blank(codes: &[u32]) -> bool
+    ensures { λ r. ⌜ r ≡ blank (now (codes .entry)) ⌝ }
+{
+    let mut i: usize = 0;
+    while i < codes.len() {
+        if codes[i] == 0 {
+            return true;
+        }
+        i += 1;
+    }
+    false
 }

@@ -20,13 +20,14 @@ use Rattle.union_find.specs.Links.{root, Rooted}
 use Rattle.union_find.proofs.LinkLaws.{zeros-alone}
 use Rattle.cells.specs.Box.{Triple, volume}
 use Rattle.cells.specs.Grid.{cells}
+use Rattle.cells.specs.Codes.{blank}
 use Rattle.cells.specs.Extents.{offSize}
 use Rattle.extents.proofs.SizeLaws.{sized-of}
 use Rattle.labels.specs.Number.{numbered, codeAt, mapDown, labels}
 use Rattle.labels.specs.Components.{largest}
 use Rattle.labels.proofs.CountLaws.{count-down}
 use Rattle.labeller.specs.declared.Labelled.{Labelled}
-use Rattle.labeller.specs.Labelling.{wrongTray, blank, declines, refusalOf, Ready, outcome, accepted, refused, labelling}
+use Rattle.labeller.specs.Labelling.{wrongTray, declines, refusalOf, Ready, outcome, accepted, refused, labelling}
 
 -- ---- the ladder of refusals
 
@@ -57,23 +58,6 @@ ready-of e codes n m h =
       map-is = eqb-true _ _ (and-left (eqb n (cells e)) (eqb m (cells e)) b);
       work-is = eqb-true _ _ (and-right (eqb n (cells e)) (eqb m (cells e)) b);
     }
-
--- ---- blank codes
-
-pub blank-start : (xs : List ℕ) → blank xs ≡ blank (drop 0 xs)
-blank-start xs = refl
-
-pub blank-here : (xs : List ℕ) (i : ℕ) → i < length xs → getD xs i 0 ≡ 0 → blank xs ≡ blank (drop i xs) → true ≡ blank xs
-unfolding blank
-blank-here xs i h z e = sym (e ∙ rw (drop-cons xs i 0 h, eq-eqb (getD xs i 0) 0 z))
-
-pub blank-more : (xs : List ℕ) (i : ℕ) → i < length xs → (getD xs i 0 ≡ 0 → ⊥) → blank xs ≡ blank (drop i xs) → blank xs ≡ blank (drop (i + 1) xs)
-unfolding blank
-blank-more xs i h n e = e ∙ rw (drop-cons xs i 0 h, ne-eqb (getD xs i 0) 0 n, add-one)
-
-pub blank-none : (xs : List ℕ) (i : ℕ) → length xs ≤ i → blank xs ≡ blank (drop i xs) → false ≡ blank xs
-unfolding blank
-blank-none xs i h e = sym (e ∙ rw (drop-of-length-le xs {i = i} h))
 
 -- ---- the ways of `label`
 

@@ -1,7 +1,7 @@
 -- What `label` answers and leaves in the trays, for every input (document 01, "Numbering one block" and "What the service declines").
 -- Assumes nothing.
 use mathlib.Core.Path.{_≡_}
-use mathlib.Core.Bool.{Bool, false, cond, not, _&&_, _||_}
+use mathlib.Core.Bool.{Bool, false, cond, not, _&&_}
 use mathlib.Core.List.{List, [], _∷_}
 use Prim.Native.Nat.{ℕ}
 use lib.Dec.{eqb}
@@ -10,6 +10,7 @@ use Rattle.lists.specs.Lists.{zeros}
 use Rattle.refusals.specs.Refusals.{Refusal, off-size, bad-cut, wrong-stage, no-such-place, done-already, wrong-tray, blank-voxel, stray-label, layers-differ, table-full, bad-record, lowest}
 use Rattle.cells.specs.Box.{Triple, volume}
 use Rattle.cells.specs.Grid.{cells}
+use Rattle.cells.specs.Codes.{blank}
 use Rattle.cells.specs.Extents.{Sized, offSize}
 use Rattle.labels.specs.Number.{labels}
 use Rattle.labels.specs.Components.{largest}
@@ -18,11 +19,6 @@ use Rattle.labeller.specs.declared.Labelled.{Labelled}
 -- "The length of a tray, map, code list or table is not the stated one": codes for the voxels, map and working tray for the cells.
 unfoldable pub wrongTray : Triple → ℕ → ℕ → ℕ → Bool
 wrongTray e codes map work = not (eqb codes (volume e) && (eqb map (cells e) && eqb work (cells e)))
-
--- "A code is 0 in the codes to be labelled."
-unfoldable pub blank : List ℕ → Bool
-blank [] = false
-blank (x ∷ xs) = eqb x 0 || blank xs
 
 -- When each refusal applies. The trays go in by their lengths.
 unfoldable pub declines : Triple → List ℕ → ℕ → ℕ → Refusal → Bool

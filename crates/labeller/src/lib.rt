@@ -1,4 +1,5 @@
 // The labeller of one block.
+use extents::has_blank;
 use extents::off_size;
 use filling::fill;
 use joining::join_cells;
@@ -15,7 +16,7 @@ ghost use Rattle.cells.specs.Extents.{Sized};
 ghost use Rattle.cells.specs.Grid.{cells};
 ghost use Rattle.labels.specs.Number.{numbered};
 ghost use Rattle.labels.specs.Components.{largest};
-ghost use Rattle.labeller.specs.Labelling.{wrongTray, blank, refusalOf, Ready, outcome, accepted, labelling};
+ghost use Rattle.labeller.specs.Labelling.{wrongTray, refusalOf, Ready, outcome, accepted, labelling};
 
 // What a labelling answers: the number of its refusal, 0 for none, and how many faces, curves and points there are.
 pub struct Labelled {
@@ -38,20 +39,6 @@ fn wrong_tray(nx: usize, ny: usize, nz: usize, codes: usize, map: usize, work: u
         return true;
     }
     work != cells
-}
-
-// Whether a code is 0.
-fn has_blank(codes: &[u32]) -> bool
-    ensures { λ r. ⌜ r ≡ blank (now (codes .entry)) ⌝ }
-{
-    let mut i: usize = 0;
-    while i < codes.len() {
-        if codes[i] == 0 {
-            return true;
-        }
-        i += 1;
-    }
-    false
 }
 
 // The number of the refusal, the lowest that applies, and 0 for none.

@@ -1,13 +1,13 @@
--- `labeller::has_blank` meets its contract.
+-- `extents::has_blank` meets its contract.
 use Prim.Native.Nat.{_-_, _≤_}
 use mathlib.Core.Path.{_≡_, refl}
 use native.Mathlib.Omega.{arith}
 use lib.ListN.{length, drop}
 use borrow.Author.Needs.{needs}
-use Rattle.labeller.specs.Labelling.{blank}
-use Rattle.labeller.proofs.LabellingLaws.{blank-here, blank-more, blank-none}
-use Rattle.labeller.proofs.has_blank.Statement.{statement}
-use Rattle.labeller.proofs.has_blank.Tie as tie
+use Rattle.cells.specs.Codes.{blank}
+use Rattle.extents.proofs.CodeLaws.{blank-here, blank-more, blank-none}
+use Rattle.extents.proofs.has_blank.Statement.{statement}
+use Rattle.extents.proofs.has_blank.Tie as tie
 
 abbrev Inv-loop : tie.InvT-loop
 Inv-loop codes i₀ i = (i ≤ length codes) × (blank codes ≡ blank (drop i codes))

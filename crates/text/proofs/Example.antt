@@ -1,0 +1,33 @@
+-- The example of document 01, computed.
+-- Assumes nothing.
+use mathlib.Core.Path.{_≡_, refl}
+use mathlib.Core.List.{List, [], _∷_, _++_}
+use Prim.Native.Nat.{ℕ}
+use Rattle.lists.specs.Lists.{consecutive, tabulate}
+use Rattle.closure.specs.Joined.{merge, join, joins, rep}
+use Rattle.closure.specs.Numbered.{countBelow, leader, numberBy, label}
+use Rattle.refusals.specs.Refusals.{number as refusal-number, table, first, lowest}
+use Rattle.cells.specs.Box.{stride, volume, index, place}
+use Rattle.cells.specs.Codes.{blank}
+use Rattle.cells.specs.Extents.{isExtent, offSize}
+use Rattle.cells.specs.Grid.{sides, cells, odd, order, along, up, voxel}
+use Rattle.cells.specs.Row.{rowOf, occupied, row, active}
+use Rattle.labels.specs.Number.{pairs, alike, edgesAt, below, edges, activeOf, number, numberedAt, numbered, codeAt, mapDown, labels}
+use Rattle.labels.specs.Components.{ofOrder, largest, component, firstCell, rowAtFirst, componentRow}
+use Rattle.text.specs.Words.{gap, digit, ended, wordsFrom, wordsOf, digits, valueFrom, spelled, isNumber}
+use Rattle.text.specs.Request.{numbers, word, readable, extentsIn, codesIn, formed, declinesText, textRefusal, askedExtents, askedCodes}
+use Rattle.text.specs.Listing.{decimalIn, decimal, spaced, letter, width, coordinates, line, linesFor, linesOf, heading, listing, refusedLine, printed}
+
+-- `2 2 1 1 1 2 3` and a line end.
+unfoldable pub example : List ℕ
+example = 50 ∷ 32 ∷ 50 ∷ 32 ∷ 49 ∷ 32 ∷ 49 ∷ 32 ∷ 49 ∷ 32 ∷ 50 ∷ 32 ∷ 51 ∷ 10 ∷ []
+
+-- The five lines given there.
+pub example-printed : printed example ≡
+    (102 ∷ 97 ∷ 99 ∷ 101 ∷ 115 ∷ 32 ∷ 51 ∷ 32 ∷ 99 ∷ 117 ∷ 114 ∷ 118 ∷ 101 ∷ 115 ∷ 32 ∷ 49 ∷ 32 ∷ 112 ∷ 111 ∷ 105 ∷ 110 ∷ 116 ∷ 115 ∷ 32 ∷ 48 ∷ 10 ∷ []) ++
+    (102 ∷ 32 ∷ 49 ∷ 32 ∷ 48 ∷ 32 ∷ 49 ∷ 32 ∷ 48 ∷ 32 ∷ 49 ∷ 32 ∷ 50 ∷ 10 ∷ []) ++
+    (102 ∷ 32 ∷ 50 ∷ 32 ∷ 50 ∷ 32 ∷ 49 ∷ 32 ∷ 48 ∷ 32 ∷ 49 ∷ 32 ∷ 51 ∷ 10 ∷ []) ++
+    (102 ∷ 32 ∷ 51 ∷ 32 ∷ 49 ∷ 32 ∷ 50 ∷ 32 ∷ 48 ∷ 32 ∷ 50 ∷ 32 ∷ 51 ∷ 10 ∷ []) ++
+    (99 ∷ 32 ∷ 49 ∷ 32 ∷ 49 ∷ 32 ∷ 49 ∷ 32 ∷ 48 ∷ 32 ∷ 49 ∷ 32 ∷ 50 ∷ 32 ∷ 51 ∷ 32 ∷ 48 ∷ 10 ∷ [])
+unfolding consecutive tabulate merge join joins rep countBelow leader numberBy label refusal-number table first lowest stride volume index place blank isExtent offSize sides cells odd order along up voxel rowOf occupied row active pairs alike edgesAt below edges activeOf number numberedAt numbered codeAt mapDown labels ofOrder largest component firstCell rowAtFirst componentRow gap digit ended wordsFrom wordsOf digits valueFrom spelled isNumber numbers word readable extentsIn codesIn formed declinesText textRefusal askedExtents askedCodes decimalIn decimal spaced letter width coordinates line linesFor linesOf heading listing refusedLine printed example
+example-printed = refl

@@ -1,0 +1,62 @@
+-- What the listing program is asked (document 01, "Volumes to try"): "three extents (each at most 8) and the codes, exactly as many as
+-- voxels", and when the text is refused.
+-- Assumes nothing.
+use mathlib.Core.Bool.{Bool, true, false, not, _&&_}
+use mathlib.Core.List.{List, [], _∷_, map}
+use Prim.Native.Nat.{ℕ, _+_}
+use lib.Dec.{eqb, leb}
+use lib.ListN.{length, getD, drop}
+use Rattle.refusals.specs.Refusals.{Refusal, off-size, bad-cut, wrong-stage, no-such-place, done-already, wrong-tray, blank-voxel, stray-label, layers-differ, table-full, bad-record, lowest}
+use Rattle.cells.specs.Box.{Triple, triple, volume}
+use Rattle.cells.specs.Codes.{blank}
+use Rattle.cells.specs.Extents.{offSize}
+use Rattle.text.specs.Words.{wordsOf, isNumber, spelled}
+
+-- Every word is a number.
+unfoldable pub numbers : List (List ℕ) → Bool
+numbers [] = true
+numbers (w ∷ ws) = isNumber w && numbers ws
+
+-- Word i, empty where there is none; an empty word is no number.
+unfoldable pub word : List (List ℕ) → ℕ → List ℕ
+word ws i = getD ws i []
+
+-- The extents can be read: the first three words are numbers.
+unfoldable pub readable : List (List ℕ) → Bool
+readable ws = isNumber (word ws 0) && (isNumber (word ws 1) && isNumber (word ws 2))
+
+-- The extents that the words tell, and the codes.
+unfoldable pub extentsIn : List (List ℕ) → Triple
+extentsIn ws = triple (spelled (word ws 0)) (spelled (word ws 1)) (spelled (word ws 2))
+
+unfoldable pub codesIn : List (List ℕ) → List ℕ
+codesIn ws = map spelled (drop 3 ws)
+
+-- The text has its form: numbers only, and "exactly as many" codes "as voxels".
+unfoldable pub formed : List (List ℕ) → Bool
+formed ws = numbers ws && (leb 3 (length ws) && eqb (length (drop 3 ws)) (volume (extentsIn ws)))
+
+-- When each refusal applies: 1 where the extents can be read and are off size, 7 "only for text of its form", 11 for any other text.
+unfoldable pub declinesText : List (List ℕ) → Refusal → Bool
+declinesText ws off-size = readable ws && offSize 8 (extentsIn ws)
+declinesText ws bad-cut = false
+declinesText ws wrong-stage = false
+declinesText ws no-such-place = false
+declinesText ws done-already = false
+declinesText ws wrong-tray = false
+declinesText ws blank-voxel = formed ws && blank (codesIn ws)
+declinesText ws stray-label = false
+declinesText ws layers-differ = false
+declinesText ws table-full = false
+declinesText ws bad-record = not (formed ws)
+
+-- The refusal of a text, 0 for none.
+unfoldable pub textRefusal : List ℕ → ℕ
+textRefusal text = lowest (declinesText (wordsOf text))
+
+-- What a text asks for: extents and codes.
+unfoldable pub askedExtents : List ℕ → Triple
+askedExtents text = extentsIn (wordsOf text)
+
+unfoldable pub askedCodes : List ℕ → List ℕ
+askedCodes text = codesIn (wordsOf text)
