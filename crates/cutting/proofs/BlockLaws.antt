@@ -40,7 +40,7 @@ module _ (k : Cutting) (good : goodCut k ≡ true) (b : ℕ) (hb : b < blocks k)
   halves-in : Inside (blockExtents k b) (each (λ a. coord (place (sides (blockExtents k b)) p) a / 2))
   halves-in a = rw (coord-each (λ a′. coord (place (sides (blockExtents k b)) p) a′ / 2) a) (omega (arith, side-on (blockExtents k b) a, inside (blockExtents k b) p hp a))
 
-  block-code : (codes : List ℕ) → getD (blockCodes k b codes) (voxel (blockExtents k b) p) 0 ≡ getD codes (voxel (k .extents) (embed k b p)) 0
+  pub block-code : (codes : List ℕ) → getD (blockCodes k b codes) (voxel (blockExtents k b) p) 0 ≡ getD codes (voxel (k .extents) (embed k b p)) 0
   unfolding blockCodes voxel
   block-code codes =
       let e : Triple = blockExtents k b in
@@ -134,13 +134,13 @@ module _ (k : Cutting) (good : goodCut k ≡ true) (codes : List ℕ) (b : ℕ) 
 
   -- cells with one number in the block have one number in the volume, and 0 in the one is 0 in the other
   module _ (j : ℕ) (lj : j < 3) (c : Carried k codes b j) where
-    zero-down : (p : ℕ) → p < cells (blockExtents k b) → order (blockExtents k b) p ≡ j → getD (whole k codes) (embed k b p) 0 ≡ 0 → getD (part k codes b) p 0 ≡ 0
+    pub zero-down : (p : ℕ) → p < cells (blockExtents k b) → order (blockExtents k b) p ≡ j → getD (whole k codes) (embed k b p) 0 ≡ 0 → getD (part k codes b) p 0 ≡ 0
     zero-down p hp o z =
         by-test (active (blockExtents k b) (part k codes b) p)
         (λ t. absurd (omega (arith, labels-numbering (k .extents) codes .positive (embed k b p) (embed-inside k good b hb p hp) (sym (c .act p hp o) ∙ t))))
         (λ t. labels-numbering (blockExtents k b) (blockCodes k b codes) .inactive p hp (omega arith) t)
 
-    zero-up : (p : ℕ) → p < cells (blockExtents k b) → order (blockExtents k b) p ≡ j → getD (part k codes b) p 0 ≡ 0 → getD (whole k codes) (embed k b p) 0 ≡ 0
+    pub zero-up : (p : ℕ) → p < cells (blockExtents k b) → order (blockExtents k b) p ≡ j → getD (part k codes b) p 0 ≡ 0 → getD (whole k codes) (embed k b p) 0 ≡ 0
     zero-up p hp o z =
         by-test (active (blockExtents k b) (part k codes b) p)
         (λ t. absurd (omega (arith, labels-numbering (blockExtents k b) (blockCodes k b codes) .positive p hp t)))
@@ -179,7 +179,7 @@ module _ (k : Cutting) (good : goodCut k ≡ true) (codes : List ℕ) (b : ℕ) 
     face-of p m = let u : Upper (blockExtents k b) t p = upper (blockExtents k b) t ht m in (u .within, u .higher ∙ ap suc ot)
 
     -- around a curve cell, face cells of one face of the volume are of one face of the block
-    face-apart : (p q : ℕ) → List·Memᴰ p (up (blockExtents k b) t) → List·Memᴰ q (up (blockExtents k b) t)
+    pub face-apart : (p q : ℕ) → List·Memᴰ p (up (blockExtents k b) t) → List·Memᴰ q (up (blockExtents k b) t)
         → getD (whole k codes) (embed k b p) 0 ≡ getD (whole k codes) (embed k b q) 0 → getD (part k codes b) p 0 ≡ getD (part k codes b) q 0
     face-apart p q mp mq s =
         let fp = face-of p mp in

@@ -6,7 +6,7 @@ use mathlib.Core.List.{List, [], _∷_, map, map-append}
 use Prim.Native.Nat.{ℕ, zero, suc, _+_, _-_, _*_, _≤_, _<_}
 use native.Mathlib.Omega.{arith}
 use lib.Dec.{eqb, leb, ltb}
-use borrow.Author.Tests.{eqb-true, leb-true, leb-false, ltb-true}
+use borrow.Author.Tests.{eqb-true, leb-true, leb-false, ltb-true, ltb-false}
 use Rattle.cells.specs.Box.{Triple, Axis, X, Y, Z, coord, each, stride, index, place}
 use Rattle.cells.specs.Extents.{Sized}
 use Rattle.cells.specs.Grid.{sides, cells, odd, order, along, up}
@@ -129,11 +129,11 @@ pub interval-is : (k : Cutting) (b : ℕ) (a : Axis) → interval k b a ≡ coor
 unfolding interval
 interval-is k b a = refl
 
-origin-on : (k : Cutting) (b : ℕ) (a : Axis) → coord (origin k b) a ≡ low (cuts k a) (interval k b a)
+pub origin-on : (k : Cutting) (b : ℕ) (a : Axis) → coord (origin k b) a ≡ low (cuts k a) (interval k b a)
 unfolding origin
 origin-on k b a = coord-each (λ a′. low (cuts k a′) (interval k b a′)) a
 
-extent-on : (k : Cutting) (b : ℕ) (a : Axis) → coord (blockExtents k b) a ≡ high (cuts k a) (interval k b a) - low (cuts k a) (interval k b a) + 1
+pub extent-on : (k : Cutting) (b : ℕ) (a : Axis) → coord (blockExtents k b) a ≡ high (cuts k a) (interval k b a) - low (cuts k a) (interval k b a) + 1
 unfolding blockExtents
 extent-on k b a = coord-each (λ a′. high (cuts k a′) (interval k b a′) - low (cuts k a′) (interval k b a′) + 1) a
 
@@ -160,7 +160,7 @@ shift-before k b c d (line e h) = line (omega arith) (omega arith)
 shift-before k b c d (cell e f h) = cell (omega arith) (omega arith) (omega arith)
 
 module _ (k : Cutting) (good : goodCut k ≡ true) (b : ℕ) (hb : b < blocks k) where
-  its-interval : (a : Axis) → Interval (coord (k .extents) a) (cuts k a) (interval k b a)
+  pub its-interval : (a : Axis) → Interval (coord (k .extents) a) (cuts k a) (interval k b a)
   unfolding blocks interval
   its-interval a =
       cut-interval (coord (k .extents) a) (cuts k a) (cut-on k good a) (interval k b a) (omega (arith, block-sides-on k a, place-inside (blockSides k) b hb a))
@@ -192,7 +192,7 @@ module _ (k : Cutting) (good : goodCut k ≡ true) (b : ℕ) (hb : b < blocks k)
       omega (arith, shift-on k b c a, origin-on k b a, i a, side-on (blockExtents k b) a, extent-on k b a, side-on (k .extents) a)
 
   -- the place of a position, in the block and in the volume
-  embed-at : (c : Triple) → Inside (sides (blockExtents k b)) c → embed k b (index (sides (blockExtents k b)) c) ≡ index (sides (k .extents)) (shift k b c)
+  pub embed-at : (c : Triple) → Inside (sides (blockExtents k b)) c → embed k b (index (sides (blockExtents k b)) c) ≡ index (sides (k .extents)) (shift k b c)
   unfolding embed shift
   embed-at c i = ap (λ (d : Triple). index (sides (k .extents)) (shift k b d)) (same-triple _ _ (place-index (sides (blockExtents k b)) c (i X) (i Y)))
 
@@ -253,6 +253,15 @@ module _ (k : Cutting) (good : goodCut k ≡ true) (b : ℕ) (hb : b < blocks k)
       let s : Triple = sides (blockExtents k b) in
       let i : Inside (sides (k .extents)) (shift k b (place s p)) = shift-inside k good b hb (place s p) (place-inside s p (omega arith)) in
       before-index (sides (k .extents)) (shift k b (place s p)) (shift k b (place s q)) (i X) (i Y) (shift-before k b (place s p) (place s q) (place-before s p q l h))
+
+  pub embed-le : (p q : ℕ) → p ≤ q → q < cells (blockExtents k b) → embed k b p ≤ embed k b q
+  embed-le p q l h =
+      by-test (ltb p q) (λ t. omega (arith, embed-less p q (ltb-true p q t) h)) (λ t. let e : p ≡ q = omega (arith, ltb-false p q t) in rw e (omega arith))
+
+  pub embed-same : (p q : ℕ) → p < cells (blockExtents k b) → q < cells (blockExtents k b) → embed k b p ≡ embed k b q → p ≡ q
+  embed-same p q hp hq e =
+      by-test (ltb p q) (λ t. absurd (omega (arith, embed-less p q (ltb-true p q t) hq)))
+      (λ t. by-test (ltb q p) (λ u. absurd (omega (arith, embed-less q p (ltb-true q p u) hp))) (λ u. omega (arith, ltb-false p q t, ltb-false q p u)))
 
 -- ---- which block holds which cell of the volume
 

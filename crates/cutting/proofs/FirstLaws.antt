@@ -17,7 +17,7 @@ use Rattle.cutting.specs.Nodes.{whole, part, Sees, Tied}
 use Rattle.lists.proofs.Cases.{by-test}
 use Rattle.labels.proofs.LabelLaws.{labels-numbering, numbered-active}
 use Rattle.labels.proofs.ComponentLaws.{Belongs, least-at, belongs-at}
-use Rattle.cutting.proofs.CutLaws.{InBlock, blocks-cover, embed-order, embed-less}
+use Rattle.cutting.proofs.CutLaws.{InBlock, blocks-cover, embed-order, embed-le}
 use Rattle.cutting.proofs.BlockLaws.{carried}
 use Rattle.cutting.proofs.NodeLaws.{node-tied, node-same, sees-in, sees-order, sees-active}
 
@@ -51,11 +51,6 @@ module _ (k : Cutting) (good : goodCut k ≡ true) (codes : List ℕ) (j : ℕ) 
       least-at (k .extents) (whole k codes) j (getD (whole k codes) (embed k b p) 0) (embed k b (firstCell (blockExtents k b) (part k codes b) j n))
       (sees-in k good codes j lo hi f) (sees-order k good codes j lo hi f) (node-same k good codes j lo hi f s)
 
-  embed-le : (b p q : ℕ) → b < blocks k → p ≤ q → q < cells (blockExtents k b) → embed k b p ≤ embed k b q
-  embed-le b p q hb l h =
-      by-test (ltb p q) (λ t. omega (arith, embed-less k good b hb p q (ltb-true p q t) h))
-      (λ t. let e : p ≡ q = omega (arith, ltb-false p q t) in rw e (omega arith))
-
   -- and it begins where one of its nodes does
   pub first-node : {b n p : ℕ} → Sees k codes j b n p → Earliest k codes j b n (getD (whole k codes) (embed k b p) 0)
   first-node {b} {n} {p} s =
@@ -63,7 +58,7 @@ module _ (k : Cutting) (good : goodCut k ≡ true) (codes : List ℕ) (j : ℕ) 
         c = d;
         o = o;
         tied = node-tied k good codes j lo hi s u .0 (sym N-is);
-        is = le-antisymm (rw (← w .held .is) (embed-le d (firstCell (blockExtents k d) (part k codes d) j o) q (w .listed) (least-at (blockExtents k d) (part k codes d) j o q (u .within) (u .level) refl) (u .within)))
+        is = le-antisymm (rw (← w .held .is) (embed-le k good d (w .listed) (firstCell (blockExtents k d) (part k codes d) j o) q (least-at (blockExtents k d) (part k codes d) j o q (u .within) (u .level) refl) (u .within)))
             (subst (λ (x : ℕ). firstCell (k .extents) (whole k codes) j x ≤ embed k d (firstCell (blockExtents k d) (part k codes d) j o)) N-is (node-first u));
       }
     where

@@ -19,7 +19,7 @@ use Rattle.cutting.specs.Nodes.{whole, part, Held, SeamPath, stay, next,
 use Rattle.lists.proofs.Cases.{by-test}
 use Rattle.cells.proofs.GridLaws.{Upper, upper}
 use Rattle.labels.proofs.LabelLaws.{labels-numbering}
-use Rattle.cutting.proofs.CutLaws.{embed-inside, embed-order, embed-less}
+use Rattle.cutting.proofs.CutLaws.{embed-inside, embed-order, embed-same}
 use Rattle.cutting.proofs.BlockLaws.{MeetIn, meet-embed, face-row, Carried, carried, same-up}
 use Rattle.cutting.proofs.JoinLaws.{Chained, end, alike, cross, number-chained}
 use Rattle.cutting.proofs.SeamLaws.{seam-path}
@@ -64,11 +64,6 @@ module _ (k : Cutting) (good : goodCut k ≡ true) (codes : List ℕ) (j : ℕ) 
   tied-same (crossed x r l) s t = node-same s (r .one) ∙ crossing-same r ∙ tied-same l (r .two) t
 
   -- one cell seen from two blocks: its nodes are tied by seams
-  embed-same : (b p q : ℕ) → b < blocks k → p < cells (blockExtents k b) → q < cells (blockExtents k b) → embed k b p ≡ embed k b q → p ≡ q
-  embed-same b p q hb hp hq e =
-      by-test (ltb p q) (λ t. absurd (omega (arith, embed-less k good b hb p q (ltb-true p q t) hq)))
-      (λ t. by-test (ltb q p) (λ u. absurd (omega (arith, embed-less k good b hb q p (ltb-true q p u) hp))) (λ u. omega (arith, ltb-false p q t, ltb-false q p u)))
-
   pub held-sees : {b n p : ℕ} → Sees k codes j b n p → (d : ℕ) → d < blocks k → (h : Held k d (embed k b p)) → Sees k codes j d (getD (part k codes d) (h .p) 0) (h .p)
   held-sees {b} {n} {p} s d hd h =
       let o : order (blockExtents k d) (h .p) ≡ j = sym (embed-order k good d hd (h .p) (h .within)) ∙ ap (order (k .extents)) (h .is) ∙ sees-order s in
@@ -82,7 +77,7 @@ module _ (k : Cutting) (good : goodCut k ≡ true) (codes : List ℕ) (j : ℕ) 
 
   along-seams : {t b d : ℕ} → SeamPath k t b d → {m o p q : ℕ} → Sees k codes j b m p → embed k b p ≡ t → Sees k codes j d o q → embed k d q ≡ t → Tied k codes j true b m d o
   along-seams {t} (stay {b = b}) {m} {o} {p} {q} s e u f =
-      let same : p ≡ q = embed-same b p q (s .listed) (s .within) (u .within) (e ∙ sym f) in
+      let same : p ≡ q = embed-same k good b (s .listed) p q (s .within) (u .within) (e ∙ sym f) in
       subst (Tied k codes j true b m b) (sym (s .has) ∙ ap (λ (x : ℕ). getD (part k codes b) x 0) same ∙ u .has) done
   along-seams {t} (next {b = b} {c = d} hd z h l) {m} {o} {p} s e u f =
       let h′ : Held k d (embed k b p) = record { p = h .p; within = h .within; is = h .is ∙ sym e } in

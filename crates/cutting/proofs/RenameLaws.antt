@@ -13,6 +13,7 @@ use mathlib.Core.Bool.{cond}
 use Rattle.cells.specs.Row.{occurrences, once, insertAscending, sort, padTo, rowOf, occupied}
 use Rattle.cells.proofs.RowLaws.{Positive, row-positive}
 use Rattle.lists.specs.Lists.{keep}
+use Rattle.lists.proofs.Tests.{keep-same}
 use Rattle.lists.proofs.Cases.{by-test, picked}
 
 -- ---- sorting depends on the entries alone, and not on their order
@@ -56,13 +57,13 @@ sort-insert g x (y ∷ l) =
     let q : max x y ≡ x = omega arith in
     rw (p, q) (insert-insert (g y) (g x) (sort (map g l))))
 
-sort-map : (g : ℕ → ℕ) (l : List ℕ) → sort (map g (sort l)) ≡ sort (map g l)
+pub sort-map : (g : ℕ → ℕ) (l : List ℕ) → sort (map g (sort l)) ≡ sort (map g l)
 sort-map g [] = refl
 sort-map g (x ∷ l) = sort-insert g x (sort l) ∙ ap (insertAscending (g x)) (sort-map g l)
 
 -- ---- six places hold a short list of numbers above 0 whole
 
-length-keep : (f : ℕ → Bool) (l : List ℕ) → length (keep f l) ≤ length l
+pub length-keep : (f : ℕ → Bool) (l : List ℕ) → length (keep f l) ≤ length l
 length-keep f [] = omega arith
 length-keep f (x ∷ l) = picked (λ (r : List ℕ). length r ≤ suc (length l)) (f x) (x ∷ keep f l) (keep f l) (λ t. omega (arith, length-keep f l)) (λ t. omega (arith, length-keep f l))
 
@@ -70,7 +71,7 @@ length-insert : (x : ℕ) (l : List ℕ) → length (insertAscending x l) ≡ su
 length-insert x [] = refl
 length-insert x (y ∷ l) = ap suc (length-insert (max x y) l)
 
-length-sort : (l : List ℕ) → length (sort l) ≡ length l
+pub length-sort : (l : List ℕ) → length (sort l) ≡ length l
 length-sort [] = refl
 length-sort (x ∷ l) = length-insert x (sort l) ∙ ap suc (length-sort l)
 
@@ -117,13 +118,7 @@ keep-map : (h : ℕ → Bool) (g : ℕ → ℕ) (l : List ℕ) → keep h (map g
 keep-map h g [] = refl
 keep-map h g (x ∷ l) = by-test (h (g x)) (λ t. rw t (ap {B = List ℕ} (λ r. g x ∷ r) (keep-map h g l))) (λ t. rw t (keep-map h g l))
 
-keep-same : (f h : ℕ → Bool) (l : List ℕ) → ((x : ℕ) → List·Memᴰ x l → f x ≡ h x) → keep f l ≡ keep h l
-keep-same f h [] s = refl
-keep-same f h (x ∷ l) s =
-    let ih : keep f l ≡ keep h l = keep-same f h l (λ y m. s y (List·Memᴰ·tail m)) in
-    rw (s x (List·Memᴰ·head refl), ih)
-
-once-list : (g : ℕ → ℕ) (xs : List ℕ) → Tells g xs → keep (once (map g xs)) (map g xs) ≡ map g (keep (once xs) xs)
+pub once-list : (g : ℕ → ℕ) (xs : List ℕ) → Tells g xs → keep (once (map g xs)) (map g xs) ≡ map g (keep (once xs) xs)
 once-list g xs r = keep-map (once (map g xs)) g xs ∙ ap (map g) (keep-same (λ x. once (map g xs) (g x)) (once xs) xs (once-renamed g xs r))
 
 -- equal rows stay equal

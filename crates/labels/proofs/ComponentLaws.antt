@@ -30,7 +30,7 @@ first-mem : (l : List ℕ) {x : ℕ} → List·Memᴰ x l → List·Memᴰ (getD
 first-mem [] m = absurd (List·Memᴰ·not-nil m)
 first-mem (y ∷ l) m = List·Memᴰ·head refl
 
-component-in : (e : Triple) (m : List ℕ) {p : ℕ} → p < cells e → List·Memᴰ p (component e m (order e p) (getD m p 0))
+pub component-in : (e : Triple) (m : List ℕ) {p : ℕ} → p < cells e → List·Memᴰ p (component e m (order e p) (getD m p 0))
 unfolding component
 component-in e m {p} h = keep-in (λ q. eqb (getD m q 0) (getD m p 0)) (ofOrder e (order e p)) (of-order-in e h) (eq-eqb (getD m p 0) (getD m p 0) refl)
 
@@ -40,7 +40,7 @@ pub record Belongs (e : Triple) (m : List ℕ) (j n p : ℕ) : Type 0 where
   pub level : order e p ≡ j
   pub has : getD m p 0 ≡ n
 
-component-out : (e : Triple) (m : List ℕ) (j n : ℕ) {p : ℕ} → List·Memᴰ p (component e m j n) → Belongs e m j n p
+pub component-out : (e : Triple) (m : List ℕ) (j n : ℕ) {p : ℕ} → List·Memᴰ p (component e m j n) → Belongs e m j n p
 unfolding component
 component-out e m j n {p} h =
     let r = keep-out (λ q. eqb (getD m q 0) n) (ofOrder e j) h in

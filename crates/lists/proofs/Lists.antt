@@ -139,6 +139,10 @@ pub map-same : (f g : ℕ → ℕ) (l : List ℕ) → ((q : ℕ) → List·Mem�
 map-same f g [] h = refl
 map-same f g (x ∷ l) h = ap₂ {C = List ℕ} (λ a r. a ∷ r) (h x (List·Memᴰ·head refl)) (map-same f g l (λ q m. h q (List·Memᴰ·tail m)))
 
+pub tabulate-same : (n : ℕ) (f g : ℕ → ℕ) → ((i : ℕ) → i < n → f i ≡ g i) → tabulate n f ≡ tabulate n g
+unfolding tabulate
+tabulate-same n f g h = map-same f g (consecutive 0 n) (λ i m. h i (omega (arith, consecutive-out 0 n m)))
+
 pub getD-in : (l : List ℕ) (k : ℕ) → k < length l → List·Memᴰ (getD l k 0) l
 getD-in [] k h = absurd (omega arith)
 getD-in (x ∷ l) zero h = List·Memᴰ·head refl

@@ -1,9 +1,10 @@
 -- Consecutive numbers, tables of a function's values, the entries that pass a test, and zeros.
 -- Assumes nothing.
-use mathlib.Core.Bool.{Bool, cond}
+use mathlib.Core.Bool.{Bool, true, false, cond, _&&_, _||_}
 use mathlib.Core.List.{List, [], _∷_, map}
-use Prim.Native.Nat.{ℕ, zero, suc}
-use lib.ListN.{replicate}
+use Prim.Native.Nat.{ℕ, zero, suc, _+_}
+use lib.Dec.{eqb}
+use lib.ListN.{replicate, set}
 
 -- n numbers from i on.
 unfoldable pub consecutive : ℕ → ℕ → List ℕ
@@ -22,3 +23,21 @@ keep f (x ∷ xs) = cond (f x) (x ∷ keep f xs) (keep f xs)
 -- n zeros.
 unfoldable pub zeros : ℕ → List ℕ
 zeros n = replicate n 0
+
+-- All entries pass a test, or some.
+abbrev pub allOf {ℓ} : {A : Type ℓ} → (A → Bool) → List A → Bool
+allOf f [] = true
+allOf f (x ∷ xs) = f x && allOf f xs
+
+abbrev pub someOf {ℓ} : {A : Type ℓ} → (A → Bool) → List A → Bool
+someOf f [] = false
+someOf f (x ∷ xs) = f x || someOf f xs
+
+-- x is an entry.
+unfoldable pub isIn : List ℕ → ℕ → Bool
+isIn xs x = someOf (λ y. eqb y x) xs
+
+-- xs with n places from `from` on written: f i at from + i.
+unfoldable pub overlay : List ℕ → ℕ → (ℕ → ℕ) → ℕ → List ℕ
+overlay xs from f zero = xs
+overlay xs from f (suc n) = set (overlay xs from f n) (from + n) (f n)

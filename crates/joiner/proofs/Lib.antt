@@ -1,0 +1,26 @@
+-- The proof of statement 3.
+pub mod Shared
+pub mod Rows
+pub mod RowBounds
+pub mod Roots
+pub mod Codes
+pub mod Classes
+pub mod SeamSteps
+pub mod Progress
+pub mod Ladder
+pub mod Sizes
+pub mod Own
+pub mod Inv
+pub mod Accepted
+pub mod Enrolling
+pub mod Later
+pub mod Seaming
+pub mod Crossings
+pub mod Ranking
+pub mod RowsFinal
+pub mod Ranks
+pub mod Points
+pub mod Final
+pub mod Readings
+pub mod Simulation
+pub mod Statement3

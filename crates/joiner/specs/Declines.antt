@@ -1,0 +1,127 @@
+-- What a step or a reading declines, from the job, its tables and what the call brings (document 01, "What the service declines").
+-- Assumes nothing.
+use mathlib.Core.Bool.{Bool, true, false, not, cond, _&&_, _||_}
+use mathlib.Core.List.{List, [], _∷_, _++_, map}
+use Prim.Native.Nat.{ℕ, _+_, _*_}
+use lib.Dec.{eqb, leb}
+use lib.ListN.{getD, length}
+use Rattle.lists.specs.Lists.{consecutive, keep, allOf}
+use Rattle.refusals.specs.Refusals.{Refusal, off-size, bad-cut, wrong-stage, no-such-place, done-already, wrong-tray, blank-voxel, stray-label, layers-differ, table-full, bad-record, lowest}
+use Rattle.cells.specs.Box.{Triple}
+use Rattle.cells.specs.Extents.{offSize}
+use Rattle.cells.specs.Grid.{up}
+use Rattle.cells.specs.Row.{rowOf, occupied}
+use Rattle.labels.specs.Components.{ofOrder, largest}
+use Rattle.cutting.specs.Cutting.{Cutting, blockExtents, goodCut}
+use Rattle.joiner.specs.Job.{Kind, Face, Curve, Point, orderOf, Crossing, sameStage, Told, Job, Tables, State, Tray, ticked, countOf, fromOf, node, fits, blockTrays, linkTrays, foundTrays, numberTrays, firstTrays, listedTrays, kindTrays}
+use Rattle.joiner.specs.Stages.{crossingStep, finished}
+use Rattle.joiner.specs.Calls.{Call, enrol, join, cross, point, look, reading, stageOf, repeated, placed, mapsFit, layersDiffer, full}
+
+-- ---- 6: the tables that a call is lent
+
+abbrev pub lentTo : Told → Tables → Call → List Tray
+lentTo o t (enrol b m) = blockTrays o t ++ linkTrays o t ++ foundTrays o t Face ++ foundTrays o t Curve
+lentTo o t (join b c m n) = blockTrays o t ++ linkTrays o t
+lentTo o t (cross b m) = blockTrays o t ++ linkTrays o t ++ kindTrays o t Face ++ kindTrays o t Curve
+lentTo o t (point b m) = blockTrays o t ++ numberTrays o t Curve ++ kindTrays o t Point
+lentTo o t (look b m c) = blockTrays o t ++ numberTrays o t Face ++ numberTrays o t Curve ++ firstTrays o t Point
+lentTo o t (reading κ n) = listedTrays o t Face ++ listedTrays o t Curve ++ listedTrays o t Point
+
+-- ---- 8: stray labels, tallies and entries
+
+-- "A tally in the job is above its table's entries", or more is numbered than enrolled or found.
+unfoldable pub tallyFits : Job → Kind → Bool
+tallyFits j κ = leb (j .sofar κ) (j .told .entries κ) && leb (j .numbered κ) (j .sofar κ)
+
+unfoldable pub talliesFit : Job → Bool
+talliesFit j = tallyFits j Face && (tallyFits j Curve && tallyFits j Point)
+
+-- "A map has 0 at a voxel."
+unfoldable pub filled : Triple → List ℕ → Bool
+filled e m = allOf (λ p. not (eqb (getD m p 0) 0)) (ofOrder e 3)
+
+-- ".. or after enrolment a number above the block's count of that order."
+unfoldable pub counted : Tables → Triple → ℕ → List ℕ → Kind → Bool
+counted t e b m κ = leb (largest e m (orderOf κ)) (countOf t κ b)
+
+-- "An entry read points outside its table": the block's faces and curves stand among the enrolled ones.
+unfoldable pub standing : State → ℕ → Kind → Bool
+standing s b κ = leb (fromOf (s .tables) κ b + countOf (s .tables) κ b) (s .job .sofar κ)
+
+unfoldable pub mapStands : State → Triple → ℕ → List ℕ → Bool
+mapStands s e b m =
+    filled e m && (counted (s .tables) e b m Face && (counted (s .tables) e b m Curve && (counted (s .tables) e b m Point && (standing s b Face && standing s b Curve))))
+
+-- .. and, at the last crossing, which numbers all: the faces in the rows of curves are enrolled ones.
+unfoldable pub rowsStand : State → Bool
+rowsStand s = allOf (λ i. leb (getD (s .tables .rows Curve) i 0) (s .job .sofar Face)) (consecutive 0 (4 * s .job .sofar Curve))
+
+unfoldable pub lastCrossing : State → ℕ → Bool
+lastCrossing s b = finished (s .job .told .cutting) (λ i. eqb (crossingStep b) i || ticked (s .tables) i) Crossing
+
+abbrev pub standsFor : State → Call → Bool
+standsFor s (enrol b m) = filled (blockExtents (s .job .told .cutting) b) m
+standsFor s (join b c m n) = mapStands s (blockExtents (s .job .told .cutting) b) b m && mapStands s (blockExtents (s .job .told .cutting) c) c n
+standsFor s (cross b m) = mapStands s (blockExtents (s .job .told .cutting) b) b m && cond (lastCrossing s b) (rowsStand s) true
+standsFor s (point b m) = mapStands s (blockExtents (s .job .told .cutting) b) b m
+standsFor s (look b m c) = mapStands s (blockExtents (s .job .told .cutting) b) b m
+standsFor s (reading κ n) = true
+
+unfoldable pub stray : State → Call → Bool
+stray s c = not (talliesFit (s .job) && standsFor s c)
+
+-- ---- 10: what a step adds to the tallies
+
+-- The final number of number n of a block: 0 stays 0.
+unfoldable pub finalOf : Tables → Kind → ℕ → ℕ → ℕ
+finalOf t κ b n = cond (eqb n 0) 0 (getD (t .numbers κ) (node t κ b n) 0)
+
+-- "Point rows are worked out over the final curves."
+unfoldable pub finalRow : Cutting → Tables → ℕ → List ℕ → ℕ → List ℕ
+finalRow k t b m p = rowOf (map (λ q. finalOf t Curve b (getD m q 0)) (up (blockExtents k b) p))
+
+-- The block's point cells that are points of the volume.
+unfoldable pub pointCells : Cutting → Tables → ℕ → List ℕ → List ℕ
+pointCells k t b m = keep (λ p. occupied (finalRow k t b m p)) (ofOrder (blockExtents k b) 0)
+
+-- "Enrolled faces, curves or found points."
+unfoldable pub adds : State → Call → Kind → ℕ
+adds s (enrol b m) Face = largest (blockExtents (s .job .told .cutting) b) m 2
+adds s (enrol b m) Curve = largest (blockExtents (s .job .told .cutting) b) m 1
+adds s (enrol b m) Point = 0
+adds s (join b c m n) κ = 0
+adds s (cross b m) κ = 0
+adds s (point b m) Face = 0
+adds s (point b m) Curve = 0
+adds s (point b m) Point = length (pointCells (s .job .told .cutting) (s .tables) b m)
+adds s (look b m c) κ = 0
+adds s (reading κ′ n) κ = 0
+
+-- ---- the table
+
+-- A row reading brings no cut list.
+abbrev pub cutFor : State → Call → Bool
+cutFor s (enrol b m) = goodCut (s .job .told .cutting)
+cutFor s (join b c m n) = goodCut (s .job .told .cutting)
+cutFor s (cross b m) = goodCut (s .job .told .cutting)
+cutFor s (point b m) = goodCut (s .job .told .cutting)
+cutFor s (look b m c) = goodCut (s .job .told .cutting)
+cutFor s (reading κ n) = true
+
+-- When each refusal applies. Numbers 7 and 11 are none of the joiner's.
+unfoldable pub declines : State → Call → Refusal → Bool
+declines s c off-size = offSize 1024 (s .job .told .cutting .extents)
+declines s c bad-cut = not (cutFor s c)
+declines s c wrong-stage = not (sameStage (s .job .stage) (stageOf c))
+declines s c no-such-place = not (placed (s .job .told .cutting) (s .job .numbered) c)
+declines s c done-already = repeated (s .job .told .cutting) (ticked (s .tables)) c
+declines s c wrong-tray = not (mapsFit (s .job .told .cutting) c && fits (lentTo (s .job .told) (s .tables) c))
+declines s c blank-voxel = false
+declines s c stray-label = stray s c
+declines s c layers-differ = layersDiffer (s .job .told .cutting) c
+declines s c table-full = full (s .job .told .entries) (s .job .sofar) (adds s c)
+declines s c bad-record = false
+
+-- The number with which a call is refused, 0 where it is accepted.
+unfoldable pub refusal : State → Call → ℕ
+refusal s c = lowest (declines s c)

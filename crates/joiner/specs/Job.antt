@@ -1,0 +1,137 @@
+-- The job and its tables (document 01, "Cutting and joining"), as the contracts of the joiner's entries see them.
+-- Assumes nothing.
+use mathlib.Core.Bool.{Bool, true, not, _&&_}
+use mathlib.Core.List.{List, [], _∷_, _++_}
+use Prim.Native.Nat.{ℕ, _+_, _-_, _*_, _/_}
+use lib.Dec.{eqb}
+use lib.ListN.{getD, length}
+use Rattle.cutting.specs.Cutting.{Cutting, blocks}
+
+-- What the tables hold: faces, curves, points.
+pub data Kind : Type 0 where
+  Face Curve Point : Kind
+
+-- The order of their cells.
+abbrev pub orderOf : Kind → ℕ
+orderOf Face = 2
+orderOf Curve = 1
+orderOf Point = 0
+
+-- The places of a row: "two codes", "four face numbers", "six curve numbers".
+abbrev pub width : Kind → ℕ
+width Face = 2
+width Curve = 4
+width Point = 6
+
+-- "A job goes through stages."
+pub data Stage : Type 0 where
+  Enrol Seam Crossing Points Closed : Stage
+
+unfoldable pub stageNumber : Stage → ℕ
+stageNumber Enrol = 0
+stageNumber Seam = 1
+stageNumber Crossing = 2
+stageNumber Points = 3
+stageNumber Closed = 4
+
+unfoldable pub sameStage : Stage → Stage → Bool
+sameStage s t = eqb (stageNumber s) (stageNumber t)
+
+-- "Opening a job states the volume's extents, the cut lists and the entries of each table."
+pub record Told : Type 0 where
+  pub cutting : Cutting
+  pub entries : Kind → ℕ
+
+-- The job: what the opening was told, the stage, and the tallies.
+pub record Job : Type 0 where
+  pub told : Told
+  pub stage : Stage
+  -- enrolled faces and curves, found points
+  pub sofar : Kind → ℕ
+  -- faces, curves and points once numbered
+  pub numbered : Kind → ℕ
+
+-- The tables, all lent. A component has a place: components of one block stand together, in the order of their numbers.
+pub record Tables : Type 0 where
+  -- six for each block: enrolled; its seam with the next block along x, y, z; crossed; its points found
+  pub ticks : List ℕ
+  -- five for each block: its largest face, curve and point number, and the places of its first face and first curve
+  pub blocks : List ℕ
+  -- for each enrolled face and curve: how far back the one stands that it is joined to, 0 where to none before it (none for points)
+  pub links : Kind → List ℕ
+  -- for each enrolled or found component: its first position · 16,384 + its block
+  pub keys : Kind → List ℕ
+  -- .. and its row: a face's codes, a curve's faces as place + 1, a point's curves by final number
+  pub rows : Kind → List ℕ
+  -- .. and, once numbered, its final number
+  pub numbers : Kind → List ℕ
+  -- the closed tables: first position and row of number n stand at n − 1
+  pub firsts : Kind → List ℕ
+  pub listed : Kind → List ℕ
+
+pub record State : Type 0 where
+  pub job : Job
+  pub tables : Tables
+
+-- Step i of the job is ticked.
+unfoldable pub ticked : Tables → ℕ → Bool
+ticked t i = not (eqb (getD (t .ticks) i 0) 0)
+
+-- The columns of the block table.
+abbrev pub column : Kind → ℕ
+column Face = 0
+column Curve = 1
+column Point = 2
+
+-- "Its largest number in each order is its count"; the place of the block's first face or curve.
+unfoldable pub countOf : Tables → Kind → ℕ → ℕ
+countOf t κ b = getD (t .blocks) (5 * b + column κ) 0
+
+unfoldable pub fromOf : Tables → Kind → ℕ → ℕ
+fromOf t κ b = getD (t .blocks) (5 * b + (3 + column κ)) 0
+
+-- The place of number n of block b.
+unfoldable pub node : Tables → Kind → ℕ → ℕ → ℕ
+node t κ b n = fromOf t κ b + (n - 1)
+
+-- A position in the volume and a block in one number: there are at most 16,384 blocks.
+unfoldable pub keyOf : ℕ → ℕ → ℕ
+keyOf position b = position * 16384 + b
+
+-- The first position of the component at place x.
+unfoldable pub firstAt : Tables → Kind → ℕ → ℕ
+firstAt t κ x = getD (t .keys κ) x 0 / 16384
+
+-- A table's length, and the stated one.
+pub record Tray : Type 0 where
+  pub has : ℕ
+  pub states : ℕ
+
+abbrev pub tray : ℕ → ℕ → Tray
+tray n m = record { has = n; states = m }
+
+unfoldable pub fits : List Tray → Bool
+fits [] = true
+fits (t ∷ ts) = eqb (t .has) (t .states) && fits ts
+
+unfoldable pub blockTrays : Told → Tables → List Tray
+blockTrays o t = tray (length (t .ticks)) (6 * blocks (o .cutting)) ∷ tray (length (t .blocks)) (5 * blocks (o .cutting)) ∷ []
+
+unfoldable pub linkTrays : Told → Tables → List Tray
+linkTrays o t = tray (length (t .links Face)) (o .entries Face) ∷ tray (length (t .links Curve)) (o .entries Curve) ∷ []
+
+unfoldable pub foundTrays : Told → Tables → Kind → List Tray
+foundTrays o t κ = tray (length (t .keys κ)) (o .entries κ) ∷ tray (length (t .rows κ)) (width κ * o .entries κ) ∷ []
+
+unfoldable pub numberTrays : Told → Tables → Kind → List Tray
+numberTrays o t κ = tray (length (t .numbers κ)) (o .entries κ) ∷ []
+
+unfoldable pub firstTrays : Told → Tables → Kind → List Tray
+firstTrays o t κ = tray (length (t .firsts κ)) (o .entries κ) ∷ []
+
+unfoldable pub listedTrays : Told → Tables → Kind → List Tray
+listedTrays o t κ = tray (length (t .listed κ)) (width κ * o .entries κ) ∷ []
+
+-- The tables of one kind.
+unfoldable pub kindTrays : Told → Tables → Kind → List Tray
+kindTrays o t κ = foundTrays o t κ ++ numberTrays o t κ ++ firstTrays o t κ ++ listedTrays o t κ

@@ -1,0 +1,58 @@
+-- A run of places of a table written one after the other, and the front of a table.
+-- Assumes nothing.
+use mathlib.Core.Path.{_≡_, refl, sym, ap, ap₂, _∙_}
+use mathlib.Core.Logic.{_≢_}
+use mathlib.Core.List.{List}
+use Prim.Native.Nat.{ℕ, zero, suc, _+_, _≤_, _<_}
+use native.Mathlib.Numerals.{add-one}
+use native.Mathlib.Omega.{arith}
+use lib.Dec.{eqb}
+use lib.ListN.{getD, length, set, take, length-set}
+use lib.Seq.{getD-set-same, getD-set-other, getD-take}
+use borrow.Author.Tests.{eqb-true, eqb-false}
+use Rattle.lists.specs.Lists.{tabulate, overlay}
+use Rattle.lists.proofs.Cases.{by-test}
+use Rattle.lists.proofs.Lists.{getD-tabulate}
+
+module _ (xs : List ℕ) (from : ℕ) (f : ℕ → ℕ) where
+  pub length-overlay : (n : ℕ) → length (overlay xs from f n) ≡ length xs
+  unfolding overlay
+  length-overlay zero = refl
+  length-overlay (suc n) = length-set (overlay xs from f n) (from + n) (f n) ∙ length-overlay n
+
+  -- a place that is written
+  pub overlay-at : (n i : ℕ) → i < n → from + n ≤ length xs → getD (overlay xs from f n) (from + i) 0 ≡ f i
+  unfolding overlay
+  overlay-at zero i h l = absurd (omega arith)
+  overlay-at (suc n) i h l =
+      by-test (eqb i n)
+      (λ t.
+      let e : i ≡ n = eqb-true i n t in
+      ap (λ (j : ℕ). getD (set (overlay xs from f n) (from + n) (f n)) (from + j) 0) e
+      ∙ getD-set-same (overlay xs from f n) (from + n) (f n) 0 (omega (arith, length-overlay n))
+      ∙ ap f (sym e))
+      (λ t.
+      let d : i ≢ n = eqb-false i n t in
+      getD-set-other (overlay xs from f n) (from + n) (from + i) (f n) 0 (λ q. d (omega arith)) ∙ overlay-at n i (omega arith) (omega arith))
+
+  -- one that is not
+  pub overlay-before : (n j : ℕ) → j < from → getD (overlay xs from f n) j 0 ≡ getD xs j 0
+  unfolding overlay
+  overlay-before zero j h = refl
+  overlay-before (suc n) j h = getD-set-other (overlay xs from f n) (from + n) j (f n) 0 (λ q. absurd (omega arith)) ∙ overlay-before n j h
+
+  pub overlay-behind : (n j : ℕ) → from + n ≤ j → getD (overlay xs from f n) j 0 ≡ getD xs j 0
+  unfolding overlay
+  overlay-behind zero j h = refl
+  overlay-behind (suc n) j h = getD-set-other (overlay xs from f n) (from + n) j (f n) 0 (λ q. absurd (omega arith)) ∙ overlay-behind n j (omega arith)
+
+-- an entry of a front that is tabled
+pub front-at : (xs : List ℕ) (n : ℕ) (f : ℕ → ℕ) → take n xs ≡ tabulate n f → (i : ℕ) → i < n → getD xs i 0 ≡ f i
+front-at xs n f e i h = sym (getD-take n xs i 0 h) ∙ ap (λ (l : List ℕ). getD l i 0) e ∙ getD-tabulate n f i h
+
+-- writing the same is the same
+pub overlay-same : (xs : List ℕ) (from : ℕ) (f g : ℕ → ℕ) (n : ℕ) → ((i : ℕ) → i < n → f i ≡ g i) → overlay xs from f n ≡ overlay xs from g n
+unfolding overlay
+overlay-same xs from f g zero h = refl
+overlay-same xs from f g (suc n) h =
+    ap₂ (λ (l : List ℕ) (v : ℕ). set l (from + n) v) (overlay-same xs from f g n (λ i l. h i (omega arith))) (h n (omega arith))

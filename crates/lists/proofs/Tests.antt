@@ -1,0 +1,78 @@
+-- Tests over all or some entries of a list.
+-- Assumes nothing.
+use mathlib.Core.Path.{_≡_, refl, sym, ap, _∙_}
+use mathlib.Core.Bool.{Bool, true, false, not, _&&_, _||_, true≢false}
+use mathlib.Core.Logic.{_⊎_, inl, inr}
+use mathlib.Core.List.{List, [], _∷_, List·Memᴰ, List·Memᴰ·head, List·Memᴰ·tail, List·Memᴰ·not-nil, List·Memᴰ·cases-cons}
+use Prim.Native.Nat.{ℕ}
+use lib.Dec.{eqb}
+use lib.ListN.{getD}
+use borrow.Author.Tests.{eqb-true, eq-eqb}
+use Rattle.lists.specs.Lists.{keep, allOf, someOf, isIn}
+use Rattle.lists.proofs.Cases.{by-test, and-left, and-right, and-both, neither}
+
+module _ {A : Type 0} where
+  pub all-in : (f : A → Bool) (l : List A) → ((x : A) → List·Memᴰ x l → f x ≡ true) → allOf f l ≡ true
+  all-in f [] h = refl
+  all-in f (x ∷ l) h = and-both (f x) (allOf f l) (h x (List·Memᴰ·head refl)) (all-in f l (λ y m. h y (List·Memᴰ·tail m)))
+
+  pub all-out : (f : A → Bool) (l : List A) {x : A} → allOf f l ≡ true → List·Memᴰ x l → f x ≡ true
+  all-out f [] e m = absurd (List·Memᴰ·not-nil m)
+  all-out f (y ∷ l) {x} e m = go (List·Memᴰ·cases-cons m) (λ k. all-out f l (and-right (f y) (allOf f l) e) k)
+    where
+      go : (x ≡ y) ⊎ List·Memᴰ x l → (List·Memᴰ x l → f x ≡ true) → f x ≡ true
+      go (inl q) ih = ap f q ∙ and-left (f y) (allOf f l) e
+      go (inr k) ih = ih k
+
+  pub all-same : (f g : A → Bool) (l : List A) → ((x : A) → f x ≡ g x) → allOf f l ≡ allOf g l
+  all-same f g [] h = refl
+  all-same f g (x ∷ l) h = rw (h x, all-same f g l h) refl
+
+  pub some-none : (f : A → Bool) (l : List A) {d : A} → someOf f l ≡ false → List·Memᴰ d l → f d ≡ false
+  some-none f [] e m = absurd (List·Memᴰ·not-nil m)
+  some-none f (x ∷ l) {d} e m = go (List·Memᴰ·cases-cons m) (λ k. some-none f l (neither (f x) (someOf f l) e .1) k)
+    where
+      go : (d ≡ x) ⊎ List·Memᴰ d l → (List·Memᴰ d l → f d ≡ false) → f d ≡ false
+      go (inl q) ih = ap f q ∙ neither (f x) (someOf f l) e .0
+      go (inr k) ih = ih k
+
+  pub keep-all : (f : A → Bool) (l : List A) → ((y : A) → List·Memᴰ y l → f y ≡ true) → keep f l ≡ l
+  keep-all f [] h = refl
+  keep-all f (x ∷ l) h = rw (h x (List·Memᴰ·head refl)) (ap {B = List A} (λ r. x ∷ r) (keep-all f l (λ y m. h y (List·Memᴰ·tail m))))
+
+  pub keep-same : (f g : A → Bool) (l : List A) → ((x : A) → List·Memᴰ x l → f x ≡ g x) → keep f l ≡ keep g l
+  keep-same f g [] s = refl
+  keep-same f g (x ∷ l) s =
+      let ih : keep f l ≡ keep g l = keep-same f g l (λ y m. s y (List·Memᴰ·tail m)) in
+      rw (s x (List·Memᴰ·head refl), ih)
+
+-- ---- the entries of a list
+
+pub is-in : (l : List ℕ) {x : ℕ} → List·Memᴰ x l → isIn l x ≡ true
+unfolding isIn
+is-in [] m = absurd (List·Memᴰ·not-nil m)
+is-in (y ∷ l) {x} m = go (List·Memᴰ·cases-cons m) (λ k. is-in l k)
+  where
+    go : (x ≡ y) ⊎ List·Memᴰ x l → (List·Memᴰ x l → someOf (λ z. eqb z x) l ≡ true) → (eqb y x || someOf (λ z. eqb z x) l) ≡ true
+    go (inl e) ih = rw (eq-eqb y x (sym e)) refl
+    go (inr k) ih = by-test (eqb y x) (λ t. rw t refl) (λ t. rw t (ih k))
+
+pub in-is : (l : List ℕ) {x : ℕ} → isIn l x ≡ true → List·Memᴰ x l
+unfolding isIn
+in-is [] e = absurd (true≢false (sym e))
+in-is (y ∷ l) {x} e = by-test (eqb y x) (λ t. List·Memᴰ·head (sym (eqb-true y x t))) (λ t. List·Memᴰ·tail (in-is l (rw t at e)))
+
+-- the first entry of a list that has one
+pub first-in : (l : List ℕ) {x : ℕ} → List·Memᴰ x l → List·Memᴰ (getD l 0 0) l
+first-in [] m = absurd (List·Memᴰ·not-nil m)
+first-in (y ∷ l) m = List·Memᴰ·head refl
+
+-- ---- implications
+
+pub implied : (s u : Bool) → (not s || u) ≡ true → s ≡ true → u ≡ true
+implied true u e f = e
+implied false u e f = absurd (true≢false (sym f))
+
+pub implies : (s u : Bool) → (s ≡ true → u ≡ true) → (not s || u) ≡ true
+implies true u h = h refl
+implies false u h = refl
