@@ -1,0 +1,2 @@
+-- What the entries that the program calls give together.
+pub mod ProgramLaws

@@ -1,0 +1,331 @@
+-- The scanner answers what the words of the text say: for a tray of 512 places the refusal of the text, its extents and its codes.
+-- Assumes nothing.
+use mathlib.Core.Path.{_≡_, refl, sym, ap, ap₂, _∙_}
+use mathlib.Core.Bool.{Bool, true, false, cond, not, _&&_, and-false, and-true, and-self, true≢false}
+use mathlib.Core.List.{List, [], _∷_, map}
+use Prim.Native.Nat.{ℕ, suc, _+_, _-_, _≤_, _<_}
+use native.Mathlib.Nat.{add-zero}
+use native.Mathlib.Omega.{arith}
+use lib.Dec.{eqb, leb, ltb, eqb·zero-suc, eqb·suc-suc}
+use lib.ListN.{length, take, drop, set, length-map, length-drop}
+use lib.Seq.{sets, sets-eq, length-sets, take-nil, take-all, take-at}
+use borrow.Author.Tests.{le-leb, lt-leb, lt-ltb, le-ltb, eq-eqb, ne-eqb, eqb-true, eqb-false, ltb-true, ltb-false, not-false}
+use Rattle.lists.proofs.Cases.{by-test, not-not, and-left, and-right, and-both}
+use Rattle.refusals.specs.Refusals.{off-size, bad-record, number, table, first, lowest}
+use Rattle.refusals.proofs.RefusalLaws.{lowest-none}
+use Rattle.cells.specs.Box.{Triple, triple, volume}
+use Rattle.cells.specs.Codes.{blank}
+use Rattle.cells.specs.Extents.{offSize}
+use Rattle.cells.proofs.ExtentLaws.{volume-high}
+use Rattle.extents.proofs.SizeLaws.{sized-of}
+use Rattle.text.specs.Words.{wordsOf, digits, isNumber, spelled}
+use Rattle.text.specs.Request.{numbers, word, readable, extentsIn, codesIn, formed, declinesText, textRefusal, askedExtents, askedCodes}
+use Rattle.parser.specs.declared.Scanned.{Scanned}
+use Rattle.parser.specs.declared.Read.{Read}
+use Rattle.parser.specs.Scanning.{State, state, scanned, begun, extent, lost, stored, after}
+use Rattle.parser.specs.Reading.{Outcome, outcome, answerOf, declines, leading, written, reading, extentsSeen, offExtents, whole, refusalOf, answered, finished}
+use Rattle.parser.proofs.WordLaws.{wordEnds, afterWords, walked}
+use Rattle.parser.proofs.AnswerLaws.{ladder}
+
+-- ---- words that lead
+
+leading-few : (ws : List (List ℕ)) → length (leading ws) ≤ length ws
+unfolding leading
+leading-few [] = omega arith
+leading-few (w ∷ ws) = by-test (isNumber w) (λ t. rw t (omega (arith, leading-few ws))) (λ t. rw t (omega arith))
+
+leading-all : (ws : List (List ℕ)) → eqb (length (leading ws)) (length ws) ≡ numbers ws
+unfolding leading numbers
+leading-all [] = refl
+leading-all (w ∷ ws) = by-test (isNumber w) (λ t. rw t (eqb·suc-suc (length (leading ws)) (length ws) ∙ leading-all ws)) (λ t. rw t (eqb·zero-suc (length ws)))
+
+leading-same : (ws : List (List ℕ)) → numbers ws ≡ true → leading ws ≡ ws
+unfolding leading numbers
+leading-same [] n = refl
+leading-same (w ∷ ws) n = rw (and-left (isNumber w) (numbers ws) n) (ap (λ l. w ∷ l) (leading-same ws (and-right (isNumber w) (numbers ws) n)))
+
+-- ---- words that end
+
+-- After a word that does not count, none counts.
+lost-stays : (s : Scanned) (d : List ℕ) (ws : List (List ℕ)) → afterWords (state (lost s) d) ws ≡ state (lost s) d
+unfolding afterWords wordEnds
+lost-stays s d [] = refl
+lost-stays s d (w ∷ ws) = lost-stays s d ws
+
+module _ (k x y z : ℕ) (d w : List ℕ) (ws : List (List ℕ)) where
+  abbrev s : Scanned
+  s = scanned k false 0 0 x y z
+
+  lost-here : (isNumber w && ltb k 515) ≡ false → afterWords (state s d) (w ∷ ws) ≡ state (lost s) d
+  unfolding afterWords wordEnds
+  lost-here t = rw t (lost-stays s d ws)
+
+  code-here : 3 ≤ k → k < 515 → isNumber w ≡ true
+      → afterWords (state s d) (w ∷ ws) ≡ afterWords (state (scanned (k + 1) false 0 0 x y z) (set d (k - 3) (spelled w))) ws
+  unfolding afterWords wordEnds extent stored
+  code-here g h n =
+      rw (n, lt-ltb k 515 h, ne-eqb k 0 (λ e. omega arith), ne-eqb k 1 (λ e. omega arith), ne-eqb k 2 (λ e. omega arith), le-ltb k 3 g)
+
+-- The words that count, where k have counted.
+abbrev kept : ℕ → List (List ℕ) → List (List ℕ)
+kept k ws = take (515 - k) (leading ws)
+
+abbrev ending : ℕ → ℕ → ℕ → ℕ → List ℕ → List (List ℕ) → State
+ending k x y z d ws =
+    state (scanned (k + length (kept k ws)) (not (eqb (length (kept k ws)) (length ws))) 0 0 x y z) (sets d (k - 3) (map spelled (kept k ws)))
+
+kept-none : (k : ℕ) (w : List ℕ) (ws : List (List ℕ)) → (isNumber w && ltb k 515) ≡ false → kept k (w ∷ ws) ≡ []
+unfolding leading
+kept-none k w ws t =
+    by-test (isNumber w)
+    (λ n. let h : 515 ≤ k = ltb-false k 515 (rw n at t) in
+    let e : 515 - k ≡ 0 = omega arith in rw e)
+    (λ n. rw n (take-nil (515 - k)))
+
+kept-more : (k : ℕ) (w : List ℕ) (ws : List (List ℕ)) → isNumber w ≡ true → k < 515 → kept k (w ∷ ws) ≡ w ∷ kept (k + 1) ws
+unfolding leading
+kept-more k w ws n h = let e : 515 - k ≡ suc (515 - (k + 1)) = omega arith in rw (n, e)
+
+-- All words after the extents.
+codes-end : (k x y z : ℕ) (d : List ℕ) (ws : List (List ℕ)) → 3 ≤ k → afterWords (state (scanned k false 0 0 x y z) d) ws ≡ ending k x y z d ws
+unfolding afterWords leading
+codes-end k x y z d [] g = rw (take-nil {A = List ℕ} (515 - k), add-zero k)
+codes-end k x y z d (w ∷ ws) g =
+    by-test (isNumber w && ltb k 515)
+    (λ t. let n = and-left (isNumber w) (ltb k 515) t in
+    let h = ltb-true k 515 (and-right (isNumber w) (ltb k 515) t) in
+    code-here k x y z d w ws g h n ∙ codes-end (k + 1) x y z (set d (k - 3) (spelled w)) ws (omega arith) ∙ more n h)
+    (λ t. lost-here k x y z d w ws t ∙ rw (kept-none k w ws t, add-zero k, eqb·zero-suc (length ws)))
+  where
+    more : isNumber w ≡ true → k < 515 → ending (k + 1) x y z (set d (k - 3) (spelled w)) ws ≡ ending k x y z d (w ∷ ws)
+    more n h =
+        let e : k + 1 - 3 ≡ suc (k - 3) = omega arith in
+        let l = length (kept (k + 1) ws) in
+        let i : k + 1 + l ≡ k + suc l = omega arith in
+        rw (kept-more k w ws n h, e, i, eqb·suc-suc l (length ws))
+
+-- ---- what the scanner has been told once all words have ended
+
+record Told (st : State) (d : List ℕ) (ws : List (List ℕ)) : Type 0 where
+  three : leb 3 (st .seen .count) ≡ readable ws
+  extents : readable ws ≡ true → extentsSeen (st .seen) ≡ extentsIn ws
+  form : readable ws ≡ true → volume (extentsIn ws) ≤ 512 → (not (st .seen .broken) && eqb (st .seen .count - 3) (volume (extentsIn ws))) ≡ formed ws
+  tray : st .codes ≡ written ws d
+
+-- The extents cannot be read.
+unread : (st : State) (s : Scanned) (d : List ℕ) (ws : List (List ℕ)) → st ≡ state s d → s .count < 3 → readable ws ≡ false
+    → drop 3 (take 515 (leading ws)) ≡ [] → Told st d ws
+unfolding written
+unread st s d ws e h r n =
+    rw e (record {
+      three = lt-leb 3 (s .count) h ∙ sym r;
+      extents = λ t. absurd (true≢false (sym t ∙ r));
+      form = λ t _. absurd (true≢false (sym t ∙ r));
+      tray = rw n;
+    })
+
+-- l words of m count, and there are to be v: as many as there are, and numbers all.
+form-plain : (n : Bool) (l m v : ℕ) → (m ≡ v → eqb l m ≡ n) → (not (not (eqb l m)) && eqb (3 + l - 3) v) ≡ (n && eqb m v)
+form-plain n l m v q =
+    let e : 3 + l - 3 ≡ l = omega arith in
+    rw (not-not (eqb l m), e)
+    (by-test (eqb m v)
+    (λ t. rw (t, and-true n, ← eqb-true m v t, and-self (eqb l m)) (q (eqb-true m v t)))
+    (λ t. rw (t, and-false n) (by-test (eqb l m) (λ u. rw u (ne-eqb l v (λ i. eqb-false m v t (sym (eqb-true l m u) ∙ i)))) (λ u. rw u))))
+
+-- The extents can be read.
+module _ (a b c : List ℕ) (ws : List (List ℕ)) (d : List ℕ) (i : isNumber a ≡ true) (j : isNumber b ≡ true) (k : isNumber c ≡ true) where
+  first-three : afterWords (state begun d) (a ∷ b ∷ c ∷ ws) ≡ ending 3 (spelled a) (spelled b) (spelled c) d ws
+  unfolding afterWords wordEnds extent stored
+  first-three = rw (i, j, k) (codes-end 3 (spelled a) (spelled b) (spelled c) d ws (omega arith))
+
+  leading-three : leading (a ∷ b ∷ c ∷ ws) ≡ a ∷ b ∷ c ∷ leading ws
+  unfolding leading
+  leading-three = rw (i, j, k)
+
+  readable-three : readable (a ∷ b ∷ c ∷ ws) ≡ true
+  unfolding readable word
+  readable-three = rw (i, j, k)
+
+  formed-three : formed (a ∷ b ∷ c ∷ ws) ≡ (numbers ws && eqb (length ws) (volume (extentsIn (a ∷ b ∷ c ∷ ws))))
+  unfolding formed numbers
+  formed-three = rw (i, j, k, le-leb 3 (suc (suc (suc (length ws)))) (omega arith))
+
+  told-three : Told (afterWords (state begun d) (a ∷ b ∷ c ∷ ws)) d (a ∷ b ∷ c ∷ ws)
+  unfolding extentsIn word written
+  told-three =
+      rw first-three (record {
+        three = le-leb 3 (3 + length (kept 3 ws)) (omega arith) ∙ sym readable-three;
+        extents = λ _. refl;
+        form = λ _ h. form-plain (numbers ws) (length (kept 3 ws)) (length ws) (volume (extentsIn (a ∷ b ∷ c ∷ ws))) (λ e. kept-all (omega arith)) ∙ sym formed-three;
+        tray = rw leading-three;
+      })
+    where
+      kept-all : length ws ≤ 512 → eqb (length (kept 3 ws)) (length ws) ≡ numbers ws
+      kept-all h = rw (take-all 512 (leading ws) (omega (arith, leading-few ws))) (leading-all ws)
+
+no-word : isNumber [] ≡ false
+unfolding isNumber digits
+no-word = refl
+
+module _ (d : List ℕ) where
+  abbrev one : ℕ → Scanned
+  one x = scanned 1 false 0 0 x 0 0
+
+  abbrev two : ℕ → ℕ → Scanned
+  two x y = scanned 2 false 0 0 x y 0
+
+  told-two : (a b : List ℕ) (ws : List (List ℕ)) → isNumber a ≡ true → isNumber b ≡ true → Told (afterWords (state begun d) (a ∷ b ∷ ws)) d (a ∷ b ∷ ws)
+  unfolding afterWords wordEnds extent stored leading readable word
+  told-two a b [] i j = unread _ (two (spelled a) (spelled b)) d (a ∷ b ∷ []) (rw (i, j)) (omega arith) (rw (i, j, no-word)) (rw (i, j))
+  told-two a b (c ∷ ws) i j =
+      by-test (isNumber c) (λ k. told-three a b c ws d i j k)
+      (λ k. unread _ (lost (two (spelled a) (spelled b))) d (a ∷ b ∷ c ∷ ws) (rw (i, j) (lost-here 2 (spelled a) (spelled b) 0 d c ws (rw k))) (omega arith)
+      (rw (i, j, k)) (rw (i, j, k)))
+
+  told-one : (a : List ℕ) (ws : List (List ℕ)) → isNumber a ≡ true → Told (afterWords (state begun d) (a ∷ ws)) d (a ∷ ws)
+  unfolding afterWords wordEnds extent stored leading readable word
+  told-one a [] i = unread _ (one (spelled a)) d (a ∷ []) (rw i) (omega arith) (rw (i, no-word)) (rw i)
+  told-one a (b ∷ ws) i =
+      by-test (isNumber b) (told-two a b ws i)
+      (λ j. unread _ (lost (one (spelled a))) d (a ∷ b ∷ ws) (rw i (lost-here 1 (spelled a) 0 0 d b ws (rw j))) (omega arith) (rw (i, j)) (rw (i, j)))
+
+  told : (ws : List (List ℕ)) → Told (afterWords (state begun d) ws) d ws
+  unfolding afterWords leading readable word
+  told [] = unread _ begun d [] refl (omega arith) (rw no-word) refl
+  told (a ∷ ws) =
+      by-test (isNumber a) (told-one a ws)
+      (λ i. unread _ (lost begun) d (a ∷ ws) (lost-here 0 0 0 0 d a ws (rw i)) (omega arith) (rw i) (rw i))
+
+-- ---- the answer
+
+formed-readable : (ws : List (List ℕ)) → formed ws ≡ true → readable ws ≡ true
+unfolding formed numbers readable word
+formed-readable [] t = absurd (true≢false (sym t))
+formed-readable (a ∷ []) t = absurd (true≢false (sym t ∙ and-false (numbers (a ∷ []))))
+formed-readable (a ∷ b ∷ []) t = absurd (true≢false (sym t ∙ and-false (numbers (a ∷ b ∷ []))))
+formed-readable (a ∷ b ∷ c ∷ ws) t =
+    let n = and-left (numbers (a ∷ b ∷ c ∷ ws)) _ t in
+    let m = and-right (isNumber a) (numbers (b ∷ c ∷ ws)) n in
+    and-both (isNumber a) _ (and-left (isNumber a) (numbers (b ∷ c ∷ ws)) n)
+    (and-both (isNumber b) (isNumber c) (and-left (isNumber b) (numbers (c ∷ ws)) m) (and-left (isNumber c) (numbers ws) (and-right (isNumber b) (numbers (c ∷ ws)) m)))
+
+-- A text of its form: its codes stand in front in a tray that has a place for each.
+module _ (ws : List (List ℕ)) (d : List ℕ) (f : formed ws ≡ true) (h : volume (extentsIn ws) ≤ length d) (few : volume (extentsIn ws) ≤ 512) where
+  code-length : length (codesIn ws) ≡ volume (extentsIn ws)
+  unfolding formed codesIn
+  code-length = length-map (drop 3 ws) spelled ∙ eqb-true (length (drop 3 ws)) (volume (extentsIn ws)) (and-right (leb 3 (length ws)) _ (and-right (numbers ws) _ f))
+
+  codes-front : take (volume (extentsIn ws)) (written ws d) ≡ codesIn ws
+  unfolding written codesIn formed
+  codes-front =
+      let most : length ws ≤ 515 = omega (arith, code-length, length-map (drop 3 ws) spelled, length-drop 3 ws) in
+      rw (leading-same ws (and-left (numbers ws) _ f), take-all 515 ws most, sets-eq (map spelled (drop 3 ws)) d 0 (omega (arith, code-length)))
+      (take-at (map spelled (drop 3 ws)) _ (volume (extentsIn ws)) code-length)
+
+-- The tests of both, lowest number first: off size, a tray of another length, a whole text with a blank, a text that is not whole.
+abbrev rungs : Bool → Bool → Bool → Bool → ℕ
+rungs o t w b = cond o 1 (cond (not t) 6 (cond (w && b) 7 (cond (not w) 11 0)))
+
+rungs-same : (o p t u w x b c : Bool) → o ≡ p → t ≡ u → (p ≡ false → w ≡ x) → (p ≡ false → u ≡ true → x ≡ true → b ≡ c) → rungs o t w b ≡ rungs p u x c
+rungs-same o true t u w x b c i j f g = rw i
+rungs-same o false t false w x b c i j f g = rw (i, j)
+rungs-same o false t true w false b c i j f g = rw (i, j, f refl)
+rungs-same o false t true w true b c i j f g = rw (i, j, f refl, g refl refl refl)
+
+text-rungs : (ws : List (List ℕ)) (n : ℕ) → lowest (declines ws n) ≡ rungs (readable ws && offSize 8 (extentsIn ws)) (eqb n 512) (formed ws) (blank (codesIn ws))
+unfolding lowest first table number declines declinesText
+text-rungs ws n = refl
+
+-- What is accepted has its form, and a right size.
+module _ (ws : List (List ℕ)) (n : ℕ) (z : lowest (declines ws n) ≡ 0) where
+  accepted : formed ws ≡ true
+  unfolding declines declinesText
+  accepted = not-false (formed ws) (lowest-none (declines ws n) .0 z bad-record)
+
+  accepted-few : volume (extentsIn ws) ≤ 512
+  unfolding declines declinesText
+  accepted-few = volume-high (sized-of 8 (extentsIn ws) (rw (formed-readable ws accepted) at (lowest-none (declines ws n) .0 z off-size)))
+
+module _ (s : Scanned) (e d : List ℕ) (ws : List (List ℕ)) (k : Told (state s e) d ws) where
+  same-length : length e ≡ length d
+  unfolding written
+  same-length = ap length (k .tray) ∙ length-sets d 0 (map spelled (drop 3 (take 515 (leading ws))))
+
+  same-off : offExtents s ≡ (readable ws && offSize 8 (extentsIn ws))
+  unfolding offExtents
+  same-off = by-test (readable ws) (λ r. rw (k .three ∙ r, r, k .extents r)) (λ r. rw (k .three ∙ r, r))
+
+  module _ (o : (readable ws && offSize 8 (extentsIn ws)) ≡ false) where
+    on-size : readable ws ≡ true → offSize 8 (extentsIn ws) ≡ false
+    on-size r = rw r at o
+
+    few : readable ws ≡ true → volume (extentsIn ws) ≤ 512
+    few r = volume-high (sized-of 8 (extentsIn ws) (on-size r))
+
+    same-whole : whole s ≡ formed ws
+    unfolding whole
+    same-whole =
+        by-test (readable ws)
+        (λ r. rw (k .three ∙ r, k .extents r, on-size r) (k .form r (few r)))
+        (λ r. rw (k .three ∙ r, and-false (not (s .broken))) (sym (by-test (formed ws) (λ f. absurd (true≢false (sym (formed-readable ws f) ∙ r))) (λ f. f))))
+
+    same-codes : length d ≡ 512 → formed ws ≡ true → take (s .count - 3) e ≡ codesIn ws
+    same-codes h f =
+        let r = formed-readable ws f in
+        let n : s .count - 3 ≡ volume (extentsIn ws) = eqb-true _ _ (and-right (not (s .broken)) _ (k .form r (few r) ∙ f)) in
+        rw (k .tray, n) (codes-front ws d f (omega (arith, few r)) (few r))
+
+  same-refusal : refusalOf s e ≡ lowest (declines ws (length d))
+  same-refusal =
+      ladder s e
+      ∙ rungs-same (offExtents s) _ (eqb (length e) 512) _ (whole s) _ (blank (take (s .count - 3) e)) _ same-off (rw same-length) same-whole
+      (λ o t f. ap blank (same-codes o (eqb-true (length d) 512 t) f))
+      ∙ sym (text-rungs ws (length d))
+
+  same-answer : answered s e ≡ answerOf (lowest (declines ws (length d))) (extentsIn ws)
+  unfolding answered answerOf
+  same-answer =
+      rw same-refusal
+      (by-test (eqb (lowest (declines ws (length d))) 0)
+      (λ z. ap (answerOf (lowest (declines ws (length d)))) (k .extents (formed-readable ws (accepted ws (length d) (eqb-true _ 0 z)))))
+      (λ z. rw z))
+
+-- The scanner, once it has read a text and finished, has read it by its words: for every text and every tray.
+pub scan-text : (d text : List ℕ) → finished (after (state begun d) text) ≡ reading text d
+unfolding finished reading askedExtents
+scan-text d text =
+    let ws = wordsOf text in
+    let u = afterWords (state begun d) ws in
+    let k = told d ws in
+    ap (λ (v : State). outcome (answered (v .seen) (v .codes)) (v .codes)) (walked d text)
+    ∙ ap₂ outcome (same-answer (u .seen) (u .codes) d ws k) (k .tray)
+
+-- What is answered for a text, and where its codes stand.
+pub record Answers (text : List ℕ) (o : Outcome) : Type 0 where
+  pub refusal : o .answer .refusal ≡ textRefusal text
+  pub extents : textRefusal text ≡ 0 → triple (o .answer .nx) (o .answer .ny) (o .answer .nz) ≡ askedExtents text
+  pub codes : textRefusal text ≡ 0 → take (volume (askedExtents text)) (o .tray) ≡ askedCodes text
+
+answer-refusal : (n : ℕ) (e : Triple) → answerOf n e .refusal ≡ n
+unfolding answerOf
+answer-refusal n e = by-test (eqb n 0) (λ z. rw z (sym (eqb-true n 0 z))) (λ z. rw z)
+
+-- A text that is read into a tray of 512 places is answered as it is to be.
+module _ (d text : List ℕ) (h : length d ≡ 512) where
+  same-text : lowest (declines (wordsOf text) (length d)) ≡ textRefusal text
+  unfolding textRefusal lowest first table number declines declinesText
+  same-text = rw (eq-eqb (length d) 512 h)
+
+  pub text-read : Answers text (reading text d)
+  unfolding reading answerOf askedExtents askedCodes
+  text-read = record {
+    refusal = answer-refusal _ _ ∙ same-text;
+    extents = λ z. rw (same-text ∙ z);
+    codes = λ z. let few = accepted-few (wordsOf text) (length d) (same-text ∙ z) in
+        codes-front (wordsOf text) d (accepted (wordsOf text) (length d) (same-text ∙ z)) (omega arith) few;
+  }
+
+-- The way of `read_text`: from the start over the whole text to the end.
+pub read-whole : (d text e f : List ℕ) (s t : Scanned) (r : Read) → s ≡ begun → state t e ≡ after (state s d) text → outcome r f ≡ finished (state t e) → outcome r f ≡ reading text d
+read-whole d text e f s t r i j k = k ∙ ap finished j ∙ rw i (scan-text d text)

@@ -1,0 +1,30 @@
+-- `printer::print_listing` meets its contract.
+use mathlib.Core.Path.{_∙_, sym}
+use borrow.Author.Needs.{needs}
+use Rattle.printer.proofs.SinkLaws.{sunk-whole}
+use Rattle.printer.proofs.PrintLaws.{ready-of, print-refused, print-accepted}
+use Rattle.printer.proofs.print_listing.Statement.{statement}
+use Rattle.printer.proofs.print_listing.Tie as tie
+
+refusal-requires : tie.Need-refusal-requires
+refusal-requires c κs = search needs
+
+returns : tie.Need-returns
+returns c = print-refused _ _ _ _ _ _ (c .before .refusal .ensures) (c .if1 .taken)
+
+put-listing-requires : tie.Need-put-listing-requires
+put-listing-requires c κs = ready-of _ _ _ (sym (c .before .before .before .refusal .ensures) ∙ c .before .before .if1 .left)
+
+same-length : tie.Need-same-length
+same-length c = search needs
+
+same-length-2 : tie.Need-same-length-2
+same-length-2 c = search needs
+
+returns-2 : tie.Need-returns-2
+returns-2 c = print-accepted _ _ _ _ _ _ _ _ _ (c .before .before .before .before .before .before .before .before .refusal .ensures) (c .before .before .before .before .before .before .before .if1 .left) (c .before .before .before .before .put-listing .ensures .1) (sunk-whole _ _ _ _ (c .before .before .before .before .put-listing .ensures .0))
+
+pub print-listing-spec : {M : Type 1} → statement M
+print-listing-spec =
+    tie.close
+    (tie.spec refusal-requires returns put-listing-requires same-length same-length-2 returns-2)

@@ -1,0 +1,20 @@
+-- `printer::put_spaced` meets its contract.
+use borrow.Author.Needs.{needs}
+use Rattle.printer.proofs.PrintLaws.{spaced-put}
+use Rattle.printer.proofs.put_spaced.Statement.{statement}
+use Rattle.printer.proofs.put_spaced.Tie as tie
+
+put-requires : tie.Need-put-requires
+put-requires c κs = search needs
+
+put-decimal-requires : tie.Need-put-decimal-requires
+put-decimal-requires c κs = search needs
+
+same-length : tie.Need-same-length
+same-length c = search needs
+
+returns : tie.Need-returns
+returns c = search spaced-put
+
+pub put-spaced-spec : {M : Type 1} → statement M
+put-spaced-spec = tie.close (tie.spec put-requires put-decimal-requires same-length returns)
