@@ -8,6 +8,7 @@ use native.Mathlib.Omega.{arith}
 use lib.Dec.{leb, ltb}
 use lib.ListN.{getD}
 use borrow.Author.Tests.{eq-eqb, eqb-true, le-leb, leb-true, lt-ltb, ltb-true, not-false}
+use borrow.Fn.PlainCycle.{is}
 use Rattle.lists.specs.Lists.{consecutive, keep, someOf, tabulate}
 use Rattle.closure.specs.Joined.{edge}
 use Rattle.cells.specs.Box.{Axis, Triple, X, Y, Z, coord, each, index, place, volume}
@@ -85,7 +86,7 @@ module _ (k : Cutting) (good : goodCut k ≡ true) (b : ℕ) (hb : b < blocks k)
           (lt-ltb x h′ (omega (arith, s .below, origin-on k b a, extent-on k b a, side-on (blockExtents k b) a, its-interval k good b hb a .upward)))
 
 -- the lowest block that has a cell of the volume
-lowest-has : (k : Cutting) → goodCut k ≡ true → (t : ℕ) → t < cells (k .extents)
+pub lowest-has : (k : Cutting) → goodCut k ≡ true → (t : ℕ) → t < cells (k .extents)
     → (lowestBlock k (place (sides (k .extents)) t) < blocks k) × (hasCell k (lowestBlock k (place (sides (k .extents)) t)) (place (sides (k .extents)) t) ≡ true)
 unfolding lowestBlock
 lowest-has k good t ht =

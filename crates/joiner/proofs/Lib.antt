@@ -24,3 +24,4 @@ pub mod Final
 pub mod Readings
 pub mod Simulation
 pub mod Statement3
+pub mod Sheets

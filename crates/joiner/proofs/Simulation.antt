@@ -22,6 +22,7 @@ use Rattle.joiner.specs.Calls.{Answer, Call, answer, cross, enrol, join,
 use Rattle.joiner.specs.Declines.{adds, pointCells, refusal}
 use Rattle.joiner.specs.Entries.{CrossingDone, Done, EnrolDone, KeptFound, KeptNumbers, NumberedKind, PointDone, SeamDone, Step, lookedUp}
 use Rattle.joiner.specs.Job.{Closed, Crossing, Curve, Enrol, Face, Kind, Point, Points, Seam, Stage, State, Told, firstAt, orderOf, stageNumber, ticked, width}
+use Rattle.joiner.specs.Sheets.{lastState}
 use Rattle.joiner.specs.Stages.{codesOf, crossingStep, enrolStep, finished, hasCell, nextAfter, nextStage, pointStep, seamStep, seams, stepsOf}
 use Rattle.joiner.specs.Statement.{Agrees, AllDone, Brings, Entry, Fair, Labelling, Measured, Run, Uncut}
 use Rattle.lists.proofs.Cases.{and-both, and-left, and-right, by-test, picked}
@@ -76,7 +77,7 @@ module _ (o : Told) (own : ℕ → List ℕ) (ext : offSize 1024 (o .cutting .ex
     pub all-points : stageNumber (B .stage) ≡ 4 → Final o own good lab s Point
 
   module _ (B : Book) (s : State) (S : Sim B s) where
-    finals-at : stageNumber (B .stage) ≡ 4 → (κ : Kind) → Final o own good lab s κ
+    pub finals-at : stageNumber (B .stage) ≡ 4 → (κ : Kind) → Final o own good lab s κ
     finals-at q Face = S .final-two (omega arith) .0
     finals-at q Curve = S .final-two (omega arith) .1
     finals-at q Point = S .all-points q
@@ -418,3 +419,8 @@ module _ (o : Told) (own : ℕ → List ℕ) (ext : offSize 1024 (o .cutting .ex
   pub measured : (B : Book) (s : State) (es : List Entry) → Sim B s → Run s es → Fair own es → Measured B es
   measured B s [] S R F = Measured.none
   measured B s (e ∷ es) S (Run.next P R) F = let k : OneCall B s S e = one-call B s S e P (F .0) in Measured.next (k .agrees) (measured (turned B (e .call)) (e .after) es (k .after) R (F .1))
+
+  -- the book and the service at the end of the list
+  pub simulated : (B : Book) (s : State) (es : List Entry) → Sim B s → Run s es → Fair own es → (C : Book) × Sim C (lastState s es)
+  simulated B s [] S R F = (B, S)
+  simulated B s (e ∷ es) S (Run.next P R) F = let k : OneCall B s S e = one-call B s S e P (F .0) in simulated (turned B (e .call)) (e .after) es (k .after) R (F .1)

@@ -3,7 +3,7 @@
 use mathlib.Core.Bool.{false, not, true}
 use mathlib.Core.List.{List, List·Memᴰ·not-nil}
 use mathlib.Core.Path.{_∙_, _≡_, ap, refl}
-use Prim.Native.Nat.{suc, zero, ℕ}
+use Prim.Native.Nat.{_<_, suc, zero, ℕ}
 use native.Mathlib.Omega.{arith}
 use lib.Dec.{eqb}
 use lib.ListN.{getD, length, length-replicate}
@@ -12,15 +12,15 @@ use Rattle.lists.specs.Lists.{isIn, zeros}
 use Rattle.refusals.specs.Refusals.{Refusal, bad-cut, off-size, wrong-tray}
 use Rattle.cells.specs.Extents.{offSize}
 use Rattle.labels.specs.Number.{numbered}
-use Rattle.cutting.specs.Cutting.{blocks, goodCut}
+use Rattle.cutting.specs.Cutting.{blockExtents, blocks, goodCut}
 use Rattle.joiner.specs.Book.{begun}
 use Rattle.joiner.specs.Entries.{Opened, allTrays, openDeclines, openRefusal}
 use Rattle.joiner.specs.Job.{Curve, Face, Kind, Point, State, Tables, Told, fits, stageNumber, ticked}
-use Rattle.joiner.specs.Statement.{Statement3}
+use Rattle.joiner.specs.Statement.{Labelling, Statement3}
 use Rattle.refusals.proofs.RefusalLaws.{lowest-none}
 use Rattle.joiner.proofs.Inv.{Inv, Kept}
 use Rattle.joiner.proofs.Progress.{progress-start}
-use Rattle.joiner.proofs.Simulation.{measured}
+use Rattle.joiner.proofs.Simulation.{Sim, measured}
 use Rattle.joiner.proofs.Sizes.{Sizes, sizes-of}
 
 zeros-long : (n : ℕ) → length (zeros n) ≡ n
@@ -34,7 +34,7 @@ zeros-at (suc n) zero = refl
 zeros-at (suc n) (suc i) = zeros-at n i
 
 -- what an accepted opening passed
-opened-passed : (o : Told) (lent : Tables) → openRefusal o lent ≡ 0 → (offSize 1024 (o .cutting .extents) ≡ false) × (goodCut (o .cutting) ≡ true) × (fits (allTrays o lent) ≡ true)
+pub opened-passed : (o : Told) (lent : Tables) → openRefusal o lent ≡ 0 → (offSize 1024 (o .cutting .extents) ≡ false) × (goodCut (o .cutting) ≡ true) × (fits (allTrays o lent) ≡ true)
 unfolding openRefusal openDeclines
 opened-passed o lent r =
     let n : (z : Refusal) → openDeclines o lent z ≡ false = lowest-none (openDeclines o lent) .0 r in
@@ -89,15 +89,20 @@ module _ (o : Told) (lent : Tables) (s : State) (own : ℕ → List ℕ) (P : Op
         layers = λ b c z m. absurd (List·Memᴰ·not-nil m);
       }
 
-pub statement3 : Statement3
+-- the book and the service at the start
+pub begun-sim : (o : Told) (lent : Tables) (s : State) (own : ℕ → List ℕ) (P : Opened o lent s) (lab : (b : ℕ) → b < blocks (o .cutting) → Labelling (blockExtents (o .cutting) b) (own b))
+    → Sim o own (opened-passed o lent (P .accepted) .0) (opened-passed o lent (P .accepted) .1) lab (begun o) s
 unfolding begun stageNumber
-statement3 o lent s own es P lab R F =
-    let p = opened-passed o lent (P .accepted) in
-    measured o own (p .0) (p .1) lab (begun o) s es
-    (record {
+begun-sim o lent s own P lab =
+    record {
       inv = started o lent s own P;
       final-two = λ h. absurd (omega arith);
       no-points = λ h. P .fresh .sofar Point;
       some-points = λ h. absurd (omega arith);
       all-points = λ h. absurd (omega arith);
-    }) R F
+    }
+
+pub statement3 : Statement3
+statement3 o lent s own es P lab R F =
+    let p = opened-passed o lent (P .accepted) in
+    measured o own (p .0) (p .1) lab (begun o) s es (begun-sim o lent s own P lab) R F

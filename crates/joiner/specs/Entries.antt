@@ -62,6 +62,10 @@ pub record Fresh (j : Job) : Type 0 where
   pub sofar : (κ : Kind) → j .sofar κ ≡ 0
   pub numbered : (κ : Kind) → j .numbered κ ≡ 0
 
+-- The cut lists are the caller's; all else of a job that was not opened is 0.
+unfoldable pub nothing : Told → Told
+nothing o = record { cutting = record { extents = triple 0 0 0; cx = o .cutting .cx; cy = o .cutting .cy; cz = o .cutting .cz }; entries = λ κ. 0 }
+
 -- An accepted opening.
 pub record Opened (o : Told) (lent : Tables) (s : State) : Type 0 where
   pub accepted : openRefusal o lent ≡ 0
@@ -69,10 +73,7 @@ pub record Opened (o : Told) (lent : Tables) (s : State) : Type 0 where
   pub fresh : Fresh (s .job)
   pub tables : Cleared lent (s .tables)
 
--- A refused one: "every other field 0 or empty", and the tables as they were. The cut lists are the caller's.
-unfoldable pub nothing : Told → Told
-nothing o = record { cutting = record { extents = triple 0 0 0; cx = o .cutting .cx; cy = o .cutting .cy; cz = o .cutting .cz }; entries = λ κ. 0 }
-
+-- A refused one: "every other field 0 or empty", and the tables as they were.
 pub record Unopened (o : Told) (lent : Tables) (s : State) : Type 0 where
   pub extents : s .job .told .cutting ≡ nothing o .cutting
   pub entries : (κ : Kind) → s .job .told .entries κ ≡ 0

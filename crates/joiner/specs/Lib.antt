@@ -6,3 +6,4 @@ pub mod Declines
 pub mod Entries
 pub mod Book
 pub mod Statement
+pub mod Sheets

@@ -1,0 +1,3 @@
+-- The laws that callers cite, and those of this crate's own proofs.
+pub mod BlockLaws
+pub mod CodeLaws

@@ -1,0 +1,143 @@
+-- Two closed jobs of one volume have the same sheet and the same lookups, whatever their cuttings and the orders of their calls.
+-- Assumes nothing.
+use mathlib.Core.Bool.{false, true}
+use mathlib.Core.List.{List}
+use mathlib.Core.Logic.{_≢_}
+use mathlib.Core.Path.{_∙_, _≡_, ap, ap₂, refl, subst, sym}
+use Prim.Native.Nat.{_%_, _*_, _/_, _<_, suc, ℕ}
+use native.Mathlib.Omega.{arith}
+use lib.ListN.{getD, length, take}
+use lib.Seq.{ext-getD}
+use Rattle.lists.specs.Lists.{tabulate}
+use Rattle.cells.specs.Box.{Triple, index, place, volume}
+use Rattle.cells.specs.Extents.{offSize}
+use Rattle.cells.specs.Grid.{cells, order, sides, voxel, voxelCell}
+use Rattle.labels.specs.Components.{componentRow, firstCell, largest}
+use Rattle.labels.specs.Number.{labels, numbered}
+use Rattle.cutting.specs.Cutting.{Cutting, blockCodes, blockExtents, blocks, embed, goodCut}
+use Rattle.cutting.specs.Nodes.{part, whole}
+use Rattle.joiner.specs.Book.{Book, begun, uncut}
+use Rattle.joiner.specs.Entries.{allTrays, lookedUp}
+use Rattle.joiner.specs.Job.{Kind, State, Told, fits, orderOf, stageNumber, width}
+use Rattle.joiner.specs.Sheets.{ClosedJob, Sheet}
+use Rattle.joiner.specs.Stages.{codeIn, codesOf, hasCell, local, lowestBlock}
+use Rattle.joiner.specs.Statement.{Labelling, Uncut}
+use Rattle.lists.proofs.Lists.{getD-tabulate, length-tabulate}
+use Rattle.cells.proofs.BoxLaws.{index-place}
+use Rattle.cells.proofs.GridLaws.{voxel-cell, voxel-cell-inside, voxel-cell-order, voxel-inside}
+use Rattle.labels.proofs.LabelLaws.{labels-numbering}
+use Rattle.cutting.proofs.BlockLaws.{block-code, voxel-same}
+use Rattle.cutting.proofs.CutLaws.{embed-inside, embed-order}
+use Rattle.joiner.proofs.Codes.{has-held, lowest-has}
+use Rattle.joiner.proofs.Final.{uncut-is}
+use Rattle.joiner.proofs.Readings.{cell-read}
+use Rattle.joiner.proofs.Simulation.{Sim, closed-uncut, finals-at, simulated}
+use Rattle.joiner.proofs.Statement3.{begun-sim, opened-passed}
+
+-- the codes of the blocks' maps are those of the volume
+codes-back : (k : Cutting) (good : goodCut k ≡ true) (codes : List ℕ) (own : ℕ → List ℕ) → length codes ≡ volume (k .extents) → ((b : ℕ) → b < blocks k → own b ≡ part k codes b) → codesOf k own ≡ codes
+unfolding codesOf
+codes-back k good codes own many h =
+    ext-getD 0 (tabulate (volume (k .extents)) (λ v. codeIn k own (place (sides (k .extents)) (voxelCell (k .extents) v)))) codes
+    (length-tabulate (volume (k .extents)) _ ∙ sym many)
+    (λ v l.
+    let hv : v < volume (k .extents) = omega (arith, length-tabulate (volume (k .extents)) (λ v. codeIn k own (place (sides (k .extents)) (voxelCell (k .extents) v)))) in
+    getD-tabulate (volume (k .extents)) (λ v. codeIn k own (place (sides (k .extents)) (voxelCell (k .extents) v))) v hv
+    ∙ code-here (voxelCell (k .extents) v) (voxel-cell-inside (k .extents) v hv) (voxel-cell-order (k .extents) v hv)
+    ∙ labels-numbering (k .extents) codes .voxels (voxelCell (k .extents) v) (voxel-cell-inside (k .extents) v hv) (voxel-cell-order (k .extents) v hv)
+    ∙ ap (λ (x : ℕ). getD codes x 0) (voxel-cell (k .extents) v hv))
+  where
+    in-block : (t : ℕ) → codeIn k own (place (sides (k .extents)) t) ≡ getD (own (lowestBlock k (place (sides (k .extents)) t))) (local k (lowestBlock k (place (sides (k .extents)) t)) (place (sides (k .extents)) t)) 0
+    in-block t = unfold codeIn in refl
+
+    code-here : (t : ℕ) → t < cells (k .extents) → order (k .extents) t ≡ 3 → codeIn k own (place (sides (k .extents)) t) ≡ getD (whole k codes) t 0
+    code-here t ht ot =
+        let c : Triple = place (sides (k .extents)) t in
+        let b : ℕ = lowestBlock k c in
+        let w = lowest-has k good t ht in
+        let g = has-held k good b (w .0) c (w .1) in
+        let is : embed k b (local k b c) ≡ t = g .1 ∙ index-place (sides (k .extents)) t in
+        let o : order (blockExtents k b) (local k b c) ≡ 3 = sym (embed-order k good b (w .0) (local k b c) (g .0)) ∙ ap (order (k .extents)) is ∙ ot in
+        in-block t ∙ ap (λ (l : List ℕ). getD l (local k b c) 0) (h b (w .0)) ∙ voxel-same k good codes b (w .0) (local k b c) (g .0) o ∙ ap (λ (x : ℕ). getD (whole k codes) x 0) is
+
+module _ (e : Triple) (codes : List ℕ) (s : State) (J : ClosedJob e codes s) where
+  abbrev passed-open : (offSize 1024 (J .told .cutting .extents) ≡ false) × (goodCut (J .told .cutting) ≡ true) × (fits (allTrays (J .told) (J .lent)) ≡ true)
+  passed-open = opened-passed (J .told) (J .lent) (J .opened .accepted)
+
+  -- each map is one that a labelling left
+  labellings : (b : ℕ) → b < blocks (J .told .cutting) → Labelling (blockExtents (J .told .cutting) b) (J .own b)
+  labellings b hb = record { codes = blockCodes (J .told .cutting) b codes; many = block-many; coded = block-coded; left = J .maps b hb }
+    where
+      block-many : length (blockCodes (J .told .cutting) b codes) ≡ volume (blockExtents (J .told .cutting) b)
+      block-many = unfold blockCodes in length-tabulate (volume (blockExtents (J .told .cutting) b)) _
+
+      block-coded : (v : ℕ) → v < volume (blockExtents (J .told .cutting) b) → getD (blockCodes (J .told .cutting) b codes) v 0 ≢ 0
+      block-coded v hv z =
+          let E : Triple = blockExtents (J .told .cutting) b in
+          let c = voxel-cell-inside E v hv in
+          let t : ℕ = embed (J .told .cutting) b (voxelCell E v) in
+          let ht : t < cells (J .told .cutting .extents) = embed-inside (J .told .cutting) (passed-open .1) b hb (voxelCell E v) c in
+          J .coded (voxel (J .told .cutting .extents) t) (subst (λ (x : Triple). voxel (J .told .cutting .extents) t < volume x) (J .extents) (voxel-inside (J .told .cutting .extents) t ht))
+          (sym (block-code (J .told .cutting) (passed-open .1) b hb (voxelCell E v) c codes) ∙ ap (λ (x : ℕ). getD (blockCodes (J .told .cutting) b codes) x 0) (voxel-cell E v hv) ∙ z)
+
+  codes-are : codesOf (J .told .cutting) (J .own) ≡ codes
+  codes-are = codes-back (J .told .cutting) (passed-open .1) codes (J .own) (subst (λ (x : Triple). length codes ≡ volume x) (sym (J .extents)) (J .many)) (λ b hb. J .maps b hb)
+
+  -- the book at the end of the list
+  end : (B : Book) × Sim (J .told) (J .own) (passed-open .0) (passed-open .1) labellings B s
+  end =
+      let w = simulated (J .told) (J .own) (passed-open .0) (passed-open .1) labellings (begun (J .told)) (J .begin) (J .calls) (begun-sim (J .told) (J .lent) (J .begin) (J .own) (J .opened) labellings) (J .run) (J .fair) in
+      (w .0, subst (Sim (J .told) (J .own) (passed-open .0) (passed-open .1) labellings (w .0)) (J .left) (w .1))
+
+  four : stageNumber (end .0 .stage) ≡ 4
+  four = ap stageNumber (sym (end .1 .inv .stage) ∙ J .closed) ∙ (unfold stageNumber in refl)
+
+  volume-is : uncut (end .0) ≡ labels e codes
+  volume-is =
+      uncut-is (J .told) (J .own) (passed-open .1) labellings (end .0) s (end .1 .inv) (omega (arith, four))
+      ∙ ap₂ labels (J .extents) codes-are
+
+  told-is : end .0 .told .cutting .extents ≡ e
+  told-is = ap (λ (z : Told). z .cutting .extents) (end .1 .inv .btold) ∙ J .extents
+
+  -- what the sheet shows is the uncut volume's
+  pub closed-sheet : (κ : Kind)
+      → Sheet s κ (largest e (labels e codes) (orderOf κ)) (tabulate (largest e (labels e codes) (orderOf κ)) (λ i. firstCell e (labels e codes) (orderOf κ) (suc i)))
+      (tabulate (width κ * largest e (labels e codes) (orderOf κ)) (λ i. getD (componentRow e (labels e codes) (orderOf κ) (suc (i / width κ))) (i % width κ) 0))
+  closed-sheet κ =
+      let u : Uncut (end .0) s κ = closed-uncut (J .told) (J .own) (passed-open .0) (passed-open .1) labellings (end .0) s (end .1) four κ in
+      let n : s .job .numbered κ ≡ largest e (labels e codes) (orderOf κ) = u .total ∙ ap₂ (λ (x : Triple) (m : List ℕ). largest x m (orderOf κ)) told-is volume-is in
+      record {
+        count-is = n;
+        firsts-are = subst (λ (a : ℕ). take a (s .tables .firsts κ) ≡ tabulate a (λ i. firstCell e (labels e codes) (orderOf κ) (suc i))) n
+            (u .firsts ∙ ap₂ (λ (x : Triple) (m : List ℕ). tabulate (s .job .numbered κ) (λ i. firstCell x m (orderOf κ) (suc i))) told-is volume-is);
+        rows-are = subst (λ (a : ℕ). take (width κ * a) (s .tables .listed κ) ≡ tabulate (width κ * a) (λ i. getD (componentRow e (labels e codes) (orderOf κ) (suc (i / width κ))) (i % width κ) 0)) n
+            (u .rows ∙ ap₂ (λ (x : Triple) (m : List ℕ). tabulate (width κ * s .job .numbered κ) (λ i. getD (componentRow x m (orderOf κ) (suc (i / width κ))) (i % width κ) 0)) told-is volume-is);
+      }
+
+  -- a cell looked up from any block that has it holds what the uncut map has there
+  pub closed-lookup : (b : ℕ) (c : Triple) → b < blocks (J .told .cutting) → hasCell (J .told .cutting) b c ≡ true → lookedUp s b (J .own b) c ≡ getD (labels e codes) (index (sides e) c) 0
+  closed-lookup b c hb h =
+      cell-read (J .told) (J .own) (passed-open .1) labellings (end .0) s (end .1 .inv) (omega (arith, four)) (finals-at (J .told) (J .own) (passed-open .0) (passed-open .1) labellings (end .0) s (end .1) four) b c hb h
+      ∙ ap₂ (λ (x : Triple) (m : List ℕ). getD m (index (sides x) c) 0) told-is volume-is
+
+-- the same sheet for two closed jobs of one volume
+pub same-count : (e : Triple) (codes : List ℕ) (s t : State) → ClosedJob e codes s → ClosedJob e codes t → (κ : Kind) → s .job .numbered κ ≡ t .job .numbered κ
+same-count e codes s t J L κ = closed-sheet e codes s J κ .count-is ∙ sym (closed-sheet e codes t L κ .count-is)
+
+pub same-firsts : (e : Triple) (codes : List ℕ) (s t : State) → ClosedJob e codes s → ClosedJob e codes t → (κ : Kind) → take (s .job .numbered κ) (s .tables .firsts κ) ≡ take (t .job .numbered κ) (t .tables .firsts κ)
+same-firsts e codes s t J L κ =
+    let a = closed-sheet e codes s J κ in
+    let b = closed-sheet e codes t L κ in
+    ap (λ (n : ℕ). take n (s .tables .firsts κ)) (a .count-is) ∙ a .firsts-are ∙ sym (b .firsts-are) ∙ ap (λ (n : ℕ). take n (t .tables .firsts κ)) (sym (b .count-is))
+
+pub same-rows : (e : Triple) (codes : List ℕ) (s t : State) → ClosedJob e codes s → ClosedJob e codes t → (κ : Kind)
+    → take (width κ * s .job .numbered κ) (s .tables .listed κ) ≡ take (width κ * t .job .numbered κ) (t .tables .listed κ)
+same-rows e codes s t J L κ =
+    let a = closed-sheet e codes s J κ in
+    let b = closed-sheet e codes t L κ in
+    ap (λ (n : ℕ). take (width κ * n) (s .tables .listed κ)) (a .count-is) ∙ a .rows-are ∙ sym (b .rows-are) ∙ ap (λ (n : ℕ). take (width κ * n) (t .tables .listed κ)) (sym (b .count-is))
+
+pub same-lookup : (e : Triple) (codes : List ℕ) (s t : State) (J : ClosedJob e codes s) (L : ClosedJob e codes t) (b d : ℕ) (c : Triple) → b < blocks (J .told .cutting) → d < blocks (L .told .cutting)
+    → hasCell (J .told .cutting) b c ≡ true → hasCell (L .told .cutting) d c ≡ true → lookedUp s b (J .own b) c ≡ lookedUp t d (L .own d) c
+same-lookup e codes s t J L b d c hb hd h g = closed-lookup e codes s J b c hb h ∙ sym (closed-lookup e codes t L d c hd g)
