@@ -9,11 +9,11 @@ use native.Mathlib.Omega.{arith}
 use lib.Dec.{eqb, ltb}
 use lib.ListN.{getD, length}
 use borrow.Author.Tests.{ltb-false, ltb-true}
+use borrow.Fn.PlainCycle.{is}
 use Rattle.lists.specs.Lists.{consecutive, keep, overlay}
 use Rattle.cells.specs.Grid.{cells, order}
 use Rattle.cells.specs.Row.{active, row}
 use Rattle.labels.specs.Components.{firstCell, largest, ofOrder}
-use Rattle.labels.specs.Numbering.{Joined}
 use Rattle.cutting.specs.Cutting.{Cutting, blockExtents, blocks, embed, goodCut}
 use Rattle.cutting.specs.Nodes.{whole}
 use Rattle.joiner.specs.Entries.{classOf, rowAt, rowFinal}
@@ -22,11 +22,10 @@ use Rattle.joiner.specs.Stages.{pointStep, shared}
 use Rattle.lists.proofs.Cases.{by-test}
 use Rattle.lists.proofs.Lists.{Ascends, ascends-consecutive, ascends-keep, ascends-le, getD-in, getD-tabulate, keep-in, keep-out}
 use Rattle.lists.proofs.Overlay.{overlay-at, overlay-before}
-use Rattle.lists.proofs.Table.{at, every}
-use Rattle.cells.proofs.GridLaws.{upper}
+use Rattle.lists.proofs.Table.{every}
 use Rattle.labels.proofs.ComponentLaws.{Belongs, belongs-at, least-at, of-order-in, of-order-out}
 use Rattle.labels.proofs.CountLaws.{Somewhere, every-number, firsts-ascend, largest-bound}
-use Rattle.labels.proofs.LabelLaws.{labels-numbering, numbered-active}
+use Rattle.labels.proofs.LabelLaws.{labels-numbering, numbered-active, point-alone}
 use Rattle.cutting.proofs.CutLaws.{InBlock, blocks-cover, embed-inside, embed-less, embed-order}
 use Rattle.cutting.proofs.SeamLaws.{point-block}
 use Rattle.joiner.proofs.Enrolling.{blocks-most, key-first, rows-at, rows-before}
@@ -207,11 +206,6 @@ module _ (k : Cutting) (good : goodCut k ≡ true) (codes : List ℕ) where
   abbrev pub volPoint : Tables → ℕ → ℕ
   volPoint t x = getD (whole k codes) (firstAt t Point x) 0
 
-  -- point cells never meet
-  alone : (p q : ℕ) → order (k .extents) p ≡ 0 → Joined (k .extents) (whole k codes) p q → p ≡ q
-  alone p q o Joined.here = refl
-  alone p q o (Joined.step r t s l) = absurd (omega (arith, upper (k .extents) (r .at) (r .inside) (r .one) .higher))
-
   module _ (t : Tables) (done : List ℕ) (n : ℕ) (P : PointsSo t done n) (every : (b : ℕ) → b < blocks k → List·Memᴰ (pointStep b) done) where
     -- a found point's cell in the volume
     record Spot (x : ℕ) : Type 0 where
@@ -258,7 +252,7 @@ module _ (k : Cutting) (good : goodCut k ≡ true) (codes : List ℕ) where
             (λ e.
                 let s = spot x hx in
                 let u = spot y hy in
-                P .once x y hx hy (alone (firstAt t Point x) (firstAt t Point y) (s .level) (labels-numbering (k .extents) codes .shared (firstAt t Point x) (firstAt t Point y) (s .inside) (u .inside) (s .level ∙ sym (u .level)) (s .act) (u .act) .0 e))),
+                P .once x y hx hy (point-alone (k .extents) (whole k codes) (s .level) (labels-numbering (k .extents) codes .shared (firstAt t Point x) (firstAt t Point y) (s .inside) (u .inside) (s .level ∙ sym (u .level)) (s .act) (u .act) .0 e))),
           );
           ascend = λ M N a b d. firsts-ascend (k .extents) codes (whole k codes) (labels-numbering (k .extents) codes) 0 (omega arith) M N a b d;
         }

@@ -16,7 +16,7 @@ use Rattle.cells.specs.Grid.{cells, order, sides, up}
 use Rattle.cells.specs.Row.{active, padTo}
 use Rattle.labels.specs.Components.{componentRow, firstCell, largest}
 use Rattle.labels.specs.Number.{labels, numbered}
-use Rattle.labels.specs.Numbering.{Joined, Numbering}
+use Rattle.labels.specs.Numbering.{Numbering}
 use Rattle.cutting.specs.Cutting.{blockExtents, blocks, embed, goodCut}
 use Rattle.joiner.specs.Book.{Book, uncut}
 use Rattle.joiner.specs.Declines.{finalOf}
@@ -26,17 +26,16 @@ use Rattle.joiner.specs.Stages.{codesOf, hasCell, local, shared}
 use Rattle.joiner.specs.Statement.{Labelling}
 use Rattle.lists.proofs.Cases.{and-left, and-right, by-test, picked}
 use Rattle.lists.proofs.Overlay.{front-at}
-use Rattle.lists.proofs.Table.{at}
-use Rattle.cells.proofs.GridLaws.{inside, order-most, upper}
+use Rattle.cells.proofs.GridLaws.{order-most}
 use Rattle.cells.proofs.RowLaws.{getD-pad}
 use Rattle.labels.proofs.ComponentLaws.{Belongs, belongs-at}
 use Rattle.labels.proofs.CountLaws.{every-number, firsts-ascend, largest-bound}
-use Rattle.labels.proofs.LabelLaws.{labels-numbering, numbered-active}
+use Rattle.labels.proofs.LabelLaws.{labels-numbering, numbered-active, point-alone}
 use Rattle.cutting.proofs.BlockLaws.{voxel-same}
 use Rattle.cutting.proofs.CutLaws.{embed-inside, embed-order}
 use Rattle.joiner.proofs.Codes.{has-held}
 use Rattle.joiner.proofs.Enrolling.{row-place, row-split}
-use Rattle.joiner.proofs.Final.{Final, codes, layout, part-is, uncut-is, volume-map}
+use Rattle.joiner.proofs.Final.{Final, layout, part-is, uncut-is, volume-map}
 use Rattle.joiner.proofs.Inv.{Inv, Kept}
 use Rattle.joiner.proofs.RowsFinal.{final-cell}
 
@@ -131,11 +130,6 @@ module _ (e : Triple) (codes xs : List ℕ) (firsts-are : (i : ℕ) → i < larg
       subst (λ (a : ℕ). a < getD xs j 0) (sym (firsts-are i (omega arith)))
       (subst (λ (b : ℕ). firstCell e (labels e codes) 0 (suc i) < b) (sym (firsts-are j l)) (firsts-ascend e codes (labels e codes) M 0 (omega arith) (suc i) (suc j) (omega arith) (omega arith) (omega arith)))
 
-  -- point cells never meet
-  lone : (p q : ℕ) → order e p ≡ 0 → Joined e (labels e codes) p q → p ≡ q
-  lone p q o Joined.here = refl
-  lone p q o (Joined.step r t s l) = absurd (omega (arith, upper e (r .at) (r .inside) (r .one) .higher))
-
   pub point-held : (q : ℕ) → q < cells e → order e q ≡ 0 → pointNumber xs (largest e (labels e codes) 0) q ≡ getD (labels e codes) q 0
   point-held q hq o = by-test (active e (labels e codes) q) yes no
     where
@@ -149,7 +143,7 @@ module _ (e : Triple) (codes xs : List ℕ) (firsts-are : (i : ℕ) → i < larg
           let hN : N ≤ largest e (labels e codes) 0 = subst (λ (j : ℕ). getD (labels e codes) q 0 ≤ largest e (labels e codes) j) o (largest-bound e (labels e codes) q hq) in
           let b : Belongs e (labels e codes) 0 N (firstCell e (labels e codes) 0 N) = belongs-at e (labels e codes) 0 N q hq o refl in
           let f : ℕ = firstCell e (labels e codes) 0 N in
-          let c : f ≡ q = lone f q (b .level) (M .shared f q (b .within) hq (b .level ∙ sym o) (numbered-active e codes f (b .within) (omega (arith, b .level)) (omega (arith, b .has, h0))) a .0 (b .has)) in
+          let c : f ≡ q = point-alone e (labels e codes) (b .level) (M .shared f q (b .within) hq (b .level ∙ sym o) (numbered-active e codes f (b .within) (omega (arith, b .level)) (omega (arith, b .has, h0))) a .0 (b .has)) in
           let s : suc (N - 1) ≡ N = omega arith in
           number-found xs (largest e (labels e codes) 0) q rises (N - 1) (omega arith) (firsts-are (N - 1) (omega arith) ∙ ap (firstCell e (labels e codes) 0) s ∙ c) ∙ s
 

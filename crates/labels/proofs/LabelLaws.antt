@@ -232,3 +232,8 @@ joined-row e m (step r t s l) = s ∙ joined-row e m l
 
 pub numbered-active : (e : Triple) (codes : List ℕ) (p : ℕ) → p < cells e → order e p < 3 → 0 < getD (labels e codes) p 0 → active e (labels e codes) p ≡ true
 numbered-active e codes p h l g = by-test (active e (labels e codes) p) (λ t. t) (λ t. absurd (omega (arith, labels-numbering e codes .inactive p h l t)))
+
+-- "Point cells never meet, so each active one is a point alone."
+pub point-alone : (e : Triple) (m : List ℕ) {p q : ℕ} → order e p ≡ 0 → Joined e m p q → p ≡ q
+point-alone e m o here = refl
+point-alone e m o (step r t s l) = absurd (omega (arith, upper e (r .at) (r .inside) (r .one) .higher))
