@@ -13,7 +13,7 @@ use Rattle.cells.specs.Box.{Triple, Axis, X, Y, Z, triple, coord, index, place}
 use Rattle.cells.specs.Grid.{sides, odd, order}
 use Rattle.cutting.specs.Cutting.{Cutting, cuts, ascends, cutList, intervals, low, high, blockSides, blocks, goodCut, interval, follows, level, seam}
 use Rattle.cutting.specs.Nodes.{Held, SeamPath, stay, next, last}
-use Rattle.lists.proofs.Cases.{by-test, and-right, and-both}
+use Rattle.lists.proofs.Cases.{by-test, and-right, and-both, or-left, or-right}
 use Rattle.cells.proofs.BoxLaws.{Inside, index-place, place-index, place-inside, raised, same-triple}
 use Rattle.cutting.proofs.CutLaws.{step-up, step-rest, cut-on, Spans, held-spans, spans-held, block-in, interval-at, interval-is, block-sides-on}
 
@@ -57,14 +57,6 @@ near n c t i j x hi hj u v =
     inr (inr (omega (arith, ltb-false (suc i) j f, ltb-false (suc j) i g)))))))
 
 -- ---- three axes
-
-or-left : (s t : Bool) → s ≡ true → (s || t) ≡ true
-or-left true t e = refl
-or-left false t e = absurd (true≢false (sym e))
-
-or-right : (s t : Bool) → t ≡ true → (s || t) ≡ true
-or-right true t e = refl
-or-right false t e = e
 
 -- a block and the next one along an axis are a seam
 seam-raised : (k : Cutting) (b c : ℕ) (a : Axis) → b < blocks k → c < blocks k → ((d : Axis) → interval k c d ≡ coord (raised a (place (blockSides k) b)) d) → seam k b c ≡ true
@@ -186,7 +178,7 @@ meeting-ends n c [] t i h = absurd (omega arith)
 meeting-ends n c (d ∷ l) t zero h = refl
 meeting-ends n c (d ∷ l) t (suc i) h = meeting-ends n d l (step-rest n c d l t) i (omega arith)
 
-cut-ends : (n : ℕ) (c : List ℕ) → cutList n c ≡ true → (i : ℕ) → suc i < intervals c → high c i ≡ low c (suc i)
+pub cut-ends : (n : ℕ) (c : List ℕ) → cutList n c ≡ true → (i : ℕ) → suc i < intervals c → high c i ≡ low c (suc i)
 unfolding cutList
 cut-ends n [] t i h = absurd (true≢false (sym t))
 cut-ends n (c ∷ l) t i h = meeting-ends n c l (and-right (eqb c 0) (ascends n c l) t) i h
