@@ -1,0 +1,79 @@
+-- Tests in the order of the code, the lengths of tables, and the job of a refused opening.
+-- Assumes nothing.
+use mathlib.Core.Path.{_≡_, refl, sym, _∙_}
+use mathlib.Core.Bool.{Bool, true, false, not, cond, _&&_, and-assoc}
+use mathlib.Core.List.{List, [], _∷_, _++_}
+use Prim.Native.Nat.{ℕ, _*_, _^_, _≤_, _<_}
+use native.Mathlib.Nat.{mul-le-mul}
+use native.Mathlib.Omega.{arith}
+use lib.Dec.{eqb, leb}
+use borrow.Author.Tests.{eq-eqb, ne-eqb, le-leb, lt-leb, not-true, not-false}
+use Rattle.joiner.specs.Job.{Kind, Face, Curve, Point, Tray, fits}
+use Rattle.joiner.specs.Entries.{Fresh, nothing}
+use Rattle.job.specs.declared.Job.{Job}
+use Rattle.job.specs.Jobs.{byKind, jobOf, freshJob, NoJob}
+
+-- t is the value of the code's test, which is denied, b the test of the definition
+module _ (t b r c : Bool) where
+  pub and-here : t ≡ b → not t ≡ true → false ≡ (b && c)
+  and-here e p = rw (sym e ∙ not-true t p)
+
+  pub and-next : t ≡ b → not t ≡ false → r ≡ c → r ≡ (b && c)
+  and-next e p q = rw (sym e ∙ not-false t p) q
+
+-- one rung of a ladder of refusals
+module _ {A : Type 0} (t b : Bool) (r x y : A) where
+  pub cond-here : t ≡ b → t ≡ true → r ≡ x → r ≡ cond b x y
+  cond-here e p q = rw (sym e ∙ p) q
+
+  pub cond-next : t ≡ b → t ≡ false → r ≡ y → r ≡ cond b x y
+  cond-next e p q = rw (sym e ∙ p) q
+
+  -- .. where the code asks for what must be
+  pub cond-not-here : t ≡ b → not t ≡ true → r ≡ x → r ≡ cond (not b) x y
+  cond-not-here e p q = rw (sym e ∙ not-true t p) q
+
+  pub cond-not-next : t ≡ b → not t ≡ false → r ≡ y → r ≡ cond (not b) x y
+  cond-not-next e p q = rw (sym e ∙ not-false t p) q
+
+-- ---- the lengths of tables
+
+module _ (has states : ℕ) (ok : Bool) where
+  pub also-same : has ≡ states → ok ≡ (eqb has states && ok)
+  also-same e = rw (eq-eqb has states e)
+
+  pub also-other : (has ≡ states → ⊥) → false ≡ (eqb has states && ok)
+  also-other n = rw (ne-eqb has states n)
+
+pub fits-append : (a b : List Tray) → fits (a ++ b) ≡ (fits a && fits b)
+unfolding fits
+fits-append [] b = refl
+fits-append (t ∷ a) b = rw (fits-append a b) (sym (and-assoc (eqb (t .has) (t .states)) (fits a) (fits b)))
+
+pub places-high : (w n : ℕ) → w < 256 → n < 2 ^ 32 → w * n ≤ 255 * 4294967295
+places-high w n h k = mul-le-mul {n₂ = 255} {m₂ = 4294967295} (omega arith) (omega arith)
+
+-- ---- tallies
+
+module _ (entries tally more : ℕ) where
+  pub tally-within : tally ≤ entries → leb more tally ≡ (leb tally entries && leb more tally)
+  tally-within h = rw (le-leb tally entries h)
+
+  pub tally-beyond : entries < tally → false ≡ (leb tally entries && leb more tally)
+  tally-beyond h = rw (lt-leb tally entries h)
+
+-- ---- the job of a refused opening
+
+none-of : (κ : Kind) → _≡_ {A = ℕ} (byKind 0 0 0 κ) 0
+none-of Face = refl
+none-of Curve = refl
+none-of Point = refl
+
+-- a job that was just opened
+pub fresh-of : (nx ny nz faces curves points : ℕ) (cx cy cz : List ℕ) → Fresh (jobOf (freshJob nx ny nz faces curves points) cx cy cz)
+fresh-of nx ny nz faces curves points cx cy cz = record { stage = refl; sofar = none-of; numbered = none-of }
+
+pub empty-of : (r : Job) → r ≡ freshJob 0 0 0 0 0 0 → NoJob r
+unfolding nothing
+empty-of r e o t =
+    rw e (record { extents = refl; entries = none-of; fresh = record { stage = refl; sofar = none-of; numbered = none-of }; tables = refl })

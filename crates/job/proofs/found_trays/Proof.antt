@@ -1,0 +1,21 @@
+-- `job::found_trays` meets its contract.
+use borrow.Author.Needs.{needs}
+use Rattle.joiner.specs.Job.{fits}
+use Rattle.job.proofs.found_trays.Statement.{statement}
+use Rattle.job.proofs.found_trays.Tie as tie
+
+places-requires : tie.Need-places-requires
+places-requires c κs = search needs
+
+also-requires : tie.Need-also-requires
+also-requires c κs = search needs
+
+also-requires-2 : tie.Need-also-requires-2
+also-requires-2 c κs = search needs
+
+returns : tie.Need-returns
+unfolding fits
+returns c = cc
+
+pub found-trays-spec : {M : Type 1} → statement M
+found-trays-spec = tie.close (tie.spec places-requires also-requires also-requires-2 returns)

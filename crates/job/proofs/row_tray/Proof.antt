@@ -1,0 +1,18 @@
+-- `job::row_tray` meets its contract.
+use borrow.Author.Needs.{needs}
+use Rattle.joiner.specs.Job.{fits}
+use Rattle.job.proofs.row_tray.Statement.{statement}
+use Rattle.job.proofs.row_tray.Tie as tie
+
+places-requires : tie.Need-places-requires
+places-requires c κs = search needs
+
+also-requires : tie.Need-also-requires
+also-requires c κs = search needs
+
+returns : tie.Need-returns
+unfolding fits
+returns c = cc
+
+pub row-tray-spec : {M : Type 1} → statement M
+row-tray-spec = tie.close (tie.spec places-requires also-requires returns)

@@ -1,0 +1,38 @@
+-- `opening::open` meets its contract.
+use borrow.Author.Needs.{needs}
+use Rattle.opening.proofs.OpeningLaws.{open-refused, open-accepted}
+use Rattle.opening.proofs.open.Statement.{statement}
+use Rattle.opening.proofs.open.Tie as tie
+
+fresh-requires : tie.Need-fresh-requires
+fresh-requires c κs = search needs
+
+refusal-requires : tie.Need-refusal-requires
+refusal-requires c κs = search needs
+
+refuse-requires : tie.Need-refuse-requires
+refuse-requires c κs = search needs
+
+returns : tie.Need-returns
+returns c = open-refused _ _ _ _ _ _ _ _ _ _ _ _ (c .before .before .before .fresh .ensures) (c .before .before .refusal .ensures) (c .before .if1 .taken) (c .refuse .result) (c .refuse .ensures)
+
+accept-requires : tie.Need-accept-requires
+accept-requires c κs = search needs
+
+same-length : tie.Need-same-length
+same-length c = search needs
+
+returns-2 : tie.Need-returns-2
+returns-2 c = open-accepted _ _ _ _ _ _ _ _ _ _ _ _ (c .before .before .before .before .before .before .fresh .ensures) (c .before .before .before .before .before .refusal .ensures) (c .before .before .before .before .if1 .left) (c .before .before .accept .result) _ (c .before .before .accept .ensures)
+
+pub open-spec : {M : Type 1} → statement M
+open-spec =
+    tie.close
+    (tie.spec
+    fresh-requires
+    refusal-requires
+    refuse-requires
+    returns
+    accept-requires
+    same-length
+    returns-2)
