@@ -151,6 +151,11 @@ fn trial() -> String {
         text += &labelled(name, cutting.extents.map(|n| n as u16), &codes, &mut map, &mut work);
         text += &shown(name, &map);
     }
+    for (name, cuts) in [("cut 0 64", vec![0, 64]), ("cut 0 63 64", vec![0, 63, 64])] {
+        let refusal = Cutting { extents: [65, 1, 1], cuts: [cuts, vec![0], vec![0]] }.refusal();
+        text += &format!("{name} refusal {refusal}\n");
+        text += &shown(name, &[if refusal == 0 { 0 } else { 7 }; 12]);
+    }
     text
 }
 

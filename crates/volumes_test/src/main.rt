@@ -1,7 +1,8 @@
-// The volumes to try of document 01 that are not starred, and two more, as far as they can be tried without the joiner: the counts of
-// each on one line, its map on another. The cuts 0 64 and 0 63 64 on an axis of 65 belong to the joiner's opening and come with it.
+// The volumes to try of document 01 that are not starred, and two more, as far as they can be tried without the joiner's steps: the counts
+// of each on one line, its map on another; then the cuts of an axis of 65, with the refusal of an opening and the ticks that it leaves.
 use labeller::Labelled;
 use labeller::label;
+use opening::open;
 
 // Writes " WHAT NUMBER".
 fn tell(what: &[u8], number: u32) {
@@ -174,10 +175,65 @@ fn rings() {
     show(b"rings", &map);
 }
 
+// Opens a job for 65×1×1 voxels in tables without entries, whose two blocks have old ticks.
+fn open_cut(name: &[u8], cx: &[u32], one: &[u32], none: &[u32], no_keys: &[u64]) {
+    let mut ticks = [7u32; 12];
+    let numbers = [7u32; 10];
+    let r = open(
+        65,
+        1,
+        1,
+        cx,
+        one,
+        one,
+        0,
+        0,
+        0,
+        &mut ticks,
+        &numbers,
+        none,
+        none,
+        no_keys,
+        no_keys,
+        no_keys,
+        none,
+        none,
+        none,
+        none,
+        none,
+        none,
+        no_keys,
+        no_keys,
+        no_keys,
+        none,
+        none,
+        none,
+    );
+    io::write_all(1, name);
+    tell(b"refusal", r.refusal);
+    io::write_all(1, b"\n");
+    show(name, &ticks);
+}
+
+fn cuts() {
+    let one = [0u32; 1];
+    let numbers = [0u32; 1];
+    let keys = [0u64; 1];
+    open_cut(b"cut 0 64", &[0, 64], &one, &numbers[..0], &keys[..0]);
+    open_cut(
+        b"cut 0 63 64",
+        &[0, 63, 64],
+        &one,
+        &numbers[..0],
+        &keys[..0],
+    );
+}
+
 fn main() {
     longest();
     too_long();
     figure();
     handle();
     rings();
+    cuts();
 }
