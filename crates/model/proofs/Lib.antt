@@ -1,0 +1,8 @@
+-- The laws of the model.
+pub mod Merging
+pub mod Edges
+pub mod Numbers
+pub mod Facts
+pub mod Steps
+pub mod Runs
+pub mod Examples

@@ -1,0 +1,4 @@
+-- The two volumes, computed.
+pub mod Images
+pub mod Rings
+pub mod Handle

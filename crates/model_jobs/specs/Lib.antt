@@ -1,0 +1,2 @@
+-- The volumes.
+pub mod Large
