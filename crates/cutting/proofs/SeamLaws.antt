@@ -59,7 +59,7 @@ near n c t i j x hi hj u v =
 -- ---- three axes
 
 -- a block and the next one along an axis are a seam
-seam-raised : (k : Cutting) (b c : ℕ) (a : Axis) → b < blocks k → c < blocks k → ((d : Axis) → interval k c d ≡ coord (raised a (place (blockSides k) b)) d) → seam k b c ≡ true
+pub seam-raised : (k : Cutting) (b c : ℕ) (a : Axis) → b < blocks k → c < blocks k → ((d : Axis) → interval k c d ≡ coord (raised a (place (blockSides k) b)) d) → seam k b c ≡ true
 unfolding seam follows level interval raised
 seam-raised k b c a hb hc h = and-both (ltb b (blocks k) && ltb c (blocks k)) _ (and-both (ltb b (blocks k)) (ltb c (blocks k)) (lt-ltb b (blocks k) hb) (lt-ltb c (blocks k) hc)) (go a h)
   where

@@ -89,7 +89,7 @@ some-same f l m g h =
 -- ---- the two blocks of a seam
 
 -- 1 along the axis, 0 along the others
-abbrev stepOn : Axis → Axis → ℕ
+abbrev pub stepOn : Axis → Axis → ℕ
 stepOn X X = 1
 stepOn X Y = 0
 stepOn X Z = 0
