@@ -4,16 +4,18 @@ use Prim.Native.Nat.{ℕ, zero, suc, _+_, _-_, _*_, _≤_, _<_}
 use mathlib.Core.Path.{_≡_, refl, sym, ap, _∙_}
 use mathlib.Core.Logic.{_≢_}
 use mathlib.Core.Bool.{Bool, true, false, cond, not, _||_}
-use mathlib.Core.List.{List, [], _++_}
+use mathlib.Core.List.{List, []}
+use native.Mathlib.Numerals.{add-one}
 use native.Mathlib.Nat.{zero-mul, mul-one, sub-zero, mul-le-mul-right}
 use native.Mathlib.Omega.{arith}
 use lib.Dec.{eqb, leb}
-use lib.ListN.{length, drop}
-use lib.Seq.{drop-append-add, drop-drop}
+use lib.ListN.{length, set}
+use lib.Seq.{take-all, take-suc-set}
 use borrow.Author.Tests.{eqb-true, eq-eqb, ne-eqb, leb-true, le-leb, lt-leb, not-false}
 use Rattle.lists.proofs.Cases.{neither}
 use Rattle.lists.specs.Lists.{consecutive, keep, tabulate}
-use Rattle.lists.proofs.Lists.{keep-append, length-tabulate}
+use Rattle.lists.proofs.Lists.{keep-append, tabulate-snoc}
+use Rattle.closure.specs.Numbered.{countBelow}
 use Rattle.refusals.specs.Refusals.{off-size, wrong-tray, bad-record, number, table, first, lowest}
 use Rattle.refusals.proofs.RefusalLaws.{lowest-none}
 use Rattle.cells.specs.Box.{Triple, triple}
@@ -29,7 +31,7 @@ use Rattle.records.specs.Record.{extentsOf, originOf, bitAt, standing, bitmapLe
 use Rattle.records.proofs.BitLaws.{standing-more, some-append, some-none}
 use Rattle.records.proofs.ReadLaws.{standing-mono}
 use Rattle.reader.specs.declared.Head.{Head}
-use Rattle.reader.specs.Parts.{Mapped, numberAt}
+use Rattle.reader.specs.Parts.{Mapped, ReadTo, numberAt}
 use Rattle.reader.specs.Reading.{headed, declines, refusalOf, outcome, headOf, accepted, refused, reading}
 
 -- ---- tests
@@ -45,21 +47,6 @@ or-next t b d e h q = rw (sym e ∙ h) q
 pub none-left : (i n : ℕ) → n ≤ i → consecutive i (n - i) ≡ []
 unfolding consecutive
 none-left i n h = let e : n - i ≡ 0 = omega arith in rw e
-
--- ---- fronts
-
--- A front that is written over a front: what is left, and the whole, at its end and at its start.
-front-drop : (d : List ℕ) (f : ℕ → ℕ) (c k : ℕ) → c ≤ k → drop k (tabulate c f ++ drop c d) ≡ drop k d
-front-drop d f c k h =
-    let e : k ≡ length (tabulate c f) + (k - c) = omega (arith, length-tabulate c f) in
-    let g : c + (k - c) ≡ k = omega arith in
-    ap (λ j. drop j (tabulate c f ++ drop c d)) e ∙ drop-append-add (tabulate c f) (drop c d) (k - c) ∙ drop-drop (k - c) c d ∙ ap (λ j. drop j d) g
-
-pub front-on : {m l : List ℕ} (d : List ℕ) (f : ℕ → ℕ) (c k : ℕ) → m ≡ tabulate c f ++ drop c d → c ≤ k → l ≡ tabulate k f ++ drop k m → l ≡ tabulate k f ++ drop k d
-front-on d f c k e h q = q ∙ ap (λ x. tabulate k f ++ x) (ap (drop k) e ∙ front-drop d f c k h)
-
-pub front-same : {m : List ℕ} (d : List ℕ) (f : ℕ → ℕ) (c : ℕ) → m ≡ tabulate c f ++ drop c d → m ≡ tabulate c f ++ drop c m
-front-same d f c e = e ∙ ap (λ x. tabulate c f ++ x) (sym (ap (drop c) e ∙ front-drop d f c c (omega arith)))
 
 -- ---- voxels
 
@@ -119,6 +106,23 @@ number-is n r c b p e f = rw (e, f)
 pub listed-room : (n : ℕ) (r : List ℕ) (c : ℕ) → length r ≡ lengthOf n r → c < n → bitAt r c ≡ 1 → 12 + bitmapLength n + 4 * standing r c + 4 ≤ length r
 unfolding lengthOf
 listed-room n r c e h b = omega (arith, standing-more r c, standing-mono r (c + 1) n (omega arith))
+
+-- ---- the cells read so far: none, one more, all
+
+module _ (n : ℕ) (r m : List ℕ) where
+  pub read-none : ReadTo r n 0 (12 + bitmapLength n) m
+  unfolding standing countBelow tabulate consecutive
+  read-none = record { place = omega arith; front = refl }
+
+  pub read-more : {c p b v : ℕ} → ReadTo r n c p m → c < length m → b ≡ bitAt r c → v ≡ numberAt r b p → ReadTo r n (c + 1) (p + 4 * b) (set m c v)
+  read-more {c} {p} {b} {v} R h e q = record {
+    place = omega (arith, R .place, e, standing-more r c);
+    front = rw (add-one c, tabulate-snoc c (numberOf n r), ← R .front, ← number-is n r c b p e (R .place), ← q) (take-suc-set m c v h);
+  }
+
+  pub read-all : {c p : ℕ} → ReadTo r n c p m → c ≡ n → length m ≡ n → m ≡ decode n r
+  unfolding decode
+  read-all R e h = sym (take-all n m (omega arith)) ∙ rw e at (R .front)
 
 -- ---- damage
 

@@ -16,7 +16,7 @@ ghost use Rattle.labels.specs.Components.{ofOrder};
 ghost use Rattle.lines.specs.Lines.{lineCount};
 ghost use Rattle.records.specs.Fields.{field};
 ghost use Rattle.records.specs.Record.{extentsOf, originOf, bitAt, standing, some, bitmapLength, lengthOf, decode, damaged};
-ghost use Rattle.reader.specs.Parts.{Mapped, ones, numberAt};
+ghost use Rattle.reader.specs.Parts.{Mapped, ReadTo, ones, numberAt};
 ghost use Rattle.reader.specs.Reading.{refusalOf, outcome, headOf, reading};
 
 // What a reading answers: the number of its refusal, 0 for none, and the extents and the origin of the block.
@@ -71,18 +71,27 @@ fn ones(b: u8) -> usize
         + b / 128 % 2) as usize
 }
 
-// How many bits of n cells stand: those of the whole bytes, then the rest.
-fn standing_bits(bytes: &[u8], n: usize) -> usize
-    requires { ⌜ Mapped (now bytes) n ⌝ }
-    ensures { λ r. ⌜ r ≡ standing (now (bytes .entry)) n ⌝ }
+// How many bits of the first `whole` bytes stand.
+fn whole_bits(bytes: &[u8], whole: usize) -> usize
+    requires { ⌜ Mapped (now bytes) (8 * whole) ⌝ }
+    ensures { λ r. ⌜ r ≡ standing (now (bytes .entry)) (8 * whole) ⌝ }
 {
-    let whole = n / 8;
     let mut count: usize = 0;
     let mut i: usize = 0;
     while i < whole {
         count += ones(bytes[12 + i]);
         i += 1;
     }
+    count
+}
+
+// How many bits of n cells stand: those of the whole bytes, then the rest.
+fn standing_bits(bytes: &[u8], n: usize) -> usize
+    requires { ⌜ Mapped (now bytes) n ⌝ }
+    ensures { λ r. ⌜ r ≡ standing (now (bytes .entry)) n ⌝ }
+{
+    let whole = n / 8;
+    let mut count = whole_bits(bytes, whole);
     let mut c = 8 * whole;
     while c < n {
         count += bit_at(bytes, c) as usize;
@@ -236,7 +245,24 @@ fn number_at(bytes: &[u8], b: u8, at: usize) -> u32
     four(bytes, at * (b as usize)) * (b as u32)
 }
 
-// Reads the numbers of all cells.
+// Reads the numbers of the first `count` cells of byte i, listed from place at on, and answers the place after them.
+fn load_byte(bytes: &[u8], i: usize, count: usize, at: usize, map: &mut [u32]) -> usize
+    requires { ⌜ Mapped (now bytes) (length (now map)) × (length (now bytes) ≡ lengthOf (length (now map)) (now bytes)) × (0 < count) × (count ≤ 8) × (8 * i + count ≤ length (now map)) × ReadTo (now bytes) (length (now map)) (8 * i) at (now map) ⌝ }
+    ensures { λ r. ⌜ ReadTo (now (bytes .entry)) (length (now (map .entry))) (8 * i + count) r (now (map .exit)) ⌝ }
+{
+    let byte = bytes[12 + i];
+    let mut next = at;
+    let mut k: usize = 0;
+    while k < count {
+        let b = (byte >> k) % 2;
+        map[8 * i + k] = number_at(bytes, b, next);
+        next += 4 * (b as usize);
+        k += 1;
+    }
+    next
+}
+
+// Reads the numbers of all cells: those of the whole bytes, then the rest.
 fn load(bytes: &[u8], map: &mut [u32])
     requires { ⌜ Mapped (now bytes) (length (now map)) × (length (now bytes) ≡ lengthOf (length (now map)) (now bytes)) ⌝ }
     ensures { λ _. ⌜ now (map .exit) ≡ decode (length (now (map .entry))) (now (bytes .entry)) ⌝ }
@@ -246,22 +272,11 @@ fn load(bytes: &[u8], map: &mut [u32])
     let whole = n / 8;
     let mut i: usize = 0;
     while i < whole {
-        let byte = bytes[12 + i];
-        let mut k: usize = 0;
-        while k < 8 {
-            let b = (byte >> k) % 2;
-            map[8 * i + k] = number_at(bytes, b, at);
-            at += 4 * (b as usize);
-            k += 1;
-        }
+        at = load_byte(bytes, i, 8, at, map);
         i += 1;
     }
-    let mut c = 8 * whole;
-    while c < n {
-        let b = bit_at(bytes, c);
-        map[c] = number_at(bytes, b, at);
-        at += 4 * (b as usize);
-        c += 1;
+    if n % 8 != 0 {
+        load_byte(bytes, whole, n % 8, at, map);
     }
 }
 
