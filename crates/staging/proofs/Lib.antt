@@ -1,0 +1,2 @@
+-- The laws that callers cite, and those of this crate's own proofs.
+pub mod StagingLaws
