@@ -89,7 +89,7 @@ pub fn good_cut(nx: u32, ny: u32, nz: u32, cx: &[u32], cy: &[u32], cz: &[u32]) -
     few(intervals(cx), intervals(cy), intervals(cz))
 }
 
-// How many blocks there are.
+// How many blocks there are. Not an entry.
 pub fn block_count(cx: &[u32], cy: &[u32], cz: &[u32]) -> usize
     requires { ⌜ intervals (now cx) * intervals (now cy) * intervals (now cz) ≤ 16384 ⌝ }
     ensures { λ r. ⌜ anyExtents (now (cx .entry)) (now (cy .entry)) (now (cz .entry)) (λ k. r ≡ blocks k) ⌝ }
@@ -290,7 +290,7 @@ fn position(w: usize, h: usize, i: usize, j: usize, k: usize) -> usize
     i + j * w + k * (w * h)
 }
 
-// The position in the block of that cell.
+// The position in the block of that cell. Not an entry.
 pub fn local(block: Block, x: u64, y: u64, z: u64) -> usize
     requires { ⌜ (hasIn block (triple x y z) ≡ true) × Sized 64 (sizeOf block) ⌝ }
     ensures { λ r. ⌜ r ≡ localIn block (triple x y z) ⌝ }
@@ -301,7 +301,7 @@ pub fn local(block: Block, x: u64, y: u64, z: u64) -> usize
     position(2 * block.nx - 1, 2 * block.ny - 1, i, j, k)
 }
 
-// The position in the volume of the cell at a place of the block.
+// The position in the volume of the cell at a place of the block. Not an entry.
 pub fn embed(nx: u32, ny: u32, nz: u32, block: Block, x: usize, y: usize, z: usize) -> u64
     requires { ⌜ Sized 1024 (triple nx ny nz) × ((a : Axis) → coord (shiftIn block (triple x y z)) a < coord (sides (triple nx ny nz)) a) ⌝ }
     ensures { λ r. ⌜ r ≡ embedIn (triple nx ny nz) block (triple x y z) ⌝ }

@@ -130,7 +130,7 @@ fn places(width: u8, entries: u32) -> u64
     (width as u64) * (entries as u64)
 }
 
-// The lengths of the tables of blocks: six ticks and five numbers for each.
+// The lengths of the tables of blocks: six ticks and five numbers for each. Not an entry.
 pub fn block_trays(blocks: usize, ticks: usize, numbers: usize) -> bool
     requires { ⌜ blocks ≤ 16384 ⌝ }
     ensures { λ r. ⌜ r ≡ fits (blockLengths blocks ticks numbers) ⌝ }

@@ -170,7 +170,7 @@ fn from_last(last: bool, n: u32) -> u32
     0
 }
 
-// The last layer across an axis of a block of so many voxels, or the first.
+// The last layer across an axis of a block of so many voxels, or the first. Not an entry.
 pub fn layer_of(nx: usize, ny: usize, nz: usize, axis: u32, last: bool) -> Layer
     requires { ⌜ Sized 64 (triple nx ny nz) ⌝ }
     ensures { λ l. ⌜ LayerOf (triple nx ny nz) (axisOf axis) last l ⌝ }
@@ -200,7 +200,7 @@ pub fn layer_of(nx: usize, ny: usize, nz: usize, axis: u32, last: bool) -> Layer
     }
 }
 
-// The columns and rows of that layer.
+// The columns and rows of that layer. Not entries.
 pub fn columns_of(nx: usize, ny: usize, nz: usize, axis: u32) -> u16
     requires { ⌜ Sized 64 (triple nx ny nz) ⌝ }
     ensures { λ n. ⌜ n ≡ columnsOf (sides (triple nx ny nz)) (axisOf axis) ⌝ }

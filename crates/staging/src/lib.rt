@@ -83,7 +83,7 @@ fn seams_ticked(ticks: &[u32], cx: &[u32], cy: &[u32], cz: &[u32], blocks: usize
     true
 }
 
-// Whether every step of a stage is ticked. A closed job has none.
+// Whether every step of a stage is ticked. A closed job has none. Not an entry.
 pub fn finished(stage: Stage, ticks: &[u32], cx: &[u32], cy: &[u32], cz: &[u32]) -> bool
     requires { ⌜ intervals (now cx) * intervals (now cy) * intervals (now cz) ≤ 16384 ⌝ }
     ensures { λ r. ⌜ anyExtents (now (cx .entry)) (now (cy .entry)) (now (cz .entry)) (λ k. r ≡ finished k (tickedIn (now (ticks .entry))) (stageOf stage)) ⌝ }
@@ -123,7 +123,7 @@ fn after(stage: Stage, cx: &[u32], cy: &[u32], cz: &[u32]) -> Stage
     }
 }
 
-// The stage after a step was ticked.
+// The stage after a step was ticked. Not an entry.
 pub fn next_stage(stage: Stage, ticks: &[u32], cx: &[u32], cy: &[u32], cz: &[u32]) -> Stage
     requires { ⌜ intervals (now cx) * intervals (now cy) * intervals (now cz) ≤ 16384 ⌝ }
     ensures { λ r. ⌜ anyExtents (now (cx .entry)) (now (cy .entry)) (now (cz .entry)) (λ k. stageOf r ≡ nextAfter k (tickedIn (now (ticks .entry))) (stageOf stage)) ⌝ }
