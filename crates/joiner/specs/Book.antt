@@ -27,6 +27,7 @@ pub record Book : Type 0 where
   pub maps : ℕ → List ℕ
   pub sofar : Kind → ℕ
 
+-- ".. at first 0": the book when the job is opened.
 unfoldable pub begun : Told → Book
 begun o = record { told = o; stage = Enrol; done = []; maps = λ b. []; sofar = λ κ. 0 }
 
@@ -34,6 +35,7 @@ begun o = record { told = o; stage = Enrol; done = []; maps = λ b. []; sofar = 
 unfoldable pub uncut : Book → List ℕ
 uncut B = labels (B .told .cutting .extents) (codesOf (B .told .cutting) (B .maps))
 
+-- How many faces, curves or points the uncut volume has.
 unfoldable pub uncutCount : Book → Kind → ℕ
 uncutCount B κ = largest (B .told .cutting .extents) (uncut B) (orderOf κ)
 
@@ -85,6 +87,7 @@ isEarly layers-differ = false
 isEarly table-full = false
 isEarly bad-record = false
 
+-- The lowest of these that stands, 0 for none.
 unfoldable pub bookEarly : Book → Call → ℕ
 bookEarly B c = lowest (λ r. isEarly r && bookDeclines B c r)
 
@@ -92,6 +95,7 @@ bookEarly B c = lowest (λ r. isEarly r && bookDeclines B c r)
 unfoldable pub voxelCodes : Triple → List ℕ → List ℕ
 voxelCodes e m = tabulate (volume e) (λ v. getD m (voxelCell e v) 0)
 
+-- .. whether m is one.
 unfoldable pub labelled : Triple → List ℕ → Bool
 labelled e m = not (blank (voxelCodes e m)) && sameRow m (labels e (voxelCodes e m))
 
@@ -119,6 +123,7 @@ entered B step maps more =
       sofar = λ κ. B .sofar κ + more κ;
     }
 
+-- The book after an accepted call.
 unfoldable pub bookAfter : Book → Call → Book
 bookAfter B (enrol b m) = entered B (enrolStep b) (λ c. cond (eqb c b) m (B .maps c)) (bookAdds B (enrol b m))
 bookAfter B (join b c m n) = entered B (seamStep (B .told .cutting) (edge b c)) (B .maps) (bookAdds B (join b c m n))

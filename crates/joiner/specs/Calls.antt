@@ -13,6 +13,7 @@ use Rattle.cutting.specs.Cutting.{Cutting, blocks, blockExtents, seam}
 use Rattle.joiner.specs.Job.{Kind, Face, Curve, Point, Stage, Enrol, Seam, Crossing, Points, Closed}
 use Rattle.joiner.specs.Stages.{hasCell, shared, enrolStep, seamStep, crossingStep, pointStep}
 
+-- The calls after an opening: four steps, and two readings of a closed job.
 pub data Call : Type 0 where
   -- the steps: a block and its map; a seam, of both
   enrol : ℕ → List ℕ → Call
@@ -29,6 +30,7 @@ pub record Answer : Type 0 where
   pub value : ℕ
   pub part : List ℕ
 
+-- An answer by its fields.
 abbrev pub answer : ℕ → ℕ → List ℕ → Answer
 answer n v p = record { refusal = n; value = v; part = p }
 
@@ -74,6 +76,7 @@ differs e m n d =
     cond (eqb (order e (d .from)) 3) (not (eqb (getD m (d .from) 0) (getD n (d .to) 0)))
     (not (eqb (cond (eqb (getD m (d .from) 0) 0) 0 1) (cond (eqb (getD n (d .to) 0) 0) 0 1)))
 
+-- .. in some cell that both blocks of the seam have.
 abbrev pub layersDiffer : Cutting → Call → Bool
 layersDiffer k (enrol b m) = false
 layersDiffer k (join b c m n) = someOf (differs (blockExtents k b) m n) (shared k b c)
@@ -86,5 +89,6 @@ layersDiffer k (reading κ n) = false
 unfoldable pub overfull : (Kind → ℕ) → (Kind → ℕ) → (Kind → ℕ) → Kind → Bool
 overfull entries sofar more κ = ltb (entries κ) (sofar κ + more κ)
 
+-- .. for some kind.
 unfoldable pub full : (Kind → ℕ) → (Kind → ℕ) → (Kind → ℕ) → Bool
 full entries sofar more = overfull entries sofar more Face || (overfull entries sofar more Curve || overfull entries sofar more Point)

@@ -19,6 +19,7 @@ use Rattle.joiner.specs.Calls.{Call, enrol, join, cross, point, look, re
 
 -- ---- 6: the tables that a call is lent
 
+-- Each call is lent the tables that it reads or writes, and no other.
 abbrev pub lentTo : Told → Tables → Call → List Tray
 lentTo o t (enrol b m) = blockTrays o t ++ linkTrays o t ++ foundTrays o t Face ++ foundTrays o t Curve
 lentTo o t (join b c m n) = blockTrays o t ++ linkTrays o t
@@ -33,6 +34,7 @@ lentTo o t (reading κ n) = listedTrays o t Face ++ listedTrays o t Curve ++ lis
 unfoldable pub tallyFits : Job → Kind → Bool
 tallyFits j κ = leb (j .sofar κ) (j .told .entries κ) && leb (j .numbered κ) (j .sofar κ)
 
+-- .. for no kind.
 unfoldable pub talliesFit : Job → Bool
 talliesFit j = tallyFits j Face && (tallyFits j Curve && tallyFits j Point)
 
@@ -48,6 +50,7 @@ counted t e b m κ = leb (largest e m (orderOf κ)) (countOf t κ b)
 unfoldable pub standing : State → ℕ → Kind → Bool
 standing s b κ = leb (fromOf (s .tables) κ b + countOf (s .tables) κ b) (s .job .sofar κ)
 
+-- .. all of this for the map m of block b, of e voxels.
 unfoldable pub mapStands : State → Triple → ℕ → List ℕ → Bool
 mapStands s e b m =
     filled e m && (counted (s .tables) e b m Face && (counted (s .tables) e b m Curve && (counted (s .tables) e b m Point && (standing s b Face && standing s b Curve))))
@@ -56,9 +59,11 @@ mapStands s e b m =
 unfoldable pub rowsStand : State → Bool
 rowsStand s = allOf (λ i. leb (getD (s .tables .rows Curve) i 0) (s .job .sofar Face)) (consecutive 0 (4 * s .job .sofar Curve))
 
+-- With the crossing of block b all are done.
 unfoldable pub lastCrossing : State → ℕ → Bool
 lastCrossing s b = finished (s .job .told .cutting) (λ i. eqb (crossingStep b) i || ticked (s .tables) i) Crossing
 
+-- The maps and entries that a call reads are no stray ones.
 abbrev pub standsFor : State → Call → Bool
 standsFor s (enrol b m) = filled (blockExtents (s .job .told .cutting) b) m
 standsFor s (join b c m n) = mapStands s (blockExtents (s .job .told .cutting) b) b m && mapStands s (blockExtents (s .job .told .cutting) c) c n
@@ -67,6 +72,7 @@ standsFor s (point b m) = mapStands s (blockExtents (s .job .told .cutting) b) b
 standsFor s (look b m c) = mapStands s (blockExtents (s .job .told .cutting) b) b m
 standsFor s (reading κ n) = true
 
+-- 8: a tally, a map or an entry read is a stray one.
 unfoldable pub stray : State → Call → Bool
 stray s c = not (talliesFit (s .job) && standsFor s c)
 

@@ -25,6 +25,7 @@ use Rattle.joiner.specs.Declines.{finalOf, finalRow, pointCells, adds, r
 
 -- ---- opening
 
+-- The opening is lent every table.
 unfoldable pub allTrays : Told → Tables → List Tray
 allTrays o t = blockTrays o t ++ linkTrays o t ++ kindTrays o t Face ++ kindTrays o t Curve ++ kindTrays o t Point
 
@@ -42,6 +43,7 @@ openDeclines o t layers-differ = false
 openDeclines o t table-full = false
 openDeclines o t bad-record = false
 
+-- The lowest that stands, 0 for none.
 unfoldable pub openRefusal : Told → Tables → ℕ
 openRefusal o t = lowest (openDeclines o t)
 
@@ -114,6 +116,7 @@ pub record AtSeam (k : Cutting) (t : Tables) (κ : Kind) (b c : ℕ) (m n : List
 unfoldable pub through : Tables → ℕ → ℕ → ℕ
 through t b n = cond (eqb n 0) 0 (suc (root (t .links Face) (node t Face b n)))
 
+-- The row of cell p, read so.
 unfoldable pub joinedRow : Cutting → Tables → ℕ → List ℕ → ℕ → List ℕ
 joinedRow k t b m p = rowOf (map (λ q. through t b (getD m q 0)) (up (blockExtents k b) p))
 
@@ -133,6 +136,7 @@ pub record AtCrossing (k : Cutting) (t : Tables) (b : ℕ) (m : List ℕ) (x y :
 
 -- ---- what every accepted step does: it is ticked, the stage moved, the tallies added to
 
+-- The step is ticked, the stage moved on if it was the last, and what the step adds is added.
 pub record Ticked (s t : State) (c : Call) (step : ℕ) : Type 0 where
   pub told : t .job .told ≡ s .job .told
   pub ticks : t .tables .ticks ≡ set (s .tables .ticks) step 1
@@ -144,6 +148,7 @@ pub record KeptFound (s t : State) (κ : Kind) : Type 0 where
   pub keys : t .tables .keys κ ≡ s .tables .keys κ
   pub rows : t .tables .rows κ ≡ s .tables .rows κ
 
+-- .. its numbers and its closed tables.
 pub record KeptNumbers (s t : State) (κ : Kind) : Type 0 where
   pub numbered : t .job .numbered κ ≡ s .job .numbered κ
   pub numbers : t .tables .numbers κ ≡ s .tables .numbers κ
@@ -157,6 +162,7 @@ unfoldable pub firstOf : Cutting → ℕ → List ℕ → ℕ
 firstOf k b [] = 0
 firstOf k b (p ∷ ps) = embed k b p
 
+-- Number n's first position and block, as a key.
 unfoldable pub enrolledKey : Cutting → ℕ → List ℕ → Kind → ℕ → ℕ
 enrolledKey k b m κ n = keyOf (firstOf k b (component (blockExtents k b) m (orderOf κ) n)) b
 
@@ -166,6 +172,7 @@ shifted from Face x = x
 shifted from Curve x = cond (eqb x 0) 0 (from + x)
 shifted from Point x = x
 
+-- .. out of the row of its first cell.
 unfoldable pub enrolledRow : Cutting → ℕ → ℕ → List ℕ → Kind → ℕ → ℕ → ℕ
 enrolledRow k from b m κ n i = shifted from κ (getD (componentRow (blockExtents k b) m (orderOf κ) n) i 0)
 
@@ -184,6 +191,7 @@ blockEntry s b m i =
     getD (largest (blockExtents (s .job .told .cutting) b) m 2 ∷ largest (blockExtents (s .job .told .cutting) b) m 1 ∷
     largest (blockExtents (s .job .told .cutting) b) m 0 ∷ s .job .sofar Face ∷ s .job .sofar Curve ∷ []) i 0
 
+-- "Enrol": the block's numbers and components are written, and nothing else.
 pub record EnrolDone (s : State) (b : ℕ) (m : List ℕ) (t : State) : Type 0 where
   pub step : Ticked s t (enrol b m) (enrolStep b)
   pub blocks : t .tables .blocks ≡ overlay (s .tables .blocks) (5 * b) (blockEntry s b m) 5
@@ -194,6 +202,7 @@ pub record EnrolDone (s : State) (b : ℕ) (m : List ℕ) (t : State) : Type 0 w
 
 -- ---- seam
 
+-- "Seam": faces and curves seen from both blocks are joined, and nothing else changes.
 pub record SeamDone (s : State) (b c : ℕ) (m n : List ℕ) (t : State) : Type 0 where
   pub step : Ticked s t (join b c m n) (seamStep (s .job .told .cutting) (edge b c))
   pub blocks : t .tables .blocks ≡ s .tables .blocks
@@ -214,6 +223,7 @@ classOf t Face x = root (t .links Face) x
 classOf t Curve x = root (t .links Curve) x
 classOf t Point x = x
 
+-- x and y belong to one component.
 unfoldable pub isOne : Tables → Kind → ℕ → ℕ → Bool
 isOne t κ x y = eqb (classOf t κ x) (classOf t κ y)
 
@@ -237,9 +247,11 @@ headOf t κ n i = getD (keep (λ x. eqb (rank t κ n x) i) (heads t κ n)) 0 0
 unfoldable pub rowAt : Tables → Kind → ℕ → List ℕ
 rowAt t κ x = tabulate (width κ) (λ i. getD (t .rows κ) (width κ * x + i) 0)
 
+-- A face in a curve's row, by its final number.
 unfoldable pub finalFace : Tables → ℕ → ℕ
 finalFace t f = cond (eqb f 0) 0 (getD (t .numbers Face) (f - 1) 0)
 
+-- The row that the closed table gets.
 unfoldable pub rowFinal : Tables → Kind → ℕ → List ℕ
 rowFinal t Face x = rowAt t Face x
 rowFinal t Curve x = padTo 4 (sort (keep (λ n. not (eqb n 0)) (map (finalFace t) (rowAt t Curve x))))
@@ -257,6 +269,7 @@ pub record NumberedKind (s t : State) (κ : Kind) (n : ℕ) : Type 0 where
 
 -- ---- crossing
 
+-- "Crossing": curves are joined at point cells; the last one numbers faces and curves. Links of faces keep their classes.
 pub record CrossingDone (s : State) (b : ℕ) (m : List ℕ) (t : State) : Type 0 where
   pub step : Ticked s t (cross b m) (crossingStep b)
   pub blocks : t .tables .blocks ≡ s .tables .blocks
@@ -270,6 +283,7 @@ pub record CrossingDone (s : State) (b : ℕ) (m : List ℕ) (t : State) : Type 
 
 -- ---- point
 
+-- "Point": the points found are added; the last one numbers them and closes the job.
 pub record PointDone (s : State) (b : ℕ) (m : List ℕ) (t : State) : Type 0 where
   pub step : Ticked s t (point b m) (pointStep b)
   pub blocks : t .tables .blocks ≡ s .tables .blocks
@@ -309,6 +323,7 @@ cellNumber k t points b m c p =
     (cond (eqb (order (blockExtents k b) p) 2) (finalOf t Face b (getD m p 0))
     (cond (eqb (order (blockExtents k b) p) 1) (finalOf t Curve b (getD m p 0)) (pointNumber (t .firsts Point) points (index (sides (k .extents)) c))))
 
+-- What a look gives: the cell by its position in the block.
 unfoldable pub lookedUp : State → ℕ → List ℕ → Triple → ℕ
 lookedUp s b m c = cellNumber (s .job .told .cutting) (s .tables) (s .job .numbered Point) b m c (local (s .job .told .cutting) b c)
 

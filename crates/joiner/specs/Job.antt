@@ -27,6 +27,7 @@ width Point = 6
 pub data Stage : Type 0 where
   Enrol Seam Crossing Points Closed : Stage
 
+-- A stage by number, and whether two are one.
 unfoldable pub stageNumber : Stage → ℕ
 stageNumber Enrol = 0
 stageNumber Seam = 1
@@ -69,6 +70,7 @@ pub record Tables : Type 0 where
   pub firsts : Kind → List ℕ
   pub listed : Kind → List ℕ
 
+-- The job and its tables, as a call finds or leaves them.
 pub record State : Type 0 where
   pub job : Job
   pub tables : Tables
@@ -87,6 +89,7 @@ column Point = 2
 unfoldable pub countOf : Tables → Kind → ℕ → ℕ
 countOf t κ b = getD (t .blocks) (5 * b + column κ) 0
 
+-- .. and the place of its first face or curve (none for points).
 unfoldable pub fromOf : Tables → Kind → ℕ → ℕ
 fromOf t κ b = getD (t .blocks) (5 * b + (3 + column κ)) 0
 
@@ -107,28 +110,36 @@ pub record Tray : Type 0 where
   pub has : ℕ
   pub states : ℕ
 
+-- The two lengths together.
 abbrev pub tray : ℕ → ℕ → Tray
 tray n m = record { has = n; states = m }
 
+-- 6 denies it: every table has its stated length.
 unfoldable pub fits : List Tray → Bool
 fits [] = true
 fits (t ∷ ts) = eqb (t .has) (t .states) && fits ts
 
+-- The tables of blocks: six ticks and five numbers for each.
 unfoldable pub blockTrays : Told → Tables → List Tray
 blockTrays o t = tray (length (t .ticks)) (6 * blocks (o .cutting)) ∷ tray (length (t .blocks)) (5 * blocks (o .cutting)) ∷ []
 
+-- The links of faces and curves: one for each entry.
 unfoldable pub linkTrays : Told → Tables → List Tray
 linkTrays o t = tray (length (t .links Face)) (o .entries Face) ∷ tray (length (t .links Curve)) (o .entries Curve) ∷ []
 
+-- Keys and rows of what is enrolled or found.
 unfoldable pub foundTrays : Told → Tables → Kind → List Tray
 foundTrays o t κ = tray (length (t .keys κ)) (o .entries κ) ∷ tray (length (t .rows κ)) (width κ * o .entries κ) ∷ []
 
+-- Final numbers.
 unfoldable pub numberTrays : Told → Tables → Kind → List Tray
 numberTrays o t κ = tray (length (t .numbers κ)) (o .entries κ) ∷ []
 
+-- The closed table of first positions.
 unfoldable pub firstTrays : Told → Tables → Kind → List Tray
 firstTrays o t κ = tray (length (t .firsts κ)) (o .entries κ) ∷ []
 
+-- The closed table of rows.
 unfoldable pub listedTrays : Told → Tables → Kind → List Tray
 listedTrays o t κ = tray (length (t .listed κ)) (width κ * o .entries κ) ∷ []
 

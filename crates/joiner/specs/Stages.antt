@@ -16,9 +16,11 @@ use Rattle.joiner.specs.Job.{Stage, Enrol, Seam, Crossing, Points, Close
 unfoldable pub hasOn : Cutting → ℕ → Triple → Axis → Bool
 hasOn k b c a = leb (2 * coord (origin k b) a) (coord c a) && ltb (coord c a) (2 * coord (origin k b) a + coord (sides (blockExtents k b)) a)
 
+-- .. on every axis.
 unfoldable pub hasCell : Cutting → ℕ → Triple → Bool
 hasCell k b c = hasOn k b c X && (hasOn k b c Y && hasOn k b c Z)
 
+-- Its position in the block.
 unfoldable pub local : Cutting → ℕ → Triple → ℕ
 local k b c = index (sides (blockExtents k b)) (each (λ a. coord c a - 2 * coord (origin k b) a))
 
@@ -27,6 +29,7 @@ unfoldable pub products : List ℕ → List ℕ → List Edge
 products [] ys = []
 products (x ∷ xs) ys = map (edge x) ys ++ products xs ys
 
+-- .. those at one position of the volume.
 unfoldable pub shared : Cutting → ℕ → ℕ → List Edge
 shared k b c =
     keep (λ d. eqb (embed k b (d .from)) (embed k c (d .to))) (products (consecutive 0 (cells (blockExtents k b))) (consecutive 0 (cells (blockExtents k c))))
@@ -39,15 +42,19 @@ seams k = keep (λ d. seam k (d .from) (d .to)) (products (consecutive 0 (blocks
 unfoldable pub enrolStep : ℕ → ℕ
 enrolStep b = 6 * b
 
+-- The axis of the seam of b and c, as 1, 2 or 3.
 unfoldable pub seamAxis : Cutting → ℕ → ℕ → ℕ
 seamAxis k b c = cond (follows k b c X) 1 (cond (follows k b c Y) 2 3)
 
+-- A seam is a step of its lower block.
 unfoldable pub seamStep : Cutting → Edge → ℕ
 seamStep k d = 6 * d .from + seamAxis k (d .from) (d .to)
 
+-- The crossing of block b.
 unfoldable pub crossingStep : ℕ → ℕ
 crossingStep b = 6 * b + 4
 
+-- The point step of block b.
 unfoldable pub pointStep : ℕ → ℕ
 pointStep b = 6 * b + 5
 
@@ -71,6 +78,7 @@ nextStage k Closed = Closed
 unfoldable pub finished : Cutting → (ℕ → Bool) → Stage → Bool
 finished k isTicked s = allOf isTicked (stepsOf k s)
 
+-- The stage after a step: moved on if its steps are all done.
 unfoldable pub nextAfter : Cutting → (ℕ → Bool) → Stage → Stage
 nextAfter k isTicked s = cond (finished k isTicked s) (nextStage k s) s
 
@@ -78,8 +86,10 @@ nextAfter k isTicked s = cond (finished k isTicked s) (nextStage k s) s
 unfoldable pub lowestBlock : Cutting → Triple → ℕ
 lowestBlock k c = getD (keep (λ b. hasCell k b c) (consecutive 0 (blocks k))) 0 0
 
+-- The code at a voxel's cell, by the map of the lowest block that has it.
 unfoldable pub codeIn : Cutting → (ℕ → List ℕ) → Triple → ℕ
 codeIn k maps c = getD (maps (lowestBlock k c)) (local k (lowestBlock k c) c) 0
 
+-- "The uncut volume has the codes of those maps."
 unfoldable pub codesOf : Cutting → (ℕ → List ℕ) → List ℕ
 codesOf k maps = tabulate (volume (k .extents)) (λ v. codeIn k maps (place (sides (k .extents)) (voxelCell (k .extents) v)))
