@@ -14,8 +14,8 @@ ghost use Rattle.blocks.specs.Blocks.{anyExtents};
 ghost use Rattle.job.specs.Jobs.{stageOf};
 ghost use Rattle.staging.specs.Staging.{tickedIn};
 
-// Whether step i is ticked.
-fn is_ticked(ticks: &[u32], i: usize) -> bool
+// Whether step i is ticked. Not an entry.
+pub fn is_ticked(ticks: &[u32], i: usize) -> bool
     ensures { λ r. ⌜ r ≡ tickedIn (now (ticks .entry)) i ⌝ }
 {
     if i < ticks.len() {

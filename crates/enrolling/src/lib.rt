@@ -1,0 +1,446 @@
+// The enrolment of a block: what a job takes in of its map.
+use blocks::Block;
+use blocks::block_at;
+use blocks::block_count;
+use blocks::good_cut;
+use blocks::has_block;
+use enrolment::store_keys;
+use enrolment::store_rows;
+use extents::off_size;
+use job::Job;
+use job::Stage;
+use job::block_trays;
+use job::found_trays;
+use job::link_trays;
+use job::same_stage;
+use job::tallies_fit;
+use refusals::BAD_CUT;
+use refusals::DONE_ALREADY;
+use refusals::NO_SUCH_PLACE;
+use refusals::OFF_SIZE;
+use refusals::STRAY_LABEL;
+use refusals::TABLE_FULL;
+use refusals::WRONG_STAGE;
+use refusals::WRONG_TRAY;
+use staging::is_ticked;
+use staging::next_stage;
+use surveys::Survey;
+use surveys::survey_map;
+ghost use mathlib.Core.Path.{_≡_};
+ghost use mathlib.Core.Bool.{true};
+ghost use mathlib.Core.List.{[]};
+ghost use Prim.Native.Nat.{_+_, _*_, _≤_, _<_};
+ghost use lib.Dec.{eqb, ltb};
+ghost use lib.ListN.{length, set};
+ghost use Rattle.lists.specs.Lists.{overlay};
+ghost use Rattle.cells.specs.Box.{triple};
+ghost use Rattle.cells.specs.Extents.{Sized};
+ghost use Rattle.cells.specs.Grid.{cells};
+ghost use Rattle.cutting.specs.Cutting.{intervals, blocks, goodCut};
+ghost use Rattle.joiner.specs.Calls.{enrol, answer, full};
+ghost use Rattle.joiner.specs.Entries.{EnrolDone, Step};
+ghost use Rattle.blocks.specs.Blocks.{cutOf, sizeOf};
+ghost use Rattle.job.specs.Jobs.{byKind, anyCuts, toldOf, jobOf, tablesOf, stateOf};
+ghost use Rattle.enrolling.specs.Inner.{tablesFit, lentFit, earlyOf, lateOf, Judged, KindReady, KindDone, blockNumbers, Ready, Planned, Advanced};
+
+// What an enrolment answers: the number of its refusal, 0 for none, and the job.
+pub struct Enrolled {
+    pub refusal: u32,
+    pub job: Job,
+}
+
+// The lengths of the tables.
+struct Sizes {
+    ticks: usize,
+    blocks: usize,
+    face_links: usize,
+    curve_links: usize,
+    face_keys: usize,
+    curve_keys: usize,
+    face_rows: usize,
+    curve_rows: usize,
+}
+
+// The number of the refusal, and the block's largest numbers where it is 0.
+struct Plan {
+    refusal: u32,
+    faces: u32,
+    curves: u32,
+    points: u32,
+}
+
+// ---- what is declined
+
+// Whether every table has the stated length.
+fn tables_fit(blocks: usize, job: Job, sizes: Sizes) -> bool
+    requires { ⌜ blocks ≤ 16384 ⌝ }
+    ensures { λ r. ⌜ r ≡ tablesFit blocks (job .«face_entries») (job .«curve_entries») sizes ⌝ }
+{
+    if !block_trays(blocks, sizes.ticks, sizes.blocks) {
+        return false;
+    }
+    if !link_trays(
+        job.face_entries,
+        job.curve_entries,
+        sizes.face_links,
+        sizes.curve_links,
+    ) {
+        return false;
+    }
+    if !found_trays(2, job.face_entries, sizes.face_keys, sizes.face_rows) {
+        return false;
+    }
+    found_trays(4, job.curve_entries, sizes.curve_keys, sizes.curve_rows)
+}
+
+// Whether a map of this length is one of the block.
+fn map_fits(block: Block, length: usize) -> bool
+    requires { ⌜ Sized 64 (sizeOf block) ⌝ }
+    ensures { λ r. ⌜ r ≡ eqb length (cells (sizeOf block)) ⌝ }
+{
+    let w = 2 * block.nx - 1;
+    let h = 2 * block.ny - 1;
+    let d = 2 * block.nz - 1;
+    length == w * h * d
+}
+
+// Whether a map of this length is one of block b, and every table has the stated length.
+fn lent_fit(
+    job: Job,
+    cx: &[u32],
+    cy: &[u32],
+    cz: &[u32],
+    sizes: Sizes,
+    b: u32,
+    length: usize,
+) -> bool
+    requires { ⌜ (goodCut (cutOf (job .nx) (job .ny) (job .nz) (now cx) (now cy) (now cz)) ≡ true) × (b < blocks (cutOf (job .nx) (job .ny) (job .nz) (now cx) (now cy) (now cz))) ⌝ }
+    ensures { λ r. ⌜ r ≡ lentFit (toldOf job (now (cx .entry)) (now (cy .entry)) (now (cz .entry))) sizes b length ⌝ }
+{
+    let block = block_at(cx, cy, cz, b as usize);
+    if !map_fits(block, length) {
+        return false;
+    }
+    let blocks = block_count(cx, cy, cz);
+    tables_fit(blocks, job, sizes)
+}
+
+// The refusals that need no look at the map, 0 for none.
+fn early(
+    job: Job,
+    cx: &[u32],
+    cy: &[u32],
+    cz: &[u32],
+    ticks: &[u32],
+    sizes: Sizes,
+    b: u32,
+    length: usize,
+) -> u32
+    ensures { λ r. ⌜ r ≡ earlyOf (jobOf job (now (cx .entry)) (now (cy .entry)) (now (cz .entry))) (now (ticks .entry)) sizes b length ⌝ }
+{
+    if off_size(1024, job.nx as usize, job.ny as usize, job.nz as usize) {
+        return OFF_SIZE;
+    }
+    if !good_cut(job.nx, job.ny, job.nz, cx, cy, cz) {
+        return BAD_CUT;
+    }
+    let stage = job.stage;
+    if !same_stage(stage, Stage::Enrol) {
+        return WRONG_STAGE;
+    }
+    if !has_block(cx, cy, cz, b) {
+        return NO_SUCH_PLACE;
+    }
+    if is_ticked(ticks, 6 * (b as usize)) {
+        return DONE_ALREADY;
+    }
+    if !lent_fit(job, cx, cy, cz, sizes, b, length) {
+        return WRONG_TRAY;
+    }
+    0
+}
+
+// Whether with so many more a tally would exceed its table's entries.
+fn overfull(entries: u32, sofar: u32, more: u32) -> bool
+    ensures { λ r. ⌜ r ≡ ltb entries (sofar + more) ⌝ }
+{
+    (sofar as u64) + (more as u64) > entries as u64
+}
+
+// Whether the faces or the curves would exceed their entries. No points are added.
+fn full(job: Job, faces: u32, curves: u32) -> bool
+    requires { ⌜ job .points ≤ job .«point_entries» ⌝ }
+    ensures { λ r. ⌜ r ≡ full (byKind (job .«face_entries») (job .«curve_entries») (job .«point_entries»)) (byKind (job .faces) (job .curves) (job .points)) (byKind faces curves 0) ⌝ }
+{
+    if overfull(job.face_entries, job.faces, faces) {
+        return true;
+    }
+    overfull(job.curve_entries, job.curves, curves)
+}
+
+// The refusals by the tallies and the map, 0 for none.
+fn late(job: Job, survey: Survey) -> u32
+    ensures { λ r. ⌜ anyCuts (λ cx cy cz. r ≡ lateOf (jobOf job cx cy cz) (survey .filled) (byKind (survey .faces) (survey .curves) 0)) ⌝ }
+{
+    if !tallies_fit(job) {
+        return STRAY_LABEL;
+    }
+    if !survey.filled {
+        return STRAY_LABEL;
+    }
+    if full(job, survey.faces, survey.curves) {
+        return TABLE_FULL;
+    }
+    0
+}
+
+// The number of the refusal, the lowest that applies, and 0 for none; then the block's largest numbers too.
+fn judge(
+    job: Job,
+    cx: &[u32],
+    cy: &[u32],
+    cz: &[u32],
+    ticks: &[u32],
+    sizes: Sizes,
+    b: u32,
+    m: &[u32],
+) -> Plan
+    ensures { λ r. ⌜ Judged (jobOf job (now (cx .entry)) (now (cy .entry)) (now (cz .entry))) (now (ticks .entry)) sizes b (now (m .entry)) r ⌝ }
+{
+    let number = early(job, cx, cy, cz, ticks, sizes, b, m.len());
+    if number != 0 {
+        return Plan {
+            refusal: number,
+            faces: 0,
+            curves: 0,
+            points: 0,
+        };
+    }
+    let block = block_at(cx, cy, cz, b as usize);
+    let survey = survey_map(m, block.nx, block.ny, block.nz);
+    Plan {
+        refusal: late(job, survey),
+        faces: survey.faces,
+        curves: survey.curves,
+        points: survey.points,
+    }
+}
+
+// ---- what is stored
+
+// Writes 0 at each of the places.
+fn write_zeros(links: &mut [u32], from: usize, count: usize)
+    requires { ⌜ from + count ≤ length (now links) ⌝ }
+    ensures { λ _. ⌜ now (links .exit) ≡ overlay (now (links .entry)) from (λ i. 0) count ⌝ }
+{
+    let mut i: usize = 0;
+    while i < count {
+        links[from + i] = 0;
+        i += 1;
+    }
+}
+
+// Writes the five numbers of block b: its largest ones, and the places of its first face and first curve.
+fn put_block(blocks: &mut [u32], b: usize, plan: Plan, face: u32, curve: u32)
+    requires { ⌜ (b < 16384) × (5 * b + 5 ≤ length (now blocks)) ⌝ }
+    ensures { λ _. ⌜ now (blocks .exit) ≡ overlay (now (blocks .entry)) (5 * b) (blockNumbers plan face curve) 5 ⌝ }
+{
+    let at = 5 * b;
+    blocks[at] = plan.faces;
+    blocks[at + 1] = plan.curves;
+    blocks[at + 2] = plan.points;
+    blocks[at + 3] = face;
+    blocks[at + 4] = curve;
+}
+
+// Enrols the components of order j: none is joined to another, and each has its key and its row.
+fn enrol_kind(
+    links: &mut [u32],
+    keys: &mut [u64],
+    rows: &mut [u32],
+    from: usize,
+    count: usize,
+    m: &[u32],
+    nx: u32,
+    ny: u32,
+    nz: u32,
+    block: Block,
+    b: usize,
+    j: usize,
+    shift: u32,
+)
+    requires { ⌜ KindReady (triple nx ny nz) block b (now m) j shift from count (length (now links)) (length (now keys)) (length (now rows)) ⌝ }
+    ensures { λ _. ⌜ KindDone (triple nx ny nz) block b (now (m .entry)) j shift from count (now (links .entry)) (now (keys .entry)) (now (rows .entry)) (now (links .exit)) (now (keys .exit)) (now (rows .exit)) ⌝ }
+{
+    write_zeros(links, from, count);
+    store_keys(keys, from, count, m, nx, ny, nz, block, b, j);
+    store_rows(rows, from, count, m, keys, nx, ny, nz, block, j, shift);
+}
+
+// Ticks the step and moves the job on.
+fn advance(
+    job: Job,
+    cx: &[u32],
+    cy: &[u32],
+    cz: &[u32],
+    ticks: &mut [u32],
+    b: u32,
+    faces: u32,
+    curves: u32,
+) -> Job
+    requires { ⌜ (6 * b < length (now ticks)) × (intervals (now cx) * intervals (now cy) * intervals (now cz) ≤ 16384) × (job .faces + faces ≤ job .«face_entries») × (job .curves + curves ≤ job .«curve_entries») ⌝ }
+    ensures { λ r. ⌜ (now (ticks .exit) ≡ set (now (ticks .entry)) (6 * b) 1) × Advanced job (now (cx .entry)) (now (cy .entry)) (now (cz .entry)) (now (ticks .exit)) faces curves r ⌝ }
+{
+    ticks[6 * (b as usize)] = 1;
+    let stage = job.stage;
+    Job {
+        stage: next_stage(stage, ticks, cx, cy, cz),
+        nx: job.nx,
+        ny: job.ny,
+        nz: job.nz,
+        face_entries: job.face_entries,
+        curve_entries: job.curve_entries,
+        point_entries: job.point_entries,
+        faces: job.faces + faces,
+        curves: job.curves + curves,
+        points: job.points,
+        numbered_faces: job.numbered_faces,
+        numbered_curves: job.numbered_curves,
+        numbered_points: job.numbered_points,
+    }
+}
+
+// Stores what an accepted enrolment leaves.
+fn act(
+    job: Job,
+    cx: &[u32],
+    cy: &[u32],
+    cz: &[u32],
+    ticks: &mut [u32],
+    blocks: &mut [u32],
+    face_links: &mut [u32],
+    curve_links: &mut [u32],
+    face_keys: &mut [u64],
+    curve_keys: &mut [u64],
+    face_rows: &mut [u32],
+    curve_rows: &mut [u32],
+    block: u32,
+    m: &[u32],
+    plan: Plan,
+) -> Job
+    requires { ⌜ Ready (stateOf job (now cx) (now cy) (now cz)
+        (tablesOf (now ticks) (now blocks) (now «face_links») (now «curve_links») (now «face_keys») (now «curve_keys») [] (now «face_rows») (now «curve_rows») [] [] [] [] [] [] [] [] [] []))
+        block (now m) × Planned (jobOf job (now cx) (now cy) (now cz)) block (now m) plan ⌝ }
+    ensures { λ r. ⌜ EnrolDone
+        (stateOf job (now (cx .entry)) (now (cy .entry)) (now (cz .entry))
+        (tablesOf (now (ticks .entry)) (now (blocks .entry)) (now («face_links» .entry)) (now («curve_links» .entry)) (now («face_keys» .entry)) (now («curve_keys» .entry)) []
+        (now («face_rows» .entry)) (now («curve_rows» .entry)) [] [] [] [] [] [] [] [] [] []))
+        block (now (m .entry))
+        (stateOf r (now (cx .entry)) (now (cy .entry)) (now (cz .entry))
+        (tablesOf (now (ticks .exit)) (now (blocks .exit)) (now («face_links» .exit)) (now («curve_links» .exit)) (now («face_keys» .exit)) (now («curve_keys» .exit)) []
+        (now («face_rows» .exit)) (now («curve_rows» .exit)) [] [] [] [] [] [] [] [] [] [])) ⌝ }
+{
+    let b = block as usize;
+    let faces = job.faces as usize;
+    let curves = job.curves as usize;
+    let more_faces = plan.faces as usize;
+    let more_curves = plan.curves as usize;
+    let r = block_at(cx, cy, cz, b);
+    put_block(blocks, b, plan, job.faces, job.curves);
+    enrol_kind(
+        face_links,
+        face_keys,
+        face_rows,
+        faces,
+        more_faces,
+        m,
+        job.nx,
+        job.ny,
+        job.nz,
+        r,
+        b,
+        2,
+        0,
+    );
+    enrol_kind(
+        curve_links,
+        curve_keys,
+        curve_rows,
+        curves,
+        more_curves,
+        m,
+        job.nx,
+        job.ny,
+        job.nz,
+        r,
+        b,
+        1,
+        job.faces,
+    );
+    advance(job, cx, cy, cz, ticks, block, plan.faces, plan.curves)
+}
+
+// Enrols a block with its map.
+pub fn enrol(
+    job: Job,
+    cx: &[u32],
+    cy: &[u32],
+    cz: &[u32],
+    ticks: &mut [u32],
+    blocks: &mut [u32],
+    face_links: &mut [u32],
+    curve_links: &mut [u32],
+    face_keys: &mut [u64],
+    curve_keys: &mut [u64],
+    face_rows: &mut [u32],
+    curve_rows: &mut [u32],
+    block: u32,
+    m: &[u32],
+) -> Enrolled
+    ensures { λ r. ⌜ Step
+        (stateOf job (now (cx .entry)) (now (cy .entry)) (now (cz .entry))
+        (tablesOf (now (ticks .entry)) (now (blocks .entry)) (now («face_links» .entry)) (now («curve_links» .entry)) (now («face_keys» .entry)) (now («curve_keys» .entry)) []
+        (now («face_rows» .entry)) (now («curve_rows» .entry)) [] [] [] [] [] [] [] [] [] []))
+        (enrol block (now (m .entry))) (answer (r .refusal) 0 [])
+        (stateOf (r .job) (now (cx .entry)) (now (cy .entry)) (now (cz .entry))
+        (tablesOf (now (ticks .exit)) (now (blocks .exit)) (now («face_links» .exit)) (now («curve_links» .exit)) (now («face_keys» .exit)) (now («curve_keys» .exit)) []
+        (now («face_rows» .exit)) (now («curve_rows» .exit)) [] [] [] [] [] [] [] [] [] [])) ⌝ }
+{
+    let sizes = Sizes {
+        ticks: ticks.len(),
+        blocks: blocks.len(),
+        face_links: face_links.len(),
+        curve_links: curve_links.len(),
+        face_keys: face_keys.len(),
+        curve_keys: curve_keys.len(),
+        face_rows: face_rows.len(),
+        curve_rows: curve_rows.len(),
+    };
+    let plan = judge(job, cx, cy, cz, ticks, sizes, block, m);
+    if plan.refusal != 0 {
+        return Enrolled {
+            refusal: plan.refusal,
+            job: job,
+        };
+    }
+    Enrolled {
+        refusal: 0,
+        job: act(
+            job,
+            cx,
+            cy,
+            cz,
+            ticks,
+            blocks,
+            face_links,
+            curve_links,
+            face_keys,
+            curve_keys,
+            face_rows,
+            curve_rows,
+            block,
+            m,
+            plan,
+        ),
+    }
+}

@@ -1,0 +1,187 @@
+-- The tests by lengths are the joiner's, and what an accepted seam step leaves is what the joiner asks for.
+-- Assumes nothing.
+use mathlib.Core.Path.{_≡_, refl, sym, ap, _∙_, subst}
+use mathlib.Core.Bool.{Bool, true, false, not, cond, _&&_}
+use mathlib.Core.List.{List, []}
+use Prim.Native.Nat.{ℕ, _+_, _-_, _*_, _≤_, _<_}
+use native.Mathlib.Omega.{arith}
+use lib.ListN.{length, set}
+use borrow.Author.Tests.{le-ltb}
+use Rattle.lists.proofs.Cases.{by-test, and-left, and-right}
+use Rattle.refusals.specs.Refusals.{number, table, first, lowest}
+use Rattle.closure.specs.Joined.{joins}
+use Rattle.union_find.specs.Links.{root, Rooted}
+use Rattle.cells.specs.Box.{Triple}
+use Rattle.cells.specs.Extents.{Sized}
+use Rattle.labels.specs.Components.{largest}
+use Rattle.labels.proofs.CountLaws.{largest-bound}
+use Rattle.cutting.specs.Cutting.{Cutting, intervals, blocks, blockExtents}
+use Rattle.joiner.specs.Job.{Kind, Face, Curve, Point, State, orderOf, countOf, fromOf, fits, blockTrays, linkTrays, ticked}
+use Rattle.joiner.specs.Stages.{seamAxis, seamStep, nextAfter}
+use Rattle.joiner.specs.Calls.{join, answer, layersDiffer, mapsFit, full, overfull}
+use Rattle.joiner.specs.Declines.{adds, counted, declines, lentTo, mapStands, refusal, standing, standsFor, stray, talliesFit}
+use Rattle.joiner.specs.Entries.{SeamDone, Step, Merged, AtSeam}
+use Rattle.joiner.proofs.Shared.{seam-listed}
+use Rattle.joiner.proofs.SeamSteps.{axis-bound}
+use Rattle.model.proofs.Facts.{Facts, facts, fits-at, tally-fits, Standing, faces-stand, curves-stand}
+use Rattle.seams.specs.Walks.{layerEdges}
+use Rattle.seams.proofs.SeamWalks.{seam-joined}
+use Rattle.blocks.specs.Blocks.{Tells, sizeOf}
+use Rattle.blocks.specs.declared.Block.{Block}
+use Rattle.blocks.proofs.BlockLaws.{good-few, told-sized}
+use Rattle.job.specs.declared.Job.{Job}
+use Rattle.job.specs.declared.Stage.{Stage}
+use Rattle.job.specs.Jobs.{toldOf, jobOf, stateOf, stageOf}
+use Rattle.job.proofs.JobLaws.{fits-append}
+use Rattle.staging.specs.Staging.{tickedIn}
+use Rattle.staging.proofs.StagingLaws.{next-told}
+use Rattle.seaming.specs.declared.Entry.{Entry}
+use Rattle.seaming.specs.declared.Joined.{Joined}
+use Rattle.seaming.specs.declared.Shared.{Shared}
+use Rattle.seaming.specs.Inner.{lent, sizesOf, entryOf, mapsFitIn, traysFit, standsBy, mapStandsIn, standIn, restOf, refusalOf, Ready, SharedBy, Linked, staged, Advanced}
+
+module _ (j : Job) (cx cy cz ticks blocks′ faces curves : List ℕ) (b c : ℕ) (m n : List ℕ) where
+  abbrev pub k : Cutting
+  k = toldOf j cx cy cz .cutting
+
+  abbrev pub before : State
+  before = stateOf j cx cy cz (lent ticks blocks′ faces curves)
+
+  -- ---- the tests by lengths are the joiner's
+
+  trays-is : (mapsFit k (join b c m n) && fits (lentTo (before .job .told) (before .tables) (join b c m n)))
+      ≡ traysFit (blocks k) (blockExtents k b) (blockExtents k c) (j .«face_entries») (j .«curve_entries») (sizesOf ticks blocks′ faces curves m n)
+  unfolding blockTrays linkTrays traysFit mapsFitIn
+  trays-is = ap (λ (x : Bool). mapsFit k (join b c m n) && x) (fits-append (blockTrays (before .job .told) (before .tables)) (linkTrays (before .job .told) (before .tables)))
+
+  stand-is : (e : Triple) (d : ℕ) (l : List ℕ) → mapStands before e d l ≡ mapStandsIn e (entryOf blocks′ d) (j .faces) (j .curves) l
+  unfolding mapStands counted standing countOf fromOf mapStandsIn standsBy entryOf
+  stand-is e d l = rw (let q : 5 * d + 0 ≡ 5 * d = omega arith in q)
+
+  stands-is : (talliesFit (before .job) && standsFor before (join b c m n))
+      ≡ standIn (talliesFit (jobOf j cx cy cz)) (blockExtents k b) (blockExtents k c) (entryOf blocks′ b) (entryOf blocks′ c) (j .faces) (j .curves) m n
+  unfolding standIn
+  stands-is = rw (stand-is (blockExtents k b) b m, stand-is (blockExtents k c) c n)
+
+  -- 10 cannot stand: nothing is added
+  room : talliesFit (before .job) ≡ true → full (before .job .told .entries) (before .job .sofar) (adds before (join b c m n)) ≡ false
+  unfolding full overfull adds
+  room t =
+      let h : (κ : Kind) → before .job .sofar κ ≤ before .job .told .entries κ = tally-fits (before .job) t in
+      rw (
+        le-ltb (j .«face_entries») (j .faces + 0) (omega (arith, h Face)),
+        le-ltb (j .«curve_entries») (j .curves + 0) (omega (arith, h Curve)),
+        le-ltb (j .«point_entries») (j .points + 0) (omega (arith, h Point)),
+      )
+
+  no-room : (l : Bool)
+      → _≡_ {A = ℕ} (cond (stray before (join b c m n)) 8 (cond l 9 (cond (full (before .job .told .entries) (before .job .sofar) (adds before (join b c m n))) 10 0)))
+      (cond (not (talliesFit (before .job) && standsFor before (join b c m n))) 8 (cond l 9 0))
+  unfolding stray
+  no-room l =
+      by-test (talliesFit (before .job) && standsFor before (join b c m n)) (λ t. rw (t, room (and-left (talliesFit (before .job)) (standsFor before (join b c m n)) t))) (λ t. rw t)
+
+  pub refusal-is : refusal before (join b c m n) ≡ refusalOf j cx cy cz ticks (sizesOf ticks blocks′ faces curves m n) blocks′ b c m n
+  unfolding refusal declines lowest first table number refusalOf restOf ticked tickedIn seamStep
+  refusal-is = rw (← trays-is, ← stands-is, ← no-room (layersDiffer k (join b c m n)))
+
+  -- ---- what an accepted step has passed
+
+  module _ (acc : Ready j cx cy cz ticks blocks′ faces curves b c m n) where
+    F : Facts before (join b c m n)
+    F = facts before (join b c m n) (refusal-is ∙ acc .none)
+
+    pub seam-few : intervals cx * intervals cy * intervals cz ≤ 16384
+    seam-few = good-few k (F .cut)
+
+    pub low-sized : (r : Block) → Tells k b r → Sized 64 (sizeOf r)
+    low-sized r A = told-sized k b r A (F .cut) (seam-listed k b c (F .at) .0)
+
+    pub high-sized : (r : Block) → Tells k c r → Sized 64 (sizeOf r)
+    high-sized r A = told-sized k c r A (F .cut) (seam-listed k b c (F .at) .1)
+
+    pub step-in : (axis step : ℕ) → axis ≡ seamAxis k b c → step ≡ 6 * b + axis → step < length ticks
+    unfolding blockTrays
+    step-in axis step e f = omega (arith, axis-bound k b c, seam-listed k b c (F .at) .0, fits-at (lentTo (before .job .told) (before .tables) (join b c m n)) 0 (F .lent))
+
+    pub face-length : length faces ≡ j .«face_entries»
+    unfolding blockTrays linkTrays
+    face-length = fits-at (lentTo (before .job .told) (before .tables) (join b c m n)) 2 (F .lent)
+
+    pub curve-length : length curves ≡ j .«curve_entries»
+    unfolding blockTrays linkTrays
+    curve-length = fits-at (lentTo (before .job .told) (before .tables) (join b c m n)) 3 (F .lent)
+
+    lower-stands : mapStands before (blockExtents k b) b m ≡ true
+    lower-stands = and-left (mapStands before (blockExtents k b) b m) (mapStands before (blockExtents k c) c n) (F .stands)
+
+    upper-stands : mapStands before (blockExtents k c) c n ≡ true
+    upper-stands = and-right (mapStands before (blockExtents k b) b m) (mapStands before (blockExtents k c) c n) (F .stands)
+
+    -- ---- what it leaves
+
+    module _ (axis : ℕ) (low high : Block) (sh : Shared) (number-is : axis ≡ seamAxis k b c) (A : Tells k b low) (B : Tells k c high) (S : SharedBy low high axis sh) where
+      merged : (κ : Kind) (odd size : ℕ) → odd ≡ 3 - orderOf κ → Standing before (blockExtents k b) b m κ → Standing before (blockExtents k c) c n κ → before .job .sofar κ ≤ size
+          → (xs ys : List ℕ)
+          → Rooted xs ys (joins (root xs) (layerEdges m (sh .lower) n (sh .upper) odd (fromOf (before .tables) κ b) (fromOf (before .tables) κ c) size (sh .columns) (sh .rows)))
+          → Merged xs ys (AtSeam k (before .tables) κ b c m n)
+      merged κ odd size o L U h xs ys J =
+          seam-joined k (F .cut) b c (F .at) axis (sh .columns) (sh .rows) number-is m (sh .lower) n (sh .upper)
+          (rw (A .size) at (S .last)) (rw (B .size) at (S .first)) (rw (A .size) at (S .wide)) (rw (A .size) at (S .deep))
+          (before .tables) κ odd size o
+          (λ p i q. omega (arith, largest-bound (blockExtents k b) m p i, ap (largest (blockExtents k b) m) q, L .most))
+          (λ p i q. omega (arith, largest-bound (blockExtents k c) n p i, ap (largest (blockExtents k c) n) q, U .most))
+          (omega (arith, L .behind, h)) (omega (arith, U .behind, h)) xs ys J
+
+      module _ (faces′ curves′ : List ℕ) (K : Linked faces faces′ curves curves′ sh (entryOf blocks′ b) (entryOf blocks′ c) (j .«face_entries») (j .«curve_entries») m n) where
+        faces-merged : Merged faces faces′ (AtSeam k (before .tables) Face b c m n)
+        unfolding fromOf entryOf
+        faces-merged =
+            merged Face 1 (j .«face_entries») refl (faces-stand before (blockExtents k b) b m lower-stands) (faces-stand before (blockExtents k c) c n upper-stands)
+            (tally-fits (before .job) (F .tallies) Face) faces faces′ (K .of-faces)
+
+        curves-merged : Merged curves curves′ (AtSeam k (before .tables) Curve b c m n)
+        unfolding fromOf entryOf
+        curves-merged =
+            merged Curve 2 (j .«curve_entries») refl (curves-stand before (blockExtents k b) b m lower-stands) (curves-stand before (blockExtents k c) c n upper-stands)
+            (tally-fits (before .job) (F .tallies) Curve) curves curves′ (K .of-curves)
+
+        staged-done : (ticks′ : List ℕ) (st : Stage) → ticks′ ≡ set ticks (6 * b + seamAxis k b c) 1 → stageOf st ≡ nextAfter k (tickedIn ticks′) (stageOf (j .stage))
+            → SeamDone before b c m n (stateOf (staged j st) cx cy cz (lent ticks′ blocks′ faces′ curves′))
+        unfolding seamStep adds
+        staged-done ticks′ st e h =
+            record {
+              step = record { told = refl; ticks = e; stage = next-told k (lent ticks′ blocks′ faces′ curves′) (stageOf (j .stage)) (stageOf st) h; sofar = λ κ. omega arith };
+              blocks = refl;
+              faces = faces-merged;
+              curves = curves-merged;
+              found = λ κ. record { keys = refl; rows = refl };
+              numbers = λ κ. record { numbered = refl; numbers = refl; firsts = refl; listed = refl };
+            }
+
+      pub seam-done : (d g : Entry) → d ≡ entryOf blocks′ b → g ≡ entryOf blocks′ c → (step : ℕ) → step ≡ 6 * b + axis → (next : Job) (ticks′ faces′ curves′ : List ℕ)
+          → Advanced j cx cy cz ticks ticks′ step next → Linked faces faces′ curves curves′ sh d g (j .«face_entries») (j .«curve_entries») m n
+          → SeamDone before b c m n (stateOf next cx cy cz (lent ticks′ blocks′ faces′ curves′))
+      seam-done d g p q step e next ticks′ faces′ curves′ T K =
+          subst (λ (x : Job). SeamDone before b c m n (stateOf x cx cy cz (lent ticks′ blocks′ faces′ curves′))) (sym (T .is))
+          (staged-done faces′ curves′ (rw (p, q) at K) ticks′ (next .stage) (rw (e, number-is) at (T .one)) (T .next))
+
+  -- ---- the entry
+
+  module _ (number′ : ℕ) (e : number′ ≡ refusalOf j cx cy cz ticks (sizesOf ticks blocks′ faces curves m n) blocks′ b c m n) where
+    told-number : number′ ≡ refusal before (join b c m n)
+    told-number = e ∙ sym refusal-is
+
+    pub seam-refused : (number′ ≡ 0 → ⊥) → Step before (join b c m n) (answer number′ 0 []) before
+    seam-refused z = record { told = told-number; declined = λ _. (ap (λ (x : ℕ). answer x 0 []) told-number, refl); accepted = λ a. absurd (z (told-number ∙ a)) }
+
+    pub ready : number′ ≡ 0 → Ready j cx cy cz ticks blocks′ faces curves b c m n
+    ready z = record { none = sym e ∙ z }
+
+    pub seam-accepted : number′ ≡ 0 → (r : Joined) (t : State) → (r .refusal ≡ 0) × SeamDone before b c m n t → Step before (join b c m n) (answer (r .refusal) 0 []) t
+    seam-accepted z r t u =
+        record {
+          told = u .0 ∙ sym z ∙ told-number;
+          declined = λ d. absurd (d (sym told-number ∙ z));
+          accepted = λ a. (ap (λ (x : ℕ). answer x 0 []) (u .0), u .1);
+        }

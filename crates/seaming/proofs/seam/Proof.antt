@@ -1,0 +1,45 @@
+-- `seaming::seam` meets its contract.
+use borrow.Author.Needs.{needs}
+use Rattle.seaming.proofs.DoneLaws.{seam-refused, seam-accepted}
+use Rattle.seaming.proofs.seam.Statement.{statement}
+use Rattle.seaming.proofs.seam.Tie as tie
+
+refusal-requires : tie.Need-refusal-requires
+refusal-requires c κs = search needs
+
+same-length : tie.Need-same-length
+same-length c = search needs
+
+returns : tie.Need-returns
+returns c = seam-refused _ _ _ _ _ _ _ _ _ _ _ _ _ (c .before .refusal .ensures) (c .if1 .taken)
+
+accept-requires : tie.Need-accept-requires
+accept-requires c κs = search needs
+
+same-length-2 : tie.Need-same-length-2
+same-length-2 c = search needs
+
+same-length-3 : tie.Need-same-length-3
+same-length-3 c = search needs
+
+same-length-4 : tie.Need-same-length-4
+same-length-4 c = search needs
+
+returns-2 : tie.Need-returns-2
+returns-2 c =
+    seam-accepted _ _ _ _ _ _ _ _ _ _ _ _ _ (c .before .before .before .before .before .before .before .before .before .before .before .refusal .ensures)
+    (c .before .before .before .before .before .before .before .before .before .before .if1 .left)
+    (c .before .before .before .before .before .before .accept .result) _ (c .before .before .before .before .before .before .accept .ensures)
+
+pub seam-spec : {M : Type 1} → statement M
+seam-spec =
+    tie.close
+    (tie.spec
+    refusal-requires
+    same-length
+    returns
+    accept-requires
+    same-length-2
+    same-length-3
+    same-length-4
+    returns-2)
