@@ -9,22 +9,20 @@ use native.Mathlib.Nat.{add-zero}
 use native.Mathlib.Omega.{arith}
 use lib.Dec.{eqb, leb, ltb}
 use lib.ListN.{getD, length, set}
-use borrow.Author.Tests.{eqb-true, eqb-false, ne-eqb, leb-true, ltb-true, ltb-false, le-ltb, not-true, not-false}
+use borrow.Author.Tests.{eqb-true, leb-true, ltb-false, le-ltb, not-true, not-false}
 use Rattle.lists.specs.Lists.{overlay}
-use Rattle.lists.proofs.Cases.{by-test, and-left, and-right, neither}
+use Rattle.lists.proofs.Cases.{and-left, and-right, neither}
 use Rattle.lists.proofs.Overlay.{length-overlay, overlay-same}
-use Rattle.refusals.specs.Refusals.{number, table, first, lowest}
 use Rattle.cells.specs.Box.{Triple, triple}
-use Rattle.cells.specs.Extents.{Sized, offSize}
+use Rattle.cells.specs.Extents.{Sized}
 use Rattle.cells.specs.Grid.{cells}
-use Rattle.extents.proofs.SizeLaws.{sized-of}
 use Rattle.labels.specs.Components.{largest}
 use Rattle.cutting.specs.Cutting.{Cutting, intervals, blocks, blockExtents, goodCut}
-use Rattle.joiner.specs.Job.{Kind, Face, Curve, Point, Tables, State, tray, sameStage, ticked, fits, blockTrays, linkTrays, foundTrays}
+use Rattle.joiner.specs.Job.{Kind, Face, Curve, Point, Tables, State, tray, ticked, fits, blockTrays, linkTrays, foundTrays}
 use Rattle.joiner.specs.Job as joiner
-use Rattle.joiner.specs.Stages.{enrolStep, nextAfter}
+use Rattle.joiner.specs.Stages.{enrolStep}
 use Rattle.joiner.specs.Calls.{enrol, answer, full, overfull}
-use Rattle.joiner.specs.Declines.{talliesFit, tallyFits, filled, stray, adds, declines, refusal}
+use Rattle.joiner.specs.Declines.{talliesFit, tallyFits, filled, stray, adds, refusal}
 use Rattle.joiner.specs.Entries.{enrolledRow, EnrolDone, blockEntry, Step}
 use Rattle.blocks.specs.Blocks.{cutOf, anyExtents, sizeOf, Tells}
 use Rattle.blocks.specs.declared.Block.{Block}
@@ -34,15 +32,16 @@ use Rattle.enrolment.specs.Enrolment.{Lies, keyIn, Firsts}
 use Rattle.enrolment.proofs.KeyLaws.{lies-told, enrolled-keys, stored-firsts}
 use Rattle.enrolment.proofs.RowLaws.{enrolled-faces, enrolled-curves}
 use Rattle.job.specs.declared.Job.{Job}
-use Rattle.job.specs.declared.Stage.{Stage}
-use Rattle.job.specs.Jobs.{byKind, anyCuts, stageOf, toldOf, jobOf, tablesOf, stateOf}
+use Rattle.job.specs.Jobs.{byKind, anyCuts, toldOf, jobOf, tablesOf, stateOf}
 use Rattle.job.proofs.JobLaws.{fits-append}
 use Rattle.staging.specs.Staging.{tickedIn}
-use Rattle.staging.proofs.StagingLaws.{next-told}
+use Rattle.steps.specs.Steps.{orElse, reachedOf, Advanced}
+use Rattle.steps.specs.Steps as steps
+use Rattle.steps.proofs.StepLaws.{or-first, or-then, or-none, or-assoc, or-six, six-none, reached-passed, refusal-reached, ticked-by, numbered-kept, step-refused, step-accepted}
 use Rattle.surveys.specs.declared.Survey.{Survey}
 use Rattle.enrolling.specs.declared.Sizes.{Sizes}
 use Rattle.enrolling.specs.declared.Plan.{Plan}
-use Rattle.enrolling.specs.Inner.{tablesFit, lentFit, earlyOf, lateOf, refusalOf, Planned, Judged, Ready, blockNumbers, KindReady, KindDone, movedOn, Advanced}
+use Rattle.enrolling.specs.Inner.{tablesFit, lentFit, earlyOf, lateOf, refusalOf, Planned, Judged, Ready, blockNumbers, KindReady, KindDone}
 
 -- ---- the five numbers of a block
 
@@ -130,65 +129,29 @@ few-blocks k good n e = rw (e, blocks-are k) (good-few k good)
 
 -- ---- the early refusals
 
-pub lent-passed : (k : Cutting) (b : ℕ) (t u : Bool) → t ≡ goodCut k → not t ≡ false → u ≡ ltb b (blocks k) → not u ≡ false → (goodCut k ≡ true) × (b < blocks k)
-lent-passed k b t u e p f q = (sym e ∙ not-false t p, ltb-true b (blocks k) (sym f ∙ not-false u q))
+pub lent-passed : (j : Job) (cx cy cz ticks : List ℕ) (b r : ℕ) → r ≡ reachedOf (jobOf j cx cy cz) joiner.Enrol ticks b (6 * b) → r ≡ 0
+    → (goodCut (toldOf j cx cy cz .cutting) ≡ true) × (b < blocks (toldOf j cx cy cz .cutting))
+lent-passed j cx cy cz ticks b r e q = let p = reached-passed (jobOf j cx cy cz) joiner.Enrol ticks b (6 * b) (sym e ∙ q) in (p .0 .good, p .1)
 
-module _ (j : Job) (cx cy cz ticks : List ℕ) (z : Sizes) (b n : ℕ) where
-  abbrev told-cut : Cutting
-  told-cut = cutOf (j .nx) (j .ny) (j .nz) cx cy cz
-
+module _ (j : Job) (cx cy cz ticks : List ℕ) (z : Sizes) (b n r : ℕ) (e : r ≡ reachedOf (jobOf j cx cy cz) joiner.Enrol ticks b (6 * b)) where
   abbrev Early : ℕ → Type 0
   Early r = r ≡ earlyOf (jobOf j cx cy cz) ticks z b n
 
-  module _ (t1 : Bool) (e1 : t1 ≡ offSize 1024 (triple (j .nx) (j .ny) (j .nz))) where
-    pub early-1 : t1 ≡ true → Early 1
-    unfolding earlyOf
-    early-1 q = rw (sym e1 ∙ q)
+  pub early-first : (r ≡ 0 → ⊥) → Early r
+  unfolding earlyOf enrolStep
+  early-first q = rw (← e) (or-first r _ q)
 
-    module _ (q1 : t1 ≡ false) (t2 : Bool) (e2 : t2 ≡ goodCut told-cut) where
-      pub early-2 : not t2 ≡ true → Early 2
-      unfolding earlyOf
-      early-2 q = rw (sym e1 ∙ q1, sym e2 ∙ not-true t2 q)
+  module _ (q : r ≡ 0) where
+    module _ (t6 : Bool) (e6 : t6 ≡ lentFit (toldOf j cx cy cz) z b n) where
+      pub early-6 : not t6 ≡ true → Early 6
+      unfolding earlyOf enrolStep
+      early-6 p = rw (← e, sym e6 ∙ not-true t6 p) (or-then r _ 6 q refl)
 
-      module _ (q2 : not t2 ≡ false) (t3 : Bool) (e3 : t3 ≡ sameStage (stageOf (j .stage)) joiner.Enrol) where
-        pub early-3 : not t3 ≡ true → Early 3
-        unfolding earlyOf
-        early-3 q = rw (sym e1 ∙ q1, sym e2 ∙ not-false t2 q2, sym e3 ∙ not-true t3 q)
-
-        module _ (q3 : not t3 ≡ false) (t4 : Bool) (e4 : anyExtents cx cy cz (λ k. t4 ≡ ltb b (blocks k))) where
-          abbrev here4 : t4 ≡ ltb b (blocks told-cut)
-          here4 = e4 (j .nx) (j .ny) (j .nz)
-
-          pub early-4 : not t4 ≡ true → Early 4
-          unfolding earlyOf
-          early-4 q = rw (sym e1 ∙ q1, sym e2 ∙ not-false t2 q2, sym e3 ∙ not-false t3 q3, sym here4 ∙ not-true t4 q)
-
-          module _ (q4 : not t4 ≡ false) where
-            module _ (t5 : Bool) (e5 : t5 ≡ tickedIn ticks (6 * b)) where
-              pub early-5 : t5 ≡ true → Early 5
-              unfolding earlyOf enrolStep
-              early-5 q = rw (sym e1 ∙ q1, sym e2 ∙ not-false t2 q2, sym e3 ∙ not-false t3 q3, sym here4 ∙ not-false t4 q4, sym e5 ∙ q)
-
-              module _ (q5 : t5 ≡ false) (t6 : Bool) (e6 : t6 ≡ lentFit (toldOf j cx cy cz) z b n) where
-                pub early-6 : not t6 ≡ true → Early 6
-                unfolding earlyOf enrolStep
-                early-6 q = rw (sym e1 ∙ q1, sym e2 ∙ not-false t2 q2, sym e3 ∙ not-false t3 q3, sym here4 ∙ not-false t4 q4, sym e5 ∙ q5, sym e6 ∙ not-true t6 q)
-
-                pub early-0 : not t6 ≡ false → Early 0
-                unfolding earlyOf enrolStep
-                early-0 q = rw (sym e1 ∙ q1, sym e2 ∙ not-false t2 q2, sym e3 ∙ not-false t3 q3, sym here4 ∙ not-false t4 q4, sym e5 ∙ q5, sym e6 ∙ not-false t6 q)
+      pub early-0 : not t6 ≡ false → Early 0
+      unfolding earlyOf enrolStep
+      early-0 p = rw (← e, sym e6 ∙ not-false t6 p) (or-then r _ 0 q refl)
 
 -- ---- what the early tests passed
-
-passed : (a b c d e f : Bool) → _≡_ {A = ℕ} (cond a 1 (cond (not b) 2 (cond (not c) 3 (cond (not d) 4 (cond e 5 (cond (not f) 6 0)))))) 0
-    → (a ≡ false) × (b ≡ true) × (d ≡ true) × (f ≡ true)
-passed true b c d e f h = absurd (omega arith)
-passed false false c d e f h = absurd (omega arith)
-passed false true false d e f h = absurd (omega arith)
-passed false true true false e f h = absurd (omega arith)
-passed false true true true true f h = absurd (omega arith)
-passed false true true true false false h = absurd (omega arith)
-passed false true true true false true h = (refl, refl, refl, refl)
 
 pub record Passed (j : joiner.Job) (z : Sizes) (b n : ℕ) : Type 0 where
   pub sized : Sized 1024 (j .told .cutting .extents)
@@ -203,21 +166,17 @@ early-passed j ticks z b n e =
     let k = j .told .cutting in
     let u = eqb n (cells (blockExtents k b)) in
     let v = tablesFit (blocks k) (j .told .entries Face) (j .told .entries Curve) z in
-    let p = passed (offSize 1024 (k .extents)) (goodCut k) (sameStage (j .stage) joiner.Enrol) (ltb b (blocks k)) (tickedIn ticks (enrolStep b)) (u && v) e in
-    record {
-      sized = sized-of 1024 (k .extents) (p .0);
-      good = p .1;
-      there = ltb-true b (blocks k) (p .2);
-      size = eqb-true n (cells (blockExtents k b)) (and-left u v (p .3));
-      tables = and-right u v (p .3);
-    }
+    let o = or-none (reachedOf j joiner.Enrol ticks b (enrolStep b)) (cond (not (u && v)) 6 0) e in
+    let p = reached-passed j joiner.Enrol ticks b (enrolStep b) (o .0) in
+    let f = six-none (u && v) (o .1) in
+    record { sized = p .0 .sized; good = p .0 .good; there = p .1; size = eqb-true n (cells (blockExtents k b)) (and-left u v f); tables = and-right u v f }
 
 -- ---- the ways of `judge`
 
 module _ (j : Job) (cx cy cz ticks : List ℕ) (z : Sizes) (b : ℕ) (m : List ℕ) (n : ℕ) (e : n ≡ earlyOf (jobOf j cx cy cz) ticks z b (length m)) where
   pub judge-early : (n ≡ 0 → ⊥) → Judged (jobOf j cx cy cz) ticks z b m (record { refusal = n; faces = 0; curves = 0; points = 0 })
   unfolding refusalOf
-  judge-early q = record { told = rw (← e, ne-eqb n 0 q); plan = λ h. absurd (q h) }
+  judge-early q = record { told = rw (← e) (or-first n _ q); plan = λ h. absurd (q h) }
 
   module _ (q : n ≡ 0) (r : Block) (T : anyExtents cx cy cz (λ k. Tells k b r)) where
     abbrev size-is : sizeOf r ≡ blockExtents (cutOf (j .nx) (j .ny) (j .nz) cx cy cz) b
@@ -237,7 +196,7 @@ module _ (j : Job) (cx cy cz ticks : List ℕ) (z : Sizes) (b : ℕ) (m : List �
         let y′ = y ∙ ap (λ (v : Triple). largest v m 1) size-is in
         let f′ = f ∙ ap (λ (v : Triple). filled v m) size-is in
         record {
-          told = rw (sym e ∙ q, ← f′, ← x′, ← y′) (i cx cy cz);
+          told = rw (← e, ← f′, ← x′, ← y′) (or-then n _ l q (i cx cy cz));
           plan = λ _. record { faces = x′; curves = y′; points = w ∙ ap (λ (v : Triple). largest v m 0) size-is };
         }
 
@@ -256,18 +215,6 @@ sizesOf t =
       «curve_rows» = length (t .rows Curve);
     }
 
-ladder : (a b c d e f : Bool) (x : ℕ)
-    → cond a 1 (cond (not b) 2 (cond (not c) 3 (cond (not d) 4 (cond e 5 (cond (not f) 6 x)))))
-    ≡ cond (eqb (cond a 1 (cond (not b) 2 (cond (not c) 3 (cond (not d) 4 (cond e 5 (cond (not f) 6 0)))))) 0) x
-    (cond a 1 (cond (not b) 2 (cond (not c) 3 (cond (not d) 4 (cond e 5 (cond (not f) 6 0))))))
-ladder true b c d e f x = refl
-ladder false false c d e f x = refl
-ladder false true false d e f x = refl
-ladder false true true false e f x = refl
-ladder false true true true true f x = refl
-ladder false true true true false false x = refl
-ladder false true true true false true x = refl
-
 two-fit : (x y u v : ℕ) → fits (tray x y ∷ tray u v ∷ []) ≡ true → (x ≡ y) × (u ≡ v)
 unfolding fits
 two-fit x y u v h =
@@ -282,9 +229,6 @@ late-room j f more h = go (talliesFit j && f) (full (j .told .entries) (j .sofar
     go false y h = absurd (omega arith)
     go true true h = absurd (omega arith)
     go true false h = refl
-
-both-none : (x y : ℕ) → cond (eqb x 0) y x ≡ 0 → (x ≡ 0) × (y ≡ 0)
-both-none x y h = by-test (eqb x 0) (λ t. (eqb-true x 0 t, rw t at h)) (λ t. absurd (eqb-false x 0 t (rw t at h)))
 
 module _ (s : State) (b : ℕ) (m : List ℕ) where
   abbrev k : Cutting
@@ -301,15 +245,15 @@ module _ (s : State) (b : ℕ) (m : List ℕ) where
       (fits-append (linkTrays o t) (foundTrays o t Face ++ foundTrays o t Curve) ∙
       ap (λ (c : Bool). fits (linkTrays o t) && c) (fits-append (foundTrays o t Face) (foundTrays o t Curve)))
 
+  late-is : steps.lateOf s (enrol b m)
+      ≡ orElse (cond (not (lentFit (s .job .told) (sizesOf (s .tables)) b (length m))) 6 0)
+      (lateOf (s .job) (filled (blockExtents k b) m) (byKind (largest (blockExtents k b) m 2) (largest (blockExtents k b) m 1) 0))
+  unfolding steps.lateOf lentFit lateOf stray full overfull adds
+  late-is = rw lent-is (or-six (eqb (length m) (cells (blockExtents k b)) && tablesFit (blocks k) (s .job .told .entries Face) (s .job .told .entries Curve) (sizesOf (s .tables))) _)
+
   pub refusal-is : refusal s (enrol b m) ≡ refusalOf (s .job) (s .tables .ticks) (sizesOf (s .tables)) b m
-  unfolding refusal declines stray lowest first table number refusalOf earlyOf lateOf lentFit full overfull adds ticked tickedIn
-  refusal-is =
-      let j = s .job in
-      let more : Kind → ℕ = byKind (largest (blockExtents k b) m 2) (largest (blockExtents k b) m 1) 0 in
-      rw lent-is
-      (ladder (offSize 1024 (k .extents)) (goodCut k) (sameStage (j .stage) joiner.Enrol) (ltb b (blocks k)) (not (eqb (getD (s .tables .ticks) (enrolStep b) 0) 0))
-      (eqb (length m) (cells (blockExtents k b)) && tablesFit (blocks k) (j .told .entries Face) (j .told .entries Curve) (sizesOf (s .tables)))
-      (lateOf j (filled (blockExtents k b) m) more))
+  unfolding refusalOf earlyOf ticked tickedIn
+  refusal-is = refusal-reached s (enrol b m) refl b (enrolStep b) refl refl ∙ ap (orElse (reachedOf (s .job) joiner.Enrol (s .tables .ticks) b (enrolStep b))) late-is ∙ or-assoc _ _ _
 
   -- what an accepted call passed
   pub ready-of : refusalOf (s .job) (s .tables .ticks) (sizesOf (s .tables)) b m ≡ 0 → Ready s b m
@@ -318,7 +262,7 @@ module _ (s : State) (b : ℕ) (m : List ℕ) where
       let o = s .job .told in
       let z = sizesOf (s .tables) in
       let j = s .job in
-      let n = both-none (earlyOf j (s .tables .ticks) z b (length m)) (lateOf j (filled (blockExtents k b) m) (byKind (largest (blockExtents k b) m 2) (largest (blockExtents k b) m 1) 0)) h in
+      let n = or-none (earlyOf j (s .tables .ticks) z b (length m)) (lateOf j (filled (blockExtents k b) m) (byKind (largest (blockExtents k b) m 2) (largest (blockExtents k b) m 1) 0)) h in
       let p = early-passed j (s .tables .ticks) z b (length m) (n .0) in
       let f1 = fits (tray (z .ticks) (6 * blocks k) ∷ tray (z .blocks) (5 * blocks k) ∷ []) in
       let f2 = fits (tray (z .«face_links») (o .entries Face) ∷ tray (z .«curve_links») (o .entries Curve) ∷ []) in
@@ -350,6 +294,7 @@ module _ (s : State) (b : ℕ) (m : List ℕ) where
         curve-rows = g4 .1;
         faces = ltb-false _ _ (w .0);
         curves = ltb-false _ _ (neither a2 a3 (w .1) .0);
+        points = let h : j .sofar Point + 0 ≤ o .entries Point = ltb-false _ _ (neither a2 a3 (w .1) .1) in omega (arith, h);
       }
 
 -- ---- the stores of one kind
@@ -380,8 +325,11 @@ module _ (j : Job) (cx cy cz tk bl fl cl fk ck fr cr : List ℕ) (b : ℕ) (m : 
   act-block = (omega (arith, R .0 .there, act-few), omega (arith, R .0 .there, R .0 .blocks-long))
 
   -- .. and `advance`
-  pub act-advance : (6 * b < length tk) × (intervals cx * intervals cy * intervals cz ≤ 16384) × (j .faces + p .faces ≤ j .«face_entries») × (j .curves + p .curves ≤ j .«curve_entries»)
-  act-advance = (omega (arith, R .0 .there, R .0 .ticks), good-few cut-of (R .0 .good), rw (R .1 .faces) (R .0 .faces), rw (R .1 .curves) (R .0 .curves))
+  pub act-advance : (6 * b < length tk) × (intervals cx * intervals cy * intervals cz ≤ 16384)
+  act-advance = (omega (arith, R .0 .there, R .0 .ticks), good-few cut-of (R .0 .good))
+
+  pub act-sums : (j .faces + p .faces ≤ j .«face_entries») × (j .curves + p .curves ≤ j .«curve_entries») × (j .points + 0 ≤ j .«point_entries»)
+  act-sums = (rw (R .1 .faces) (R .0 .faces), rw (R .1 .curves) (R .0 .curves), omega (arith, R .0 .points))
 
   module _ (r : Block) (T : anyExtents cx cy cz (λ k. Tells k b r)) where
     abbrev tells : Tells cut-of b r
@@ -424,26 +372,27 @@ module _ (j : Job) (cx cy cz tk bl fl cl fk ck fr cr : List ℕ) (b : ℕ) (m : 
     module _ (bl′ : List ℕ) (eb : bl′ ≡ overlay bl (5 * b) (blockNumbers p (j .faces) (j .curves)) 5)
         (fl′ fk′ fr′ : List ℕ) (F : KindDone (triple (j .nx) (j .ny) (j .nz)) r b m 2 0 (j .faces) (p .faces) fl fk fr fl′ fk′ fr′)
         (cl′ ck′ cr′ : List ℕ) (C : KindDone (triple (j .nx) (j .ny) (j .nz)) r b m 1 (j .faces) (j .curves) (p .curves) cl ck cr cl′ ck′ cr′)
-        (tk′ : List ℕ) (et : tk′ ≡ set tk (6 * b) 1) where
+        (tk′ : List ℕ) (q : Job) (A : Advanced j cx cy cz tk tk′ (6 * b) (p .faces) (p .curves) 0 q) where
       abbrev before : State
       before = stateOf j cx cy cz (lentTables tk bl fl cl fk ck fr cr)
 
-      abbrev after : Job → State
-      after q = stateOf q cx cy cz (lentTables tk′ bl′ fl′ cl′ fk′ ck′ fr′ cr′)
+      abbrev after : State
+      after = stateOf q cx cy cz (lentTables tk′ bl′ fl′ cl′ fk′ ck′ fr′ cr′)
+
+      more : (κ : Kind) → adds before (enrol b m) κ ≡ byKind (p .faces) (p .curves) 0 κ
+      unfolding adds
+      more Face = sym (R .1 .faces)
+      more Curve = sym (R .1 .curves)
+      more Point = refl
 
       entry-is : (i : ℕ) → blockNumbers p (j .faces) (j .curves) i ≡ blockEntry before b m i
       unfolding blockNumbers blockEntry
       entry-is i = rw (R .1 .faces, R .1 .curves, R .1 .points)
 
-      moved-done : (st : Stage) → anyExtents cx cy cz (λ k. stageOf st ≡ nextAfter k (tickedIn tk′) (stageOf (j .stage))) → EnrolDone before b m (after (movedOn j st (p .faces) (p .curves)))
+      pub act-done : EnrolDone before b m after
       unfolding adds enrolStep
-      moved-done st next = record {
-        step = record {
-          told = refl;
-          ticks = et;
-          stage = next-told cut-of (lentTables tk′ bl′ fl′ cl′ fk′ ck′ fr′ cr′) _ _ (next (j .nx) (j .ny) (j .nz));
-          sofar = sofar;
-        };
+      act-done = record {
+        step = ticked-by j cx cy cz (lentTables tk bl fl cl fk ck fr cr) (lentTables tk′ bl′ fl′ cl′ fk′ ck′ fr′ cr′) (enrol b m) (6 * b) (p .faces) (p .curves) 0 more q A;
         blocks = eb ∙ overlay-same bl (5 * b) _ _ 5 (λ i _. entry-is i);
         faces = record {
           links = F .links-are ∙ ap (overlay fl (j .faces) (λ i. 0)) (R .1 .faces);
@@ -456,16 +405,8 @@ module _ (j : Job) (cx cy cz tk bl fl cl fk ck fr cr : List ℕ) (b : ℕ) (m : 
           rows = enrolled-curves cut-of b r tells (j .faces) m (j .curves) (p .curves) cr cr′ (C .rows-are) ∙ ap (λ (n : ℕ). overlay cr (4 * j .curves) (λ i. enrolledRow cut-of (j .faces) b m Curve (suc (i / 4)) (i % 4)) (4 * n)) (R .1 .curves);
         };
         points = record { keys = refl; rows = refl };
-        numbers = λ κ. record { numbered = refl; numbers = refl; firsts = refl; listed = refl };
+        numbers = λ κ. record { numbered = numbered-kept j cx cy cz tk tk′ (6 * b) (p .faces) (p .curves) 0 q A κ; numbers = refl; firsts = refl; listed = refl };
       }
-        where
-          sofar : (κ : Kind) → byKind (j .faces + p .faces) (j .curves + p .curves) (j .points) κ ≡ byKind (j .faces) (j .curves) (j .points) κ + adds before (enrol b m) κ
-          sofar Face = ap (λ (n : ℕ). j .faces + n) (R .1 .faces)
-          sofar Curve = ap (λ (n : ℕ). j .curves + n) (R .1 .curves)
-          sofar Point = omega arith
-
-      pub act-done : (q : Job) → Advanced j cx cy cz tk′ (p .faces) (p .curves) q → EnrolDone before b m (after q)
-      act-done q A = subst (λ (x : Job). EnrolDone before b m (after x)) (sym (A .moved)) (moved-done (q .stage) (A .next))
 
 -- ---- the ways of `enrol`
 
@@ -478,19 +419,11 @@ module _ (j : Job) (cx cy cz tk bl fl cl fk ck fr cr : List ℕ) (b : ℕ) (m : 
   refusal-told = J .told ∙ sym (refusal-is start b m)
 
   pub enrol-refused : (p .refusal ≡ 0 → ⊥) → Step start (enrol b m) (answer (p .refusal) 0 []) start
-  enrol-refused z = record {
-    told = refusal-told;
-    declined = λ _. (ap (λ (n : ℕ). answer n 0 []) refusal-told, refl);
-    accepted = λ a. absurd (z (refusal-told ∙ a));
-  }
+  enrol-refused = step-refused start (enrol b m) (p .refusal) refusal-told
 
   module _ (z : p .refusal ≡ 0) where
     pub enrol-ready : Ready start b m × Planned (jobOf j cx cy cz) b m p
     enrol-ready = (ready-of start b m (sym (J .told) ∙ z), J .plan z)
 
     pub enrol-accepted : (t : State) → EnrolDone start b m t → Step start (enrol b m) (answer 0 0 []) t
-    enrol-accepted t D = record {
-      told = sym z ∙ refusal-told;
-      declined = λ d. absurd (d (sym refusal-told ∙ z));
-      accepted = λ _. (refl, D);
-    }
+    enrol-accepted t D = step-accepted start (enrol b m) (p .refusal) refusal-told z (answer 0 0 []) t refl (refl, D)

@@ -9,22 +9,20 @@ use lib.Dec.{eqb, ltb}
 use lib.ListN.{getD, length}
 use Rattle.lists.specs.Lists.{overlay}
 use Rattle.cells.specs.Box.{Triple}
-use Rattle.cells.specs.Extents.{Sized, offSize}
+use Rattle.cells.specs.Extents.{Sized}
 use Rattle.cells.specs.Grid.{cells}
 use Rattle.labels.specs.Components.{largest}
 use Rattle.cutting.specs.Cutting.{blocks, blockExtents, goodCut}
-use Rattle.joiner.specs.Job.{Kind, Face, Curve, Told, State, sameStage, fits}
+use Rattle.joiner.specs.Job.{Kind, Face, Curve, Point, Told, State, fits}
 use Rattle.joiner.specs.Job as joiner
-use Rattle.joiner.specs.Stages.{enrolStep, nextAfter}
+use Rattle.joiner.specs.Stages.{enrolStep}
 use Rattle.joiner.specs.Calls.{full}
 use Rattle.joiner.specs.Declines.{talliesFit, filled}
-use Rattle.blocks.specs.Blocks.{anyExtents, sizeOf}
+use Rattle.blocks.specs.Blocks.{sizeOf}
 use Rattle.blocks.specs.declared.Block.{Block}
 use Rattle.enrolment.specs.Enrolment.{Lies, keyIn, rowIn}
-use Rattle.job.specs.declared.Job.{Job}
-use Rattle.job.specs.declared.Stage.{Stage}
-use Rattle.job.specs.Jobs.{byKind, stageOf, blockLengths, linkLengths, foundLengths}
-use Rattle.staging.specs.Staging.{tickedIn}
+use Rattle.job.specs.Jobs.{byKind, blockLengths, linkLengths, foundLengths}
+use Rattle.steps.specs.Steps.{orElse, reachedOf}
 use Rattle.enrolling.specs.declared.Sizes.{Sizes}
 use Rattle.enrolling.specs.declared.Plan.{Plan}
 
@@ -42,13 +40,7 @@ lentFit o z b n = eqb n (cells (blockExtents (o .cutting) b)) && tablesFit (bloc
 
 -- The refusals up to 6, 0 for none.
 unfoldable pub earlyOf : joiner.Job → List ℕ → Sizes → ℕ → ℕ → ℕ
-earlyOf j ticks z b n =
-    cond (offSize 1024 (j .told .cutting .extents)) 1
-    (cond (not (goodCut (j .told .cutting))) 2
-    (cond (not (sameStage (j .stage) joiner.Enrol)) 3
-    (cond (not (ltb b (blocks (j .told .cutting)))) 4
-    (cond (tickedIn ticks (enrolStep b)) 5
-    (cond (not (lentFit (j .told) z b n)) 6 0)))))
+earlyOf j ticks z b n = orElse (reachedOf j joiner.Enrol ticks b (enrolStep b)) (cond (not (lentFit (j .told) z b n)) 6 0)
 
 -- The refusals from 8 on: f tells whether the map is filled, `more` its largest numbers.
 unfoldable pub lateOf : joiner.Job → Bool → (Kind → ℕ) → ℕ
@@ -57,10 +49,9 @@ lateOf j f more = cond (not (talliesFit j && f)) 8 (cond (full (j .told .entries
 -- All: the joiner's `refusal`.
 unfoldable pub refusalOf : joiner.Job → List ℕ → Sizes → ℕ → List ℕ → ℕ
 refusalOf j ticks z b m =
-    cond (eqb (earlyOf j ticks z b (length m)) 0)
+    orElse (earlyOf j ticks z b (length m))
     (lateOf j (filled (blockExtents (j .told .cutting) b) m)
     (byKind (largest (blockExtents (j .told .cutting) b) m 2) (largest (blockExtents (j .told .cutting) b) m 1) 0))
-    (earlyOf j ticks z b (length m))
 
 -- The block's largest numbers.
 pub record Planned (j : joiner.Job) (b : ℕ) (m : List ℕ) (r : Plan) : Type 0 where
@@ -90,6 +81,7 @@ pub record Ready (s : State) (b : ℕ) (m : List ℕ) : Type 0 where
   pub curve-rows : length (s .tables .rows Curve) ≡ 4 * s .job .told .entries Curve
   pub faces : s .job .sofar Face + largest (blockExtents (s .job .told .cutting) b) m 2 ≤ s .job .told .entries Face
   pub curves : s .job .sofar Curve + largest (blockExtents (s .job .told .cutting) b) m 1 ≤ s .job .told .entries Curve
+  pub points : s .job .sofar Point ≤ s .job .told .entries Point
 
 -- The block's five numbers, the joiner's `blockEntry`.
 unfoldable pub blockNumbers : Plan → ℕ → ℕ → ℕ → ℕ
@@ -111,26 +103,3 @@ pub record KindDone (v : Triple) (r : Block) (b : ℕ) (m : List ℕ) (j shift f
   pub links-are : links′ ≡ overlay links from (λ i. 0) count
   pub keys-are : keys′ ≡ overlay keys from (λ i. keyIn v r b m j (suc i)) count
   pub rows-are : rows′ ≡ overlay rows ((6 - 2 * j) * from) (λ i. rowIn (sizeOf r) shift m j (suc (i / (6 - 2 * j))) (i % (6 - 2 * j))) ((6 - 2 * j) * count)
-
--- The job in a stage, with more faces and curves.
-abbrev pub movedOn : Job → Stage → ℕ → ℕ → Job
-movedOn j stage faces curves =
-    record {
-      stage = stage;
-      nx = j .nx;
-      ny = j .ny;
-      nz = j .nz;
-      «face_entries» = j .«face_entries»;
-      «curve_entries» = j .«curve_entries»;
-      «point_entries» = j .«point_entries»;
-      faces = j .faces + faces;
-      curves = j .curves + curves;
-      points = j .points;
-      «numbered_faces» = j .«numbered_faces»;
-      «numbered_curves» = j .«numbered_curves»;
-      «numbered_points» = j .«numbered_points»;
-    }
-
-pub record Advanced (j : Job) (cx cy cz ticks : List ℕ) (faces curves : ℕ) (r : Job) : Type 0 where
-  pub moved : r ≡ movedOn j (r .stage) faces curves
-  pub next : anyExtents cx cy cz (λ k. stageOf (r .stage) ≡ nextAfter k (tickedIn ticks) (stageOf (j .stage)))

@@ -2,46 +2,36 @@
 use blocks::Block;
 use blocks::block_at;
 use blocks::block_count;
-use blocks::good_cut;
-use blocks::has_block;
 use enrolment::store_keys;
 use enrolment::store_rows;
-use extents::off_size;
 use job::Job;
 use job::Stage;
 use job::block_trays;
 use job::found_trays;
 use job::link_trays;
-use job::same_stage;
 use job::tallies_fit;
-use refusals::BAD_CUT;
-use refusals::DONE_ALREADY;
-use refusals::NO_SUCH_PLACE;
-use refusals::OFF_SIZE;
 use refusals::STRAY_LABEL;
 use refusals::TABLE_FULL;
-use refusals::WRONG_STAGE;
 use refusals::WRONG_TRAY;
-use staging::is_ticked;
-use staging::next_stage;
+use steps::advance;
+use steps::map_fits;
+use steps::reached;
 use surveys::Survey;
 use surveys::survey_map;
 ghost use mathlib.Core.Path.{_≡_};
 ghost use mathlib.Core.Bool.{true};
 ghost use mathlib.Core.List.{[]};
 ghost use Prim.Native.Nat.{_+_, _*_, _≤_, _<_};
-ghost use lib.Dec.{eqb, ltb};
-ghost use lib.ListN.{length, set};
+ghost use lib.Dec.{ltb};
+ghost use lib.ListN.{length};
 ghost use Rattle.lists.specs.Lists.{overlay};
 ghost use Rattle.cells.specs.Box.{triple};
-ghost use Rattle.cells.specs.Extents.{Sized};
-ghost use Rattle.cells.specs.Grid.{cells};
-ghost use Rattle.cutting.specs.Cutting.{intervals, blocks, goodCut};
+ghost use Rattle.cutting.specs.Cutting.{blocks, goodCut};
 ghost use Rattle.joiner.specs.Calls.{enrol, answer, full};
 ghost use Rattle.joiner.specs.Entries.{EnrolDone, Step};
-ghost use Rattle.blocks.specs.Blocks.{cutOf, sizeOf};
+ghost use Rattle.blocks.specs.Blocks.{cutOf};
 ghost use Rattle.job.specs.Jobs.{byKind, anyCuts, toldOf, jobOf, tablesOf, stateOf};
-ghost use Rattle.enrolling.specs.Inner.{tablesFit, lentFit, earlyOf, lateOf, Judged, KindReady, KindDone, blockNumbers, Ready, Planned, Advanced};
+ghost use Rattle.enrolling.specs.Inner.{tablesFit, lentFit, earlyOf, lateOf, Judged, KindReady, KindDone, blockNumbers, Ready, Planned};
 
 // What an enrolment answers: the number of its refusal, 0 for none, and the job.
 pub struct Enrolled {
@@ -93,17 +83,6 @@ fn tables_fit(blocks: usize, job: Job, sizes: Sizes) -> bool
     found_trays(4, job.curve_entries, sizes.curve_keys, sizes.curve_rows)
 }
 
-// Whether a map of this length is one of the block.
-fn map_fits(block: Block, length: usize) -> bool
-    requires { ⌜ Sized 64 (sizeOf block) ⌝ }
-    ensures { λ r. ⌜ r ≡ eqb length (cells (sizeOf block)) ⌝ }
-{
-    let w = 2 * block.nx - 1;
-    let h = 2 * block.ny - 1;
-    let d = 2 * block.nz - 1;
-    length == w * h * d
-}
-
 // Whether a map of this length is one of block b, and every table has the stated length.
 fn lent_fit(
     job: Job,
@@ -138,21 +117,10 @@ fn early(
 ) -> u32
     ensures { λ r. ⌜ r ≡ earlyOf (jobOf job (now (cx .entry)) (now (cy .entry)) (now (cz .entry))) (now (ticks .entry)) sizes b length ⌝ }
 {
-    if off_size(1024, job.nx as usize, job.ny as usize, job.nz as usize) {
-        return OFF_SIZE;
-    }
-    if !good_cut(job.nx, job.ny, job.nz, cx, cy, cz) {
-        return BAD_CUT;
-    }
-    let stage = job.stage;
-    if !same_stage(stage, Stage::Enrol) {
-        return WRONG_STAGE;
-    }
-    if !has_block(cx, cy, cz, b) {
-        return NO_SUCH_PLACE;
-    }
-    if is_ticked(ticks, 6 * (b as usize)) {
-        return DONE_ALREADY;
+    let step = 6 * (b as usize);
+    let number = reached(job, cx, cy, cz, ticks, Stage::Enrol, b, step);
+    if number != 0 {
+        return number;
     }
     if !lent_fit(job, cx, cy, cz, sizes, b, length) {
         return WRONG_TRAY;
@@ -277,39 +245,6 @@ fn enrol_kind(
     store_rows(rows, from, count, m, keys, nx, ny, nz, block, j, shift);
 }
 
-// Ticks the step and moves the job on.
-fn advance(
-    job: Job,
-    cx: &[u32],
-    cy: &[u32],
-    cz: &[u32],
-    ticks: &mut [u32],
-    b: u32,
-    faces: u32,
-    curves: u32,
-) -> Job
-    requires { ⌜ (6 * b < length (now ticks)) × (intervals (now cx) * intervals (now cy) * intervals (now cz) ≤ 16384) × (job .faces + faces ≤ job .«face_entries») × (job .curves + curves ≤ job .«curve_entries») ⌝ }
-    ensures { λ r. ⌜ (now (ticks .exit) ≡ set (now (ticks .entry)) (6 * b) 1) × Advanced job (now (cx .entry)) (now (cy .entry)) (now (cz .entry)) (now (ticks .exit)) faces curves r ⌝ }
-{
-    ticks[6 * (b as usize)] = 1;
-    let stage = job.stage;
-    Job {
-        stage: next_stage(stage, ticks, cx, cy, cz),
-        nx: job.nx,
-        ny: job.ny,
-        nz: job.nz,
-        face_entries: job.face_entries,
-        curve_entries: job.curve_entries,
-        point_entries: job.point_entries,
-        faces: job.faces + faces,
-        curves: job.curves + curves,
-        points: job.points,
-        numbered_faces: job.numbered_faces,
-        numbered_curves: job.numbered_curves,
-        numbered_points: job.numbered_points,
-    }
-}
-
 // Stores what an accepted enrolment leaves.
 fn act(
     job: Job,
@@ -341,6 +276,7 @@ fn act(
         (now («face_rows» .exit)) (now («curve_rows» .exit)) [] [] [] [] [] [] [] [] [] [])) ⌝ }
 {
     let b = block as usize;
+    let step = 6 * b;
     let faces = job.faces as usize;
     let curves = job.curves as usize;
     let more_faces = plan.faces as usize;
@@ -377,7 +313,7 @@ fn act(
         1,
         job.faces,
     );
-    advance(job, cx, cy, cz, ticks, block, plan.faces, plan.curves)
+    advance(job, ticks, cx, cy, cz, step, plan.faces, plan.curves, 0)
 }
 
 // Enrols a block with its map.

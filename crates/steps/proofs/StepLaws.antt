@@ -53,9 +53,19 @@ module _ (x y : ℕ) where
   unfolding orElse
   or-none h = by-test (eqb x 0) (λ t. (eqb-true x 0 t, rw t at h)) (λ t. absurd (eqb-false x 0 t (rw t at h)))
 
-or-assoc : (x y z : ℕ) → orElse x (orElse y z) ≡ orElse (orElse x y) z
+pub or-assoc : (x y z : ℕ) → orElse x (orElse y z) ≡ orElse (orElse x y) z
 unfolding orElse
 or-assoc x y z = by-test (eqb x 0) (λ t. rw t) (λ t. rw (t, t))
+
+-- 6, or else what follows
+pub or-six : (a : Bool) (x : ℕ) → cond (not a) 6 x ≡ orElse (cond (not a) 6 0) x
+unfolding orElse
+or-six true x = refl
+or-six false x = refl
+
+pub six-none : (a : Bool) → _≡_ {A = ℕ} (cond (not a) 6 0) 0 → a ≡ true
+six-none true h = refl
+six-none false h = absurd (omega arith)
 
 -- ---- the ladder
 
@@ -245,6 +255,11 @@ module _ (j : Job) (cx cy cz : List ℕ) (t t′ : Tables) (c : Call) (step face
   -- A ticked step is what the joiner asks for.
   pub ticked-by : (r : Job) → Advanced j cx cy cz (t .ticks) (t′ .ticks) step faces curves points r → Ticked (stateOf j cx cy cz t) (stateOf r cx cy cz t′) c step
   ticked-by r A = subst (λ (x : Job). Ticked (stateOf j cx cy cz t) (stateOf x cx cy cz t′) c step) (sym (A .is)) (moved (r .stage) (A .one) (A .next))
+
+-- What is numbered stays.
+pub numbered-kept : (j : Job) (cx cy cz ticks ticks′ : List ℕ) (step faces curves points : ℕ) (r : Job) → Advanced j cx cy cz ticks ticks′ step faces curves points r
+    → (κ : Kind) → jobOf r cx cy cz .numbered κ ≡ jobOf j cx cy cz .numbered κ
+numbered-kept j cx cy cz ticks ticks′ step faces curves points r A κ = ap (λ (x : Job). jobOf x cx cy cz .numbered κ) (A .is)
 
 -- ---- one call
 
