@@ -28,17 +28,16 @@ use Rattle.seams.specs.Walks.{layerEdges}
 use Rattle.seams.proofs.SeamWalks.{seam-joined}
 use Rattle.blocks.specs.Blocks.{Tells, sizeOf}
 use Rattle.blocks.specs.declared.Block.{Block}
-use Rattle.blocks.proofs.BlockLaws.{good-few, told-sized}
 use Rattle.job.specs.declared.Job.{Job}
-use Rattle.job.specs.declared.Stage.{Stage}
-use Rattle.job.specs.Jobs.{toldOf, jobOf, stateOf, stageOf}
+use Rattle.job.specs.Jobs.{byKind, toldOf, jobOf, stateOf}
 use Rattle.job.proofs.JobLaws.{fits-append}
 use Rattle.staging.specs.Staging.{tickedIn}
-use Rattle.staging.proofs.StagingLaws.{next-told}
-use Rattle.seaming.specs.declared.Entry.{Entry}
+use Rattle.steps.specs.declared.Entry.{Entry}
+use Rattle.steps.specs.Steps.{entryOf, placedOf, lateOf, Advanced}
+use Rattle.steps.proofs.StepLaws.{refusal-opened, late-none, few-of, block-sized, stands-is, ticked-by, numbered-kept, step-refused, step-accepted}
 use Rattle.seaming.specs.declared.Joined.{Joined}
 use Rattle.seaming.specs.declared.Shared.{Shared}
-use Rattle.seaming.specs.Inner.{lent, sizesOf, entryOf, mapsFitIn, traysFit, standsBy, mapStandsIn, standIn, restOf, refusalOf, Ready, SharedBy, Linked, staged, Advanced}
+use Rattle.seaming.specs.Inner.{lent, sizesOf, mapsFitIn, traysFit, standIn, restOf, refusalOf, Ready, SharedBy, Linked}
 
 module _ (j : Job) (cx cy cz ticks blocks′ faces curves : List ℕ) (b c : ℕ) (m n : List ℕ) where
   abbrev pub k : Cutting
@@ -54,36 +53,24 @@ module _ (j : Job) (cx cy cz ticks blocks′ faces curves : List ℕ) (b c : ℕ
   unfolding blockTrays linkTrays traysFit mapsFitIn
   trays-is = ap (λ (x : Bool). mapsFit k (join b c m n) && x) (fits-append (blockTrays (before .job .told) (before .tables)) (linkTrays (before .job .told) (before .tables)))
 
-  stand-is : (e : Triple) (d : ℕ) (l : List ℕ) → mapStands before e d l ≡ mapStandsIn e (entryOf blocks′ d) (j .faces) (j .curves) l
-  unfolding mapStands counted standing countOf fromOf mapStandsIn standsBy entryOf
-  stand-is e d l = rw (let q : 5 * d + 0 ≡ 5 * d = omega arith in q)
-
-  stands-is : (talliesFit (before .job) && standsFor before (join b c m n))
+  stands-both : (talliesFit (before .job) && standsFor before (join b c m n))
       ≡ standIn (talliesFit (jobOf j cx cy cz)) (blockExtents k b) (blockExtents k c) (entryOf blocks′ b) (entryOf blocks′ c) (j .faces) (j .curves) m n
   unfolding standIn
-  stands-is = rw (stand-is (blockExtents k b) b m, stand-is (blockExtents k c) c n)
+  stands-both = rw (stands-is before (blockExtents k b) b m, stands-is before (blockExtents k c) c n)
 
-  -- 10 cannot stand: nothing is added
-  room : talliesFit (before .job) ≡ true → full (before .job .told .entries) (before .job .sofar) (adds before (join b c m n)) ≡ false
-  unfolding full overfull adds
-  room t =
-      let h : (κ : Kind) → before .job .sofar κ ≤ before .job .told .entries κ = tally-fits (before .job) t in
-      rw (
-        le-ltb (j .«face_entries») (j .faces + 0) (omega (arith, h Face)),
-        le-ltb (j .«curve_entries») (j .curves + 0) (omega (arith, h Curve)),
-        le-ltb (j .«point_entries») (j .points + 0) (omega (arith, h Point)),
-      )
+  none : (κ : Kind) → adds before (join b c m n) κ ≡ 0
+  unfolding adds
+  none κ = refl
 
-  no-room : (l : Bool)
-      → _≡_ {A = ℕ} (cond (stray before (join b c m n)) 8 (cond l 9 (cond (full (before .job .told .entries) (before .job .sofar) (adds before (join b c m n))) 10 0)))
-      (cond (not (talliesFit (before .job) && standsFor before (join b c m n))) 8 (cond l 9 0))
-  unfolding stray
-  no-room l =
-      by-test (talliesFit (before .job) && standsFor before (join b c m n)) (λ t. rw (t, room (and-left (talliesFit (before .job)) (standsFor before (join b c m n)) t))) (λ t. rw t)
+  adds-none : (κ : Kind) → adds before (join b c m n) κ ≡ byKind 0 0 0 κ
+  unfolding adds
+  adds-none Face = refl
+  adds-none Curve = refl
+  adds-none Point = refl
 
   pub refusal-is : refusal before (join b c m n) ≡ refusalOf j cx cy cz ticks (sizesOf ticks blocks′ faces curves m n) blocks′ b c m n
-  unfolding refusal declines lowest first table number refusalOf restOf ticked tickedIn seamStep
-  refusal-is = rw (← trays-is, ← stands-is, ← no-room (layersDiffer k (join b c m n)))
+  unfolding refusalOf restOf placedOf lateOf ticked tickedIn seamStep
+  refusal-is = refusal-opened before (join b c m n) refl ∙ rw (← trays-is, ← stands-both, ← late-none before (join b c m n) none (layersDiffer k (join b c m n)))
 
   -- ---- what an accepted step has passed
 
@@ -92,17 +79,22 @@ module _ (j : Job) (cx cy cz ticks blocks′ faces curves : List ℕ) (b c : ℕ
     F = facts before (join b c m n) (refusal-is ∙ acc .none)
 
     pub seam-few : intervals cx * intervals cy * intervals cz ≤ 16384
-    seam-few = good-few k (F .cut)
+    seam-few = few-of k (F .cut)
 
     pub low-sized : (r : Block) → Tells k b r → Sized 64 (sizeOf r)
-    low-sized r A = told-sized k b r A (F .cut) (seam-listed k b c (F .at) .0)
+    low-sized = block-sized k (F .cut) b (seam-listed k b c (F .at) .0)
 
     pub high-sized : (r : Block) → Tells k c r → Sized 64 (sizeOf r)
-    high-sized r A = told-sized k c r A (F .cut) (seam-listed k b c (F .at) .1)
+    high-sized = block-sized k (F .cut) c (seam-listed k b c (F .at) .1)
 
     pub step-in : (axis step : ℕ) → axis ≡ seamAxis k b c → step ≡ 6 * b + axis → step < length ticks
     unfolding blockTrays
     step-in axis step e f = omega (arith, axis-bound k b c, seam-listed k b c (F .at) .0, fits-at (lentTo (before .job .told) (before .tables) (join b c m n)) 0 (F .lent))
+
+    pub seam-sums : (j .faces + 0 ≤ j .«face_entries») × (j .curves + 0 ≤ j .«curve_entries») × (j .points + 0 ≤ j .«point_entries»)
+    seam-sums =
+        let h : (κ : Kind) → before .job .sofar κ ≤ before .job .told .entries κ = tally-fits (before .job) (F .tallies) in
+        (omega (arith, h Face), omega (arith, h Curve), omega (arith, h Point))
 
     pub face-length : length faces ≡ j .«face_entries»
     unfolding blockTrays linkTrays
@@ -146,25 +138,21 @@ module _ (j : Job) (cx cy cz ticks blocks′ faces curves : List ℕ) (b c : ℕ
             merged Curve 2 (j .«curve_entries») refl (curves-stand before (blockExtents k b) b m lower-stands) (curves-stand before (blockExtents k c) c n upper-stands)
             (tally-fits (before .job) (F .tallies) Curve) curves curves′ (K .of-curves)
 
-        staged-done : (ticks′ : List ℕ) (st : Stage) → ticks′ ≡ set ticks (6 * b + seamAxis k b c) 1 → stageOf st ≡ nextAfter k (tickedIn ticks′) (stageOf (j .stage))
-            → SeamDone before b c m n (stateOf (staged j st) cx cy cz (lent ticks′ blocks′ faces′ curves′))
-        unfolding seamStep adds
-        staged-done ticks′ st e h =
-            record {
-              step = record { told = refl; ticks = e; stage = next-told k (lent ticks′ blocks′ faces′ curves′) (stageOf (j .stage)) (stageOf st) h; sofar = λ κ. omega arith };
-              blocks = refl;
-              faces = faces-merged;
-              curves = curves-merged;
-              found = λ κ. record { keys = refl; rows = refl };
-              numbers = λ κ. record { numbered = refl; numbers = refl; firsts = refl; listed = refl };
-            }
-
       pub seam-done : (d g : Entry) → d ≡ entryOf blocks′ b → g ≡ entryOf blocks′ c → (step : ℕ) → step ≡ 6 * b + axis → (next : Job) (ticks′ faces′ curves′ : List ℕ)
-          → Advanced j cx cy cz ticks ticks′ step next → Linked faces faces′ curves curves′ sh d g (j .«face_entries») (j .«curve_entries») m n
+          → Advanced j cx cy cz ticks ticks′ step 0 0 0 next → Linked faces faces′ curves curves′ sh d g (j .«face_entries») (j .«curve_entries») m n
           → SeamDone before b c m n (stateOf next cx cy cz (lent ticks′ blocks′ faces′ curves′))
+      unfolding seamStep
       seam-done d g p q step e next ticks′ faces′ curves′ T K =
-          subst (λ (x : Job). SeamDone before b c m n (stateOf x cx cy cz (lent ticks′ blocks′ faces′ curves′))) (sym (T .is))
-          (staged-done faces′ curves′ (rw (p, q) at K) ticks′ (next .stage) (rw (e, number-is) at (T .one)) (T .next))
+          let L = rw (p, q) at K in
+          let A = rw (e, number-is) at T in
+          record {
+            step = ticked-by j cx cy cz (lent ticks blocks′ faces curves) (lent ticks′ blocks′ faces′ curves′) (join b c m n) (6 * b + seamAxis k b c) 0 0 0 adds-none next A;
+            blocks = refl;
+            faces = faces-merged faces′ curves′ L;
+            curves = curves-merged faces′ curves′ L;
+            found = λ κ. record { keys = refl; rows = refl };
+            numbers = λ κ. record { numbered = numbered-kept j cx cy cz ticks ticks′ step 0 0 0 next T κ; numbers = refl; firsts = refl; listed = refl };
+          }
 
   -- ---- the entry
 
@@ -173,15 +161,11 @@ module _ (j : Job) (cx cy cz ticks blocks′ faces curves : List ℕ) (b c : ℕ
     told-number = e ∙ sym refusal-is
 
     pub seam-refused : (number′ ≡ 0 → ⊥) → Step before (join b c m n) (answer number′ 0 []) before
-    seam-refused z = record { told = told-number; declined = λ _. (ap (λ (x : ℕ). answer x 0 []) told-number, refl); accepted = λ a. absurd (z (told-number ∙ a)) }
+    seam-refused = step-refused before (join b c m n) number′ told-number
 
     pub ready : number′ ≡ 0 → Ready j cx cy cz ticks blocks′ faces curves b c m n
     ready z = record { none = sym e ∙ z }
 
     pub seam-accepted : number′ ≡ 0 → (r : Joined) (t : State) → (r .refusal ≡ 0) × SeamDone before b c m n t → Step before (join b c m n) (answer (r .refusal) 0 []) t
     seam-accepted z r t u =
-        record {
-          told = u .0 ∙ sym z ∙ told-number;
-          declined = λ d. absurd (d (sym told-number ∙ z));
-          accepted = λ a. (ap (λ (x : ℕ). answer x 0 []) (u .0), u .1);
-        }
+        step-accepted before (join b c m n) number′ told-number z (answer (r .refusal) 0 []) t (u .0) (ap (λ (x : ℕ). answer x 0 []) (u .0), u .1)

@@ -3,54 +3,33 @@
 use mathlib.Core.Path.{_≡_, refl, sym, _∙_}
 use mathlib.Core.Bool.{Bool, true, false, not, _&&_}
 use mathlib.Core.List.{List}
-use Prim.Native.Nat.{ℕ, _+_, _*_, _≤_}
+use Prim.Native.Nat.{ℕ, _+_, _*_}
 use lib.Dec.{eqb}
-use lib.ListN.{getD, length, set, List·getD-eq-default}
 use borrow.Author.Tests.{not-true, not-false, eqb-true}
 use Rattle.lists.proofs.Cases.{and-left, and-right}
 use Rattle.cells.specs.Box.{Triple}
 use Rattle.cells.specs.Extents.{Sized}
 use Rattle.cells.specs.Grid.{cells}
-use Rattle.labels.specs.Components.{largest}
-use Rattle.cutting.specs.Cutting.{Cutting, intervals, blocks, blockExtents, goodCut, seam}
+use Rattle.cutting.specs.Cutting.{Cutting, blocks, blockExtents, goodCut, seam}
 use Rattle.joiner.specs.Calls.{join, layersDiffer}
-use Rattle.joiner.specs.Declines.{filled}
-use Rattle.joiner.specs.Stages.{seamAxis, nextAfter}
+use Rattle.joiner.specs.Job.{Seam}
+use Rattle.joiner.specs.Stages.{seamAxis}
 use Rattle.joiner.proofs.Shared.{seam-listed}
 use Rattle.seams.specs.Walks.{layersDifferTo}
 use Rattle.seams.proofs.SeamWalks.{seam-differs}
 use Rattle.blocks.specs.Blocks.{Tells, sizeOf, anyExtents}
 use Rattle.blocks.specs.declared.Block.{Block}
-use Rattle.blocks.proofs.BlockLaws.{good-few, told-sized}
-use Rattle.surveys.specs.declared.Survey.{Survey}
-use Rattle.blocks.proofs.CodeLaws.{blocks-are}
 use Rattle.job.specs.declared.Job.{Job}
-use Rattle.job.specs.declared.Stage.{Stage}
-use Rattle.job.specs.Jobs.{stageOf}
+use Rattle.job.specs.Jobs.{jobOf, toldOf}
 use Rattle.staging.specs.Staging.{tickedIn}
-use Rattle.seaming.specs.declared.Entry.{Entry}
+use Rattle.steps.specs.declared.Entry.{Entry}
+use Rattle.steps.specs.Steps.{openedOf, entryOf, mapStandsIn}
+use Rattle.steps.proofs.StepLaws.{or-first, or-then, opened-passed, block-sized}
 use Rattle.seaming.specs.declared.Shared.{Shared}
 use Rattle.seaming.specs.declared.Sizes.{Sizes}
-use Rattle.seaming.specs.Inner.{standsBy, mapStandsIn, standIn, traysFit, mapsFitIn, entryOf, anySeam, SharedBy, staged, Advanced}
+use Rattle.seaming.specs.Inner.{standIn, traysFit, mapsFitIn, restOf, refusalOf, anySeam, SharedBy}
 
-pub past : (l : List ℕ) (i : ℕ) → length l ≤ i → 0 ≡ getD l i 0
-past l i h = sym (List·getD-eq-default l 0 {n = i} h)
-
--- ---- the tests of a map
-
--- a value that the code has is tested itself
-module _ (b r c : Bool) where
-  pub stands-here : not b ≡ true → false ≡ (b && c)
-  stands-here p = rw (not-true b p)
-
-  pub stands-next : not b ≡ false → r ≡ c → r ≡ (b && c)
-  stands-next p q = rw (not-false b p) q
-
-pub map-stands-by : (e : Triple) (m : List ℕ) (d : Entry) (faces curves : ℕ) (s : Survey) (r : Bool)
-    → s .filled ≡ filled e m → s .faces ≡ largest e m 2 → s .curves ≡ largest e m 1 → s .points ≡ largest e m 0
-    → r ≡ standsBy (s .filled) (s .faces) (s .curves) (s .points) d faces curves → r ≡ mapStandsIn e d faces curves m
-unfolding mapStandsIn
-map-stands-by e m d faces curves s r f a b c h = rw (← f, ← a, ← b, ← c) h
+-- ---- the tests of the maps
 
 module _ (e f : Triple) (d g : Entry) (faces curves : ℕ) (m n : List ℕ) (t u : Bool) (h : t ≡ u) where
   pub stand-none : not t ≡ true → false ≡ standIn u e f d g faces curves m n
@@ -77,17 +56,11 @@ module _ (low high : Block) (axis : ℕ) (m n : List ℕ) (s : Shared) (S : Shar
 -- ---- the ladder of refusals
 
 module _ (k : Cutting) (b c : ℕ) (good : goodCut k ≡ true) (is-seam : seam k b c ≡ true) where
-  pub few-of : intervals (k .cx) * intervals (k .cy) * intervals (k .cz) ≤ 16384
-  few-of = good-few k good
-
   pub lower-sized : (low : Block) → Tells k b low → Sized 64 (sizeOf low)
-  lower-sized low A = told-sized k b low A good (seam-listed k b c is-seam .0)
+  lower-sized = block-sized k good b (seam-listed k b c is-seam .0)
 
   pub upper-sized : (high : Block) → Tells k c high → Sized 64 (sizeOf high)
-  upper-sized high B = told-sized k c high B good (seam-listed k b c is-seam .1)
-
-  pub count-few : (count : ℕ) → count ≡ blocks k → count ≤ 16384
-  count-few count e = rw (e, blocks-are k) few-of
+  upper-sized = block-sized k good c (seam-listed k b c is-seam .1)
 
 -- what the tests tell of the blocks
 module _ (k : Cutting) (b c : ℕ) (low high : Block) (A : Tells k b low) (B : Tells k c high) where
@@ -117,11 +90,34 @@ module _ (e f : Triple) (count faces curves : ℕ) (z : Sizes) (u : Bool) (h : u
 pub tick-told : (k : Cutting) (ticks : List ℕ) (b c axis step : ℕ) (u : Bool) → axis ≡ seamAxis k b c → step ≡ 6 * b + axis → u ≡ tickedIn ticks step → u ≡ tickedIn ticks (6 * b + seamAxis k b c)
 tick-told k ticks b c axis step u e f h = rw (← e, ← f) h
 
--- ---- a ticked step
-
-pub advanced : (j : Job) (cx cy cz ticks ticks′ : List ℕ) (step : ℕ) (s : Stage) → ticks′ ≡ set ticks step 1
-    → anyExtents cx cy cz (λ k. stageOf s ≡ nextAfter k (tickedIn ticks′) (stageOf (j .stage))) → Advanced j cx cy cz ticks ticks′ step (staged j s)
-advanced j cx cy cz ticks ticks′ step s e h = record { is = refl; one = e; next = h (j .nx) (j .ny) (j .nz) }
-
 pub kept : (s t : Bool) → s ≡ t → not s ≡ false → t ≡ true
 kept s t e p = sym e ∙ not-false s p
+
+-- the rungs of `refusal`
+module _ (j : Job) (cx cy cz ticks : List ℕ) (z : Sizes) (table : List ℕ) (b c : ℕ) (m n : List ℕ) (r : ℕ) (e : r ≡ openedOf (jobOf j cx cy cz) Seam) where
+  abbrev Refuses : ℕ → Type 0
+  Refuses x = x ≡ refusalOf j cx cy cz ticks z table b c m n
+
+  pub seam-first : (r ≡ 0 → ⊥) → Refuses r
+  unfolding refusalOf
+  seam-first q = rw (← e) (or-first r _ q)
+
+  module _ (q : r ≡ 0) (t : Bool) (h : anyExtents cx cy cz (λ k. t ≡ seam k b c)) where
+    is-seam : t ≡ seam (toldOf j cx cy cz .cutting) b c
+    is-seam = h (j .nx) (j .ny) (j .nz)
+
+    pub seam-4 : not t ≡ true → Refuses 4
+    unfolding refusalOf
+    seam-4 p = rw (← e, sym is-seam ∙ not-true t p) (or-then r _ 4 q refl)
+
+    module _ (p : not t ≡ false) (u : Bool) (i : u ≡ tickedIn ticks (6 * b + seamAxis (toldOf j cx cy cz .cutting) b c)) where
+      pub seam-5 : u ≡ true → Refuses 5
+      unfolding refusalOf
+      seam-5 w = rw (← e, sym is-seam ∙ not-false t p, sym i ∙ w) (or-then r _ 5 q refl)
+
+      pub seam-rest : u ≡ false → (x : ℕ) → x ≡ restOf j cx cy cz z table b c m n → Refuses x
+      unfolding refusalOf
+      seam-rest w x f = rw (← e, sym is-seam ∙ not-false t p, sym i ∙ w) (or-then r _ x q f)
+
+pub seam-passed : (j : Job) (cx cy cz : List ℕ) (r : ℕ) → r ≡ openedOf (jobOf j cx cy cz) Seam → r ≡ 0 → goodCut (toldOf j cx cy cz .cutting) ≡ true
+seam-passed j cx cy cz r e q = opened-passed (jobOf j cx cy cz) Seam (sym e ∙ q) .good

@@ -4,28 +4,26 @@ use mathlib.Core.Path.{_≡_}
 use mathlib.Core.Bool.{Bool, true, false, not, cond, _&&_}
 use mathlib.Core.List.{List, []}
 use Prim.Native.Nat.{ℕ, _+_, _*_}
-use lib.Dec.{eqb, leb}
-use lib.ListN.{getD, length, set}
+use lib.Dec.{eqb}
+use lib.ListN.{length}
 use Rattle.closure.specs.Joined.{joins}
 use Rattle.union_find.specs.Links.{root, Rooted}
 use Rattle.cells.specs.Box.{Triple}
-use Rattle.cells.specs.Extents.{offSize}
 use Rattle.cells.specs.Grid.{cells, sides}
-use Rattle.labels.specs.Components.{largest}
 use Rattle.cutting.specs.Cutting.{Cutting, blocks, blockExtents, goodCut, seam}
-use Rattle.joiner.specs.Job.{Seam, Tables, fits, sameStage}
-use Rattle.joiner.specs.Stages.{seamAxis, nextAfter}
+use Rattle.joiner.specs.Job.{Seam, Tables, fits}
+use Rattle.joiner.specs.Stages.{seamAxis}
 use Rattle.joiner.specs.Calls.{join, layersDiffer}
-use Rattle.joiner.specs.Declines.{filled, talliesFit}
+use Rattle.joiner.specs.Declines.{talliesFit}
 use Rattle.layers.specs.Layers.{axisOf, columnsOf, rowsOf}
 use Rattle.seams.specs.Walks.{LayerOf, layerEdges}
 use Rattle.blocks.specs.Blocks.{Tells, sizeOf}
 use Rattle.blocks.specs.declared.Block.{Block}
 use Rattle.job.specs.declared.Job.{Job}
-use Rattle.job.specs.declared.Stage.{Stage}
-use Rattle.job.specs.Jobs.{blockLengths, linkLengths, tablesOf, toldOf, jobOf, stageOf}
+use Rattle.job.specs.Jobs.{blockLengths, linkLengths, tablesOf, toldOf, jobOf}
 use Rattle.staging.specs.Staging.{tickedIn}
-use Rattle.seaming.specs.declared.Entry.{Entry}
+use Rattle.steps.specs.declared.Entry.{Entry}
+use Rattle.steps.specs.Steps.{orElse, openedOf, entryOf, mapStandsIn}
 use Rattle.seaming.specs.declared.Shared.{Shared}
 use Rattle.seaming.specs.declared.Sizes.{Sizes}
 
@@ -45,17 +43,6 @@ sizesOf ticks blocks faces curves m n =
       upper = length n;
     }
 
--- What the block table tells of block b: the joiner's `countOf` and `fromOf`.
-unfoldable pub entryOf : List ℕ → ℕ → Entry
-entryOf blocks b =
-    record {
-      faces = getD blocks (5 * b) 0;
-      curves = getD blocks (5 * b + 1) 0;
-      points = getD blocks (5 * b + 2) 0;
-      «face_from» = getD blocks (5 * b + 3) 0;
-      «curve_from» = getD blocks (5 * b + 4) 0;
-    }
-
 -- 6 denies it: the maps of blocks of e and f voxels, the tables of so many blocks, and the links.
 unfoldable pub mapsFitIn : Triple → Triple → Sizes → Bool
 mapsFitIn e f z = eqb (z .lower) (cells e) && eqb (z .upper) (cells f)
@@ -64,18 +51,7 @@ unfoldable pub traysFit : ℕ → Triple → Triple → ℕ → ℕ → Sizes �
 traysFit count e f faces curves z =
     mapsFitIn e f z && (fits (blockLengths count (z .ticks) (z .blocks)) && fits (linkLengths faces curves (z .«face_links») (z .«curve_links»)))
 
--- 8 denies it: the joiner's `mapStands`, by what a survey and the block table tell.
-unfoldable pub standsBy : Bool → ℕ → ℕ → ℕ → Entry → ℕ → ℕ → Bool
-standsBy filled faces curves points d all-faces all-curves =
-    filled &&
-    (leb faces (d .faces) &&
-    (leb curves (d .curves) &&
-    (leb points (d .points) && (leb (d .«face_from» + d .faces) all-faces && leb (d .«curve_from» + d .curves) all-curves))))
-
-unfoldable pub mapStandsIn : Triple → Entry → ℕ → ℕ → List ℕ → Bool
-mapStandsIn e d all-faces all-curves m = standsBy (filled e m) (largest e m 2) (largest e m 1) (largest e m 0) d all-faces all-curves
-
--- .. of both maps, and the tallies.
+-- 8 denies it: both maps keep to their entries, and the tallies fit.
 unfoldable pub standIn : Bool → Triple → Triple → Entry → Entry → ℕ → ℕ → List ℕ → List ℕ → Bool
 standIn tallies e f d g all-faces all-curves m n = tallies && (mapStandsIn e d all-faces all-curves m && mapStandsIn f g all-faces all-curves n)
 
@@ -91,11 +67,8 @@ restOf j cx cy cz z table b c m n =
 unfoldable pub refusalOf : Job → List ℕ → List ℕ → List ℕ → List ℕ → Sizes → List ℕ → ℕ → ℕ → List ℕ → List ℕ → ℕ
 refusalOf j cx cy cz ticks z table b c m n =
     let k : Cutting = toldOf j cx cy cz .cutting in
-    cond (offSize 1024 (k .extents)) 1
-    (cond (not (goodCut k)) 2
-    (cond (not (sameStage (stageOf (j .stage)) Seam)) 3
-    (cond (not (seam k b c)) 4
-    (cond (tickedIn ticks (6 * b + seamAxis k b c)) 5 (restOf j cx cy cz z table b c m n)))))
+    orElse (openedOf (jobOf j cx cy cz) Seam)
+    (cond (not (seam k b c)) 4 (cond (tickedIn ticks (6 * b + seamAxis k b c)) 5 (restOf j cx cy cz z table b c m n)))
 
 -- ---- the act
 
@@ -126,28 +99,3 @@ pub record SharedBy (low high : Block) (axis : ℕ) (s : Shared) : Type 0 where
 pub record Linked (faces faces′ curves curves′ : List ℕ) (s : Shared) (d g : Entry) (entries entries′ : ℕ) (m n : List ℕ) : Type 0 where
   pub of-faces : Rooted faces faces′ (joins (root faces) (layerEdges m (s .lower) n (s .upper) 1 (d .«face_from») (g .«face_from») entries (s .columns) (s .rows)))
   pub of-curves : Rooted curves curves′ (joins (root curves) (layerEdges m (s .lower) n (s .upper) 2 (d .«curve_from») (g .«curve_from») entries′ (s .columns) (s .rows)))
-
--- The job in another stage.
-abbrev pub staged : Job → Stage → Job
-staged j s =
-    record {
-      stage = s;
-      nx = j .nx;
-      ny = j .ny;
-      nz = j .nz;
-      «face_entries» = j .«face_entries»;
-      «curve_entries» = j .«curve_entries»;
-      «point_entries» = j .«point_entries»;
-      faces = j .faces;
-      curves = j .curves;
-      points = j .points;
-      «numbered_faces» = j .«numbered_faces»;
-      «numbered_curves» = j .«numbered_curves»;
-      «numbered_points» = j .«numbered_points»;
-    }
-
--- The job after a step was ticked.
-pub record Advanced (j : Job) (cx cy cz ticks ticks′ : List ℕ) (step : ℕ) (r : Job) : Type 0 where
-  pub is : r ≡ staged j (r .stage)
-  pub one : ticks′ ≡ set ticks step 1
-  pub next : stageOf (r .stage) ≡ nextAfter (toldOf j cx cy cz .cutting) (tickedIn ticks′) (stageOf (j .stage))

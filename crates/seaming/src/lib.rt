@@ -2,23 +2,17 @@
 use blocks::Block;
 use blocks::block_at;
 use blocks::block_count;
-use blocks::good_cut;
 use blocks::is_seam;
 use blocks::seam_axis;
-use extents::off_size;
 use job::Job;
 use job::Stage;
 use job::block_trays;
 use job::link_trays;
-use job::same_stage;
 use job::tallies_fit;
-use refusals::BAD_CUT;
 use refusals::DONE_ALREADY;
 use refusals::LAYERS_DIFFER;
 use refusals::NO_SUCH_PLACE;
-use refusals::OFF_SIZE;
 use refusals::STRAY_LABEL;
-use refusals::WRONG_STAGE;
 use refusals::WRONG_TRAY;
 use seams::Layer;
 use seams::columns_of;
@@ -26,21 +20,23 @@ use seams::join_layers;
 use seams::layer_of;
 use seams::layers_differ;
 use seams::rows_of;
-use staging::next_stage;
-use surveys::Survey;
-use surveys::survey_map;
+use staging::is_ticked;
+use steps::Entry;
+use steps::advance;
+use steps::entry_of;
+use steps::map_fits;
+use steps::map_stands;
+use steps::opened;
 ghost use mathlib.Core.Path.{_≡_};
 ghost use mathlib.Core.Bool.{true};
 ghost use mathlib.Core.List.{[]};
-ghost use Prim.Native.Nat.{_+_, _*_, _≤_, _<_};
-ghost use lib.Dec.{eqb, leb};
-ghost use lib.ListN.{getD, length};
+ghost use Prim.Native.Nat.{_+_, _*_, _≤_};
+ghost use lib.ListN.{length};
 ghost use Rattle.closure.specs.Joined.{joins};
 ghost use Rattle.union_find.specs.Links.{root, Rooted};
-ghost use Rattle.cells.specs.Box.{triple};
 ghost use Rattle.cells.specs.Extents.{Sized};
 ghost use Rattle.cells.specs.Grid.{cells};
-ghost use Rattle.cutting.specs.Cutting.{intervals, goodCut, seam};
+ghost use Rattle.cutting.specs.Cutting.{goodCut, seam};
 ghost use Rattle.joiner.specs.Stages.{seamAxis};
 ghost use Rattle.joiner.specs.Calls.{join, answer, layersDiffer};
 ghost use Rattle.joiner.specs.Declines.{talliesFit};
@@ -48,8 +44,7 @@ ghost use Rattle.joiner.specs.Entries.{Step, SeamDone};
 ghost use Rattle.seams.specs.Walks.{layerEdges};
 ghost use Rattle.blocks.specs.Blocks.{cutOf, sizeOf};
 ghost use Rattle.job.specs.Jobs.{anyCuts, jobOf, stateOf};
-ghost use Rattle.staging.specs.Staging.{tickedIn};
-ghost use Rattle.seaming.specs.Inner.{lent, entryOf, mapsFitIn, traysFit, standsBy, mapStandsIn, standIn, restOf, refusalOf, Ready, anySeam, SharedBy, Linked, Advanced};
+ghost use Rattle.seaming.specs.Inner.{lent, mapsFitIn, traysFit, standIn, restOf, refusalOf, Ready, anySeam, SharedBy, Linked};
 
 // What a seam step answers: the number of its refusal, 0 for none, and the job.
 pub struct Joined {
@@ -67,15 +62,6 @@ struct Sizes {
     upper: usize,
 }
 
-// What the block table tells of a block: its largest numbers, and the places of its first face and first curve.
-struct Entry {
-    faces: u32,
-    curves: u32,
-    points: u32,
-    face_from: u32,
-    curve_from: u32,
-}
-
 // The layer that the blocks share, in the map of each.
 struct Shared {
     lower: Layer,
@@ -84,57 +70,11 @@ struct Shared {
     rows: u16,
 }
 
-// The entry of a table, 0 past its end.
-fn at(table: &[u32], i: usize) -> u32
-    ensures { λ r. ⌜ r ≡ getD (now (table .entry)) i 0 ⌝ }
-{
-    if i < table.len() {
-        return table[i];
-    }
-    0
-}
-
-fn entry_of(table: &[u32], b: u32) -> Entry
-    ensures { λ r. ⌜ r ≡ entryOf (now (table .entry)) b ⌝ }
-{
-    let i = 5 * b as usize;
-    Entry {
-        faces: at(table, i),
-        curves: at(table, i + 1),
-        points: at(table, i + 2),
-        face_from: at(table, i + 3),
-        curve_from: at(table, i + 4),
-    }
-}
-
 // The number of a seam's step.
 fn step_of(lower: u32, axis: u32) -> usize
     ensures { λ r. ⌜ r ≡ 6 * lower + axis ⌝ }
 {
     6 * lower as usize + axis as usize
-}
-
-// Whether step i is ticked.
-fn is_ticked(ticks: &[u32], i: usize) -> bool
-    ensures { λ r. ⌜ r ≡ tickedIn (now (ticks .entry)) i ⌝ }
-{
-    at(ticks, i) != 0
-}
-
-// How many cells a block has.
-fn cell_count(nx: usize, ny: usize, nz: usize) -> usize
-    requires { ⌜ Sized 64 (triple nx ny nz) ⌝ }
-    ensures { λ r. ⌜ r ≡ cells (triple nx ny nz) ⌝ }
-{
-    (2 * nx - 1) * (2 * ny - 1) * (2 * nz - 1)
-}
-
-// Whether a map's length is its block's cells.
-fn map_fits(block: Block, size: usize) -> bool
-    requires { ⌜ Sized 64 (sizeOf block) ⌝ }
-    ensures { λ r. ⌜ r ≡ eqb size (cells (sizeOf block)) ⌝ }
-{
-    size == cell_count(block.nx, block.ny, block.nz)
 }
 
 // Whether both maps have the lengths of their blocks.
@@ -167,50 +107,7 @@ fn trays_fit(blocks: usize, low: Block, high: Block, job: Job, sizes: Sizes) -> 
     )
 }
 
-fn within(n: u32, most: u32) -> bool
-    ensures { λ r. ⌜ r ≡ leb n most ⌝ }
-{
-    n <= most
-}
-
-// Whether so many components from a place on stand among the enrolled ones.
-fn behind(from: u32, count: u32, tally: u32) -> bool
-    ensures { λ r. ⌜ r ≡ leb (from + count) tally ⌝ }
-{
-    from as u64 + count as u64 <= tally as u64
-}
-
-// Whether a surveyed map keeps to its block's entry, and the entry to the tallies.
-fn stands(s: Survey, entry: Entry, faces: u32, curves: u32) -> bool
-    ensures { λ r. ⌜ r ≡ standsBy (s .filled) (s .faces) (s .curves) (s .points) entry faces curves ⌝ }
-{
-    if !s.filled {
-        return false;
-    }
-    if !within(s.faces, entry.faces) {
-        return false;
-    }
-    if !within(s.curves, entry.curves) {
-        return false;
-    }
-    if !within(s.points, entry.points) {
-        return false;
-    }
-    if !behind(entry.face_from, entry.faces, faces) {
-        return false;
-    }
-    behind(entry.curve_from, entry.curves, curves)
-}
-
-fn map_stands(map: &[u32], block: Block, entry: Entry, faces: u32, curves: u32) -> bool
-    requires { ⌜ Sized 64 (sizeOf block) × (length (now map) ≡ cells (sizeOf block)) ⌝ }
-    ensures { λ r. ⌜ r ≡ mapStandsIn (sizeOf block) entry faces curves (now (map .entry)) ⌝ }
-{
-    let s = survey_map(map, block.nx, block.ny, block.nz);
-    stands(s, entry, faces, curves)
-}
-
-// .. and so for both maps, and the tallies fit.
+// Whether both maps keep to their entries, and the tallies fit.
 fn maps_stand(job: Job, low: Block, high: Block, d: Entry, g: Entry, m: &[u32], n: &[u32]) -> bool
     requires { ⌜ Sized 64 (sizeOf low) × (length (now m) ≡ cells (sizeOf low)) ⌝ }
     requires { ⌜ Sized 64 (sizeOf high) × (length (now n) ≡ cells (sizeOf high)) ⌝ }
@@ -306,15 +203,9 @@ fn refusal(
     requires { ⌜ (sizes .lower ≡ length (now m)) × (sizes .upper ≡ length (now n)) ⌝ }
     ensures { λ r. ⌜ r ≡ refusalOf job (now (cx .entry)) (now (cy .entry)) (now (cz .entry)) (now (ticks .entry)) sizes (now (table .entry)) lower upper (now (m .entry)) (now (n .entry)) ⌝ }
 {
-    if off_size(1024, job.nx as usize, job.ny as usize, job.nz as usize) {
-        return OFF_SIZE;
-    }
-    if !good_cut(job.nx, job.ny, job.nz, cx, cy, cz) {
-        return BAD_CUT;
-    }
-    let stage = job.stage;
-    if !same_stage(stage, Stage::Seam) {
-        return WRONG_STAGE;
+    let number = opened(job, cx, cy, cz, Stage::Seam);
+    if number != 0 {
+        return number;
     }
     if !is_seam(cx, cy, cz, lower, upper) {
         return NO_SUCH_PLACE;
@@ -393,17 +284,6 @@ fn link(
     );
 }
 
-// Ticks a step: the stage moves on with the last one.
-fn advance(job: Job, ticks: &mut [u32], cx: &[u32], cy: &[u32], cz: &[u32], step: usize) -> Job
-    requires { ⌜ (step < length (now ticks)) × (intervals (now cx) * intervals (now cy) * intervals (now cz) ≤ 16384) ⌝ }
-    ensures { λ r. ⌜ Advanced job (now (cx .entry)) (now (cy .entry)) (now (cz .entry)) (now (ticks .entry)) (now (ticks .exit)) step r ⌝ }
-{
-    ticks[step] = 1;
-    let stage = job.stage;
-    let next = next_stage(stage, ticks, cx, cy, cz);
-    Job { stage: next, ..job }
-}
-
 // The step, where it is not refused.
 fn accept(
     job: Job,
@@ -426,12 +306,12 @@ fn accept(
         (stateOf (r .job) (now (cx .entry)) (now (cy .entry)) (now (cz .entry)) (lent (now (ticks .exit)) (now (table .entry)) (now («face_links» .exit)) (now («curve_links» .exit)))) ⌝ }
 {
     let axis = seam_axis(cx, cy, cz, lower, upper);
-    let low = block_at(cx, cy, cz, lower as usize);
-    let high = block_at(cx, cy, cz, upper as usize);
-    let s = shared_layer(low, high, axis);
+    let below = block_at(cx, cy, cz, lower as usize);
+    let above = block_at(cx, cy, cz, upper as usize);
+    let s = shared_layer(below, above, axis);
     let d = entry_of(table, lower);
     let g = entry_of(table, upper);
-    let next = advance(job, ticks, cx, cy, cz, step_of(lower, axis));
+    let next = advance(job, ticks, cx, cy, cz, step_of(lower, axis), 0, 0, 0);
     link(face_links, curve_links, job, s, d, g, m, n);
     Joined {
         refusal: 0,

@@ -2,7 +2,7 @@
 use mathlib.Core.Path.{refl}
 use borrow.Author.Needs.{needs}
 use mathlib.Core.Path.{refl}
-use Rattle.seaming.proofs.DoneLaws.{low-sized, high-sized, step-in, seam-few, face-length, curve-length, seam-done}
+use Rattle.seaming.proofs.DoneLaws.{low-sized, high-sized, step-in, seam-few, seam-sums, face-length, curve-length, seam-done}
 use Rattle.seaming.proofs.accept.Statement.{statement}
 use Rattle.seaming.proofs.accept.Tie as tie
 
@@ -34,11 +34,11 @@ step-of-requires c κs = search needs
 
 advance-requires : tie.Need-advance-requires
 advance-requires c κs = (
-  step-in _ _ _ _ _ _ _ _ _ _ _ _
-      (c .before .before .before .before .before .before .before .before .before .before .before .before .before .before .before .before .before .pre) _ _
-      (c .before .before .before .before .before .before .before .seam-axis .ensures _ _ _) (c .step-of .ensures),
-  seam-few _ _ _ _ _ _ _ _ _ _ _ _
-      (c .before .before .before .before .before .before .before .before .before .before .before .before .before .before .before .before .before .pre),
+  (
+    step-in _ _ _ _ _ _ _ _ _ _ _ _ (c .before .before .before .before .before .before .before .before .before .before .before .before .before .before .before .before .before .pre) _ _ ((c .before .before .before .before .before .before .before .seam-axis) .ensures _ _ _) (c .step-of .ensures),
+    seam-few _ _ _ _ _ _ _ _ _ _ _ _ (c .before .before .before .before .before .before .before .before .before .before .before .before .before .before .before .before .before .pre),
+  ),
+  seam-sums _ _ _ _ _ _ _ _ _ _ _ _ (c .before .before .before .before .before .before .before .before .before .before .before .before .before .before .before .before .before .pre),
 )
 
 link-requires : tie.Need-link-requires

@@ -4,7 +4,8 @@ use borrow.Author.Needs.{needs}
 use mathlib.Core.Path.{refl}
 use Rattle.job.proofs.JobLaws.{cond-here, cond-next, cond-not-here, cond-not-next}
 use Rattle.seaming.specs.Inner.{restOf}
-use Rattle.seaming.proofs.SeamingLaws.{few-of, count-few, lower-sized, upper-sized, trays-told, stand-told, lower-length, upper-length}
+use Rattle.seaming.proofs.SeamingLaws.{lower-sized, upper-sized, trays-told, stand-told, lower-length, upper-length}
+use Rattle.steps.proofs.StepLaws.{few-of, count-few}
 use Rattle.seaming.proofs.rest.Statement.{statement}
 use Rattle.seaming.proofs.rest.Tie as tie
 
@@ -15,12 +16,12 @@ block-at-requires-2 : tie.Need-block-at-requires-2
 block-at-requires-2 c κs = search needs
 
 block-count-requires : tie.Need-block-count-requires
-block-count-requires c κs = let p = c .before .before .before .before .before .before .before .before .pre .0 in few-of _ _ _ (p .0) (p .1)
+block-count-requires c κs = let p = c .before .before .before .before .before .before .before .before .pre .0 in few-of _ (p .0)
 
 trays-fit-requires : tie.Need-trays-fit-requires
 trays-fit-requires c κs =
     let p = c .before .before .before .before .before .before .before .before .before .pre .0 in (
-      count-few _ _ _ (p .0) (p .1) _ (c .block-count .ensures _ _ _),
+      count-few _ (p .0) _ (c .block-count .ensures _ _ _),
       lower-sized _ _ _ (p .0) (p .1) _
           (c .before .before .block-at .ensures _ _ _),
       upper-sized _ _ _ (p .0) (p .1) _ (c .before .block-at2 .ensures _ _ _),
