@@ -1,8 +1,8 @@
 -- The ways of an export.
 -- Assumes nothing.
-use mathlib.Core.Path.{_≡_}
+use mathlib.Core.Path.{_≡_, subst}
 use mathlib.Core.Logic.{_≢_}
-use mathlib.Core.List.{List}
+use mathlib.Core.List.{List, []}
 use Prim.Native.Nat.{ℕ}
 use lib.ListN.{set}
 use borrow.Author.Tests.{eq-eqb, ne-eqb}
@@ -13,6 +13,14 @@ use Rattle.reader.specs.Reading.{Outcome as Reading·Outcome, outcome as Readin
 use Rattle.labeller.specs.declared.Labelled.{Labelled}
 use Rattle.labeller.specs.Labelling.{Outcome, outcome}
 use Rattle.service.specs.Exports.{exported, export, exportedWriting, exportWriting, exportedReading, exportReading}
+use Rattle.joiner.specs.Job.{Tables}
+use Rattle.joiner.specs.Calls.{Call, answer}
+use Rattle.joiner.specs.Entries.{Step}
+use Rattle.job.specs.declared.Job.{Job}
+use Rattle.job.specs.declared.Stage.{Stage}
+use Rattle.job.specs.Jobs.{stateOf}
+use Rattle.job_numbers.specs.Numbers.{jobIn, kept}
+use Rattle.service.specs.Exports.{ExportedStep}
 
 module _ (r : Labelled) (m w c : List ℕ) (o : Outcome) (promise : outcome r m w ≡ o) where
   pub export-stored : r .refusal ≡ 0 → exported (r .refusal) m w (set (set (set c 0 (r .faces)) 1 (r .curves)) 2 (r .points)) ≡ export o c
@@ -41,3 +49,9 @@ module _ (a : Head) (t h : List ℕ) (o : Reading·Outcome) (promise : Reading·
   pub reading-refused : a .refusal ≢ 0 → exportedReading (a .refusal) t h ≡ exportReading o h
   unfolding exportReading
   reading-refused n = rw (← promise, ne-eqb (a .refusal) 0 n)
+
+-- ---- the joiner
+
+module _ (ns ns′ : List ℕ) (other : Stage) (cx cy cz : List ℕ) (t t′ : Tables) (c : Call) (r : ℕ) (job : Job) where
+  pub step-exported : (j : Job) → j ≡ jobIn ns other → Step (stateOf j cx cy cz t) c (answer r 0 []) (stateOf job cx cy cz t′) → ns′ ≡ kept r ns job → ExportedStep ns ns′ other cx cy cz t t′ c r
+  step-exported j e s n = record { job = job; step = subst (λ (x : Job). Step (stateOf x cx cy cz t) c (answer r 0 []) (stateOf job cx cy cz t′)) e s; numbers = n }

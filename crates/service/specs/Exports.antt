@@ -8,6 +8,15 @@ use lib.ListN.{set}
 use Rattle.labeller.specs.Labelling.{Outcome}
 use Rattle.writer.specs.Writing.{Outcome as Writing·Outcome}
 use Rattle.reader.specs.Reading.{Outcome as Reading·Outcome}
+use mathlib.Core.Path.{_≡_}
+use mathlib.Core.List.{[]}
+use Rattle.joiner.specs.Job.{Told, Tables}
+use Rattle.joiner.specs.Calls.{Call, answer}
+use Rattle.joiner.specs.Entries.{Opening, Step}
+use Rattle.job.specs.declared.Job.{Job}
+use Rattle.job.specs.declared.Stage.{Stage}
+use Rattle.job.specs.Jobs.{stateOf}
+use Rattle.job_numbers.specs.Numbers.{jobIn, kept}
 
 -- Of a labelling: the number given back, and what the trays and the three counts hold.
 pub record Exported : Type 0 where
@@ -53,3 +62,17 @@ exportReading o h =
     exportedReading (o .answer .refusal) (o .tray)
     (cond (eqb (o .answer .refusal) 0)
     (set (set (set (set (set (set h 0 (o .answer .nx)) 1 (o .answer .ny)) 2 (o .answer .nz)) 3 (o .answer .ox)) 4 (o .answer .oy)) 5 (o .answer .oz)) h)
+
+-- ---- the joiner: the job is kept as thirteen numbers, lent with each call
+
+-- Of an opening: the joiner's `Opening`; its job is stored if it is accepted, and the numbers stay if it is refused.
+pub record ExportedOpening (ns ns′ : List ℕ) (o : Told) (t t′ : Tables) (r : ℕ) : Type 0 where
+  pub job : Job
+  pub opening : Opening o t r (stateOf job (o .cutting .cx) (o .cutting .cy) (o .cutting .cz) t′)
+  pub numbers : ns′ ≡ kept r ns job
+
+-- Of a step: the joiner's `Step` from the job that the numbers tell. A number that is no stage is read as `other`, which is not the call's.
+pub record ExportedStep (ns ns′ : List ℕ) (other : Stage) (cx cy cz : List ℕ) (t t′ : Tables) (c : Call) (r : ℕ) : Type 0 where
+  pub job : Job
+  pub step : Step (stateOf (jobIn ns other) cx cy cz t) c (answer r 0 []) (stateOf job cx cy cz t′)
+  pub numbers : ns′ ≡ kept r ns job

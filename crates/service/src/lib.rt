@@ -1,13 +1,23 @@
 // The entries, exported for programs in C and Rust. A slice goes in as a pointer and a length, an array as a pointer.
+use enrolling::enrol;
+use job::Stage;
+use job_numbers::job_in;
+use job_numbers::keep;
 use labeller::label;
+use opening::open;
 use reader::read_record;
+use seaming::seam;
 use writer::write_record;
 ghost use mathlib.Core.Path.{_≡_};
+ghost use mathlib.Core.List.{[]};
+ghost use Rattle.joiner.specs.Calls.{enrol, join};
+ghost use Rattle.job.specs.declared.Stage.{Stage};
+ghost use Rattle.job.specs.Jobs.{toldBy, tablesOf};
 ghost use Rattle.cells.specs.Box.{triple};
 ghost use Rattle.labeller.specs.Labelling.{labelling};
 ghost use Rattle.writer.specs.Writing.{writing};
 ghost use Rattle.reader.specs.Reading.{reading};
-ghost use Rattle.service.specs.Exports.{exported, export, exportedWriting, exportWriting, exportedReading, exportReading};
+ghost use Rattle.service.specs.Exports.{exported, export, exportedWriting, exportWriting, exportedReading, exportReading, ExportedOpening, ExportedStep};
 
 // Labels a block; answers the refusal, 0 for none, and stores how many faces, curves and points there are.
 #[no_mangle]
@@ -70,5 +80,159 @@ pub extern "C" fn tugrelis_read_record(bytes: &[u8], map: &mut [u32], fields: &m
         fields[4] = r.oy;
         fields[5] = r.oz;
     }
+    r.refusal
+}
+
+// Opens a job; answers the refusal, 0 for none, and stores the job.
+#[no_mangle]
+pub extern "C" fn tugrelis_open(
+    job: &mut [u32; 13],
+    nx: u32,
+    ny: u32,
+    nz: u32,
+    face_entries: u32,
+    curve_entries: u32,
+    point_entries: u32,
+    cx: &[u32],
+    cy: &[u32],
+    cz: &[u32],
+    ticks: &mut [u32],
+    blocks: &[u32],
+    face_links: &[u32],
+    curve_links: &[u32],
+    face_keys: &[u64],
+    curve_keys: &[u64],
+    point_keys: &[u64],
+    face_rows: &[u32],
+    curve_rows: &[u32],
+    point_rows: &[u32],
+    face_numbers: &[u32],
+    curve_numbers: &[u32],
+    point_numbers: &[u32],
+    face_firsts: &[u64],
+    curve_firsts: &[u64],
+    point_firsts: &[u64],
+    face_listed: &[u32],
+    curve_listed: &[u32],
+    point_listed: &[u32],
+) -> u32
+    ensures { λ r. ⌜ ExportedOpening (now (job .entry)) (now (job .exit))
+        (toldBy nx ny nz (now (cx .entry)) (now (cy .entry)) (now (cz .entry)) «face_entries» «curve_entries» «point_entries»)
+        (tablesOf (now (ticks .entry)) (now (blocks .entry)) (now («face_links» .entry)) (now («curve_links» .entry)) (now («face_keys» .entry)) (now («curve_keys» .entry)) (now («point_keys» .entry)) (now («face_rows» .entry)) (now («curve_rows» .entry)) (now («point_rows» .entry)) (now («face_numbers» .entry)) (now («curve_numbers» .entry)) (now («point_numbers» .entry)) (now («face_firsts» .entry)) (now («curve_firsts» .entry)) (now («point_firsts» .entry)) (now («face_listed» .entry)) (now («curve_listed» .entry)) (now («point_listed» .entry)))
+        (tablesOf (now (ticks .exit)) (now (blocks .entry)) (now («face_links» .entry)) (now («curve_links» .entry)) (now («face_keys» .entry)) (now («curve_keys» .entry)) (now («point_keys» .entry)) (now («face_rows» .entry)) (now («curve_rows» .entry)) (now («point_rows» .entry)) (now («face_numbers» .entry)) (now («curve_numbers» .entry)) (now («point_numbers» .entry)) (now («face_firsts» .entry)) (now («curve_firsts» .entry)) (now («point_firsts» .entry)) (now («face_listed» .entry)) (now («curve_listed» .entry)) (now («point_listed» .entry))) r ⌝ }
+{
+    let r = open(
+        nx,
+        ny,
+        nz,
+        cx,
+        cy,
+        cz,
+        face_entries,
+        curve_entries,
+        point_entries,
+        ticks,
+        blocks,
+        face_links,
+        curve_links,
+        face_keys,
+        curve_keys,
+        point_keys,
+        face_rows,
+        curve_rows,
+        point_rows,
+        face_numbers,
+        curve_numbers,
+        point_numbers,
+        face_firsts,
+        curve_firsts,
+        point_firsts,
+        face_listed,
+        curve_listed,
+        point_listed,
+    );
+    keep(job, r.refusal, r.job);
+    r.refusal
+}
+
+// Enrols a block with its map; answers the refusal, 0 for none, and stores the job.
+#[no_mangle]
+pub extern "C" fn tugrelis_enrol(
+    job: &mut [u32; 13],
+    cx: &[u32],
+    cy: &[u32],
+    cz: &[u32],
+    ticks: &mut [u32],
+    blocks: &mut [u32],
+    face_links: &mut [u32],
+    curve_links: &mut [u32],
+    face_keys: &mut [u64],
+    curve_keys: &mut [u64],
+    face_rows: &mut [u32],
+    curve_rows: &mut [u32],
+    block: u32,
+    map: &[u32],
+) -> u32
+    ensures { λ r. ⌜ ExportedStep (now (job .entry)) (now (job .exit)) Stage.Closed (now (cx .entry)) (now (cy .entry)) (now (cz .entry))
+        (tablesOf (now (ticks .entry)) (now (blocks .entry)) (now («face_links» .entry)) (now («curve_links» .entry)) (now («face_keys» .entry)) (now («curve_keys» .entry)) [] (now («face_rows» .entry)) (now («curve_rows» .entry)) [] [] [] [] [] [] [] [] [] [])
+        (tablesOf (now (ticks .exit)) (now (blocks .exit)) (now («face_links» .exit)) (now («curve_links» .exit)) (now («face_keys» .exit)) (now («curve_keys» .exit)) [] (now («face_rows» .exit)) (now («curve_rows» .exit)) [] [] [] [] [] [] [] [] [] [])
+        (enrol block (now (map .entry))) r ⌝ }
+{
+    let r = enrol(
+        job_in(job, Stage::Closed),
+        cx,
+        cy,
+        cz,
+        ticks,
+        blocks,
+        face_links,
+        curve_links,
+        face_keys,
+        curve_keys,
+        face_rows,
+        curve_rows,
+        block,
+        map,
+    );
+    keep(job, r.refusal, r.job);
+    r.refusal
+}
+
+// Joins two neighbouring blocks at the layer that they share; answers the refusal, 0 for none, and stores the job.
+#[no_mangle]
+pub extern "C" fn tugrelis_seam(
+    job: &mut [u32; 13],
+    cx: &[u32],
+    cy: &[u32],
+    cz: &[u32],
+    ticks: &mut [u32],
+    blocks: &[u32],
+    face_links: &mut [u32],
+    curve_links: &mut [u32],
+    lower: u32,
+    upper: u32,
+    lower_map: &[u32],
+    upper_map: &[u32],
+) -> u32
+    ensures { λ r. ⌜ ExportedStep (now (job .entry)) (now (job .exit)) Stage.Closed (now (cx .entry)) (now (cy .entry)) (now (cz .entry))
+        (tablesOf (now (ticks .entry)) (now (blocks .entry)) (now («face_links» .entry)) (now («curve_links» .entry)) [] [] [] [] [] [] [] [] [] [] [] [] [] [] [])
+        (tablesOf (now (ticks .exit)) (now (blocks .entry)) (now («face_links» .exit)) (now («curve_links» .exit)) [] [] [] [] [] [] [] [] [] [] [] [] [] [] [])
+        (join lower upper (now («lower_map» .entry)) (now («upper_map» .entry))) r ⌝ }
+{
+    let r = seam(
+        job_in(job, Stage::Closed),
+        cx,
+        cy,
+        cz,
+        ticks,
+        blocks,
+        face_links,
+        curve_links,
+        lower,
+        upper,
+        lower_map,
+        upper_map,
+    );
+    keep(job, r.refusal, r.job);
     r.refusal
 }

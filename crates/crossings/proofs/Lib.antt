@@ -1,0 +1,8 @@
+-- The laws of the definitions in specs/.
+pub mod FlatLaws
+pub mod ReadLaws
+pub mod AroundLaws
+pub mod EdgeLaws
+pub mod WalkLaws
+pub mod CrossLaws
+pub mod MergeLaws

@@ -1,0 +1,7 @@
+-- The laws that the proofs cite.
+pub mod Places
+pub mod FirstLaws
+pub mod HeadLaws
+pub mod StandingLaws
+pub mod NumberLaws
+pub mod KindLaws
