@@ -69,18 +69,12 @@ module _ (t : Tables) (κ : Kind) (n total : ℕ) (places : List ℕ) (firsts-at
       (λ i h. let r = row-in κ total i h in same (getD places (i / width κ) 0) (i % width κ) (r .1) ∙ ap (λ (x : ℕ). getD (rowFinal t κ x) (i % width κ) 0) (head-is (i / width κ) (r .0)))
 
 module _ (t : Tables) (n total : ℕ) (places : List ℕ) where
-  -- what `copy_rows` leaves of faces, and of points
-  pub closed-faces : take total places ≡ tabulate total (λ i. headOf t Face n (suc i)) → {rows : List ℕ} → t .rows Face ≡ rows → (xs listed′ : List ℕ)
-      → listed′ ≡ overlay xs 0 (λ i. entryAt rows 2 (getD places (i / 2) 0) (i % 2)) (2 * total)
-      → listed′ ≡ overlay xs 0 (λ i. getD (rowFinal t Face (headOf t Face n (suc (i / 2)))) (i % 2) 0) (2 * total)
-  unfolding rowFinal
-  closed-faces p {rows} r = rows-told t Face n total places p (entryAt rows 2) (entry-told t Face r)
-
-  pub closed-points : take total places ≡ tabulate total (λ i. headOf t Point n (suc i)) → {rows : List ℕ} → t .rows Point ≡ rows → (xs listed′ : List ℕ)
-      → listed′ ≡ overlay xs 0 (λ i. entryAt rows 6 (getD places (i / 6) 0) (i % 6)) (6 * total)
-      → listed′ ≡ overlay xs 0 (λ i. getD (rowFinal t Point (headOf t Point n (suc (i / 6)))) (i % 6) 0) (6 * total)
-  unfolding rowFinal
-  closed-points p {rows} r = rows-told t Point n total places p (entryAt rows 6) (entry-told t Point r)
+  -- what `copy_rows` leaves of a kind whose rows stay as they are: faces and points
+  pub closed-copied : (κ : Kind) → ((x : ℕ) → rowFinal t κ x ≡ rowAt t κ x) → take total places ≡ tabulate total (λ i. headOf t κ n (suc i)) → {rows : List ℕ} → t .rows κ ≡ rows
+      → (xs listed′ : List ℕ) → listed′ ≡ overlay xs 0 (λ i. entryAt rows (width κ) (getD places (i / width κ) 0) (i % width κ)) (width κ * total)
+      → listed′ ≡ overlay xs 0 (λ i. getD (rowFinal t κ (headOf t κ n (suc (i / width κ)))) (i % width κ) 0) (width κ * total)
+  closed-copied κ same p {rows} r =
+      rows-told t κ n total places p (entryAt rows (width κ)) (λ x i h. entry-told t κ r x i h ∙ ap (λ (l : List ℕ). getD l i 0) (sym (same x)))
 
   -- what `curve_rows` leaves
   pub closed-curves : take total places ≡ tabulate total (λ i. headOf t Curve n (suc i)) → {rows numbers : List ℕ} → t .rows Curve ≡ rows → t .numbers Face ≡ numbers → (xs listed′ : List ℕ)

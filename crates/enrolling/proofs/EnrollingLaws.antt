@@ -37,7 +37,7 @@ use Rattle.job.proofs.JobLaws.{fits-append}
 use Rattle.staging.specs.Staging.{tickedIn}
 use Rattle.steps.specs.Steps.{orElse, reachedOf, Advanced}
 use Rattle.steps.specs.Steps as steps
-use Rattle.steps.proofs.StepLaws.{or-first, or-then, or-none, or-assoc, or-six, six-none, reached-passed, refusal-reached, ticked-by, numbered-kept, step-refused, step-accepted}
+use Rattle.steps.proofs.StepLaws.{or-first, or-then, or-none, or-else-assoc, or-six, six-none, reached-passed, refusal-reached, ticked-by, numbered-kept, step-refused, step-accepted}
 use Rattle.surveys.specs.declared.Survey.{Survey}
 use Rattle.enrolling.specs.declared.Sizes.{Sizes}
 use Rattle.enrolling.specs.declared.Plan.{Plan}
@@ -253,7 +253,7 @@ module _ (s : State) (b : ℕ) (m : List ℕ) where
 
   pub refusal-is : refusal s (enrol b m) ≡ refusalOf (s .job) (s .tables .ticks) (sizesOf (s .tables)) b m
   unfolding refusalOf earlyOf ticked tickedIn
-  refusal-is = refusal-reached s (enrol b m) refl b (enrolStep b) refl refl ∙ ap (orElse (reachedOf (s .job) joiner.Enrol (s .tables .ticks) b (enrolStep b))) late-is ∙ or-assoc _ _ _
+  refusal-is = refusal-reached s (enrol b m) refl b (enrolStep b) refl refl ∙ ap (orElse (reachedOf (s .job) joiner.Enrol (s .tables .ticks) b (enrolStep b))) late-is ∙ or-else-assoc _ _ _
 
   -- what an accepted call passed
   pub ready-of : refusalOf (s .job) (s .tables .ticks) (sizesOf (s .tables)) b m ≡ 0 → Ready s b m

@@ -53,9 +53,9 @@ module _ (x y : ℕ) where
   unfolding orElse
   or-none h = by-test (eqb x 0) (λ t. (eqb-true x 0 t, rw t at h)) (λ t. absurd (eqb-false x 0 t (rw t at h)))
 
-pub or-assoc : (x y z : ℕ) → orElse x (orElse y z) ≡ orElse (orElse x y) z
+pub or-else-assoc : (x y z : ℕ) → orElse x (orElse y z) ≡ orElse (orElse x y) z
 unfolding orElse
-or-assoc x y z = by-test (eqb x 0) (λ t. rw t) (λ t. rw (t, t))
+or-else-assoc x y z = by-test (eqb x 0) (λ t. rw t) (λ t. rw (t, t))
 
 -- 6, or else what follows
 pub or-six : (a : Bool) (x : ℕ) → cond (not a) 6 x ≡ orElse (cond (not a) 6 0) x
@@ -95,7 +95,7 @@ module _ (s : State) (c : Call) (cut : cutFor s c ≡ goodCut (s .job .told .cut
   unfolding reachedOf placedOf
   refusal-reached b step p q =
       refusal-opened ∙ ap (orElse (openedOf (s .job) (stageOf c))) (rw (p, q) (five (not (ltb b (blocks (s .job .told .cutting)))) (tickedIn (s .tables .ticks) step) (lateOf s c))) ∙
-      or-assoc (openedOf (s .job) (stageOf c)) (cond (not (ltb b (blocks (s .job .told .cutting)))) 4 (cond (tickedIn (s .tables .ticks) step) 5 0)) (lateOf s c)
+      or-else-assoc (openedOf (s .job) (stageOf c)) (cond (not (ltb b (blocks (s .job .told .cutting)))) 4 (cond (tickedIn (s .tables .ticks) step) 5 0)) (lateOf s c)
 
 -- 10 cannot stand where nothing is added
 module _ (s : State) (c : Call) (none : (κ : Kind) → adds s c κ ≡ 0) where

@@ -1,0 +1,174 @@
+-- The tests by lengths are the joiner's, and an accepted lookup answers what the joiner asks for.
+-- Assumes nothing.
+use mathlib.Core.Path.{_≡_, refl, sym, ap, _∙_}
+use mathlib.Core.Bool.{Bool, true, false, not, _&&_}
+use mathlib.Core.List.{List, [], _++_}
+use Prim.Native.Nat.{ℕ, _<_}
+use lib.Dec.{eqb, ltb}
+use borrow.Author.Tests.{eqb-true, ltb-true, not-true, not-false}
+use Rattle.lists.proofs.Cases.{and-left, and-right}
+use Rattle.cells.specs.Box.{Triple}
+use Rattle.cells.specs.Extents.{Sized}
+use Rattle.cells.specs.Grid.{cells}
+use Rattle.cutting.specs.Cutting.{Cutting, blocks, blockExtents, goodCut}
+use Rattle.joiner.specs.Job.{Kind, Face, Curve, Point, Closed, State, fits, blockTrays, numberTrays, firstTrays}
+use Rattle.joiner.specs.Stages.{hasCell}
+use Rattle.joiner.specs.Calls.{Call, look, answer, mapsFit}
+use Rattle.joiner.specs.Declines.{adds, lentTo, refusal, standsFor, talliesFit}
+use Rattle.joiner.specs.Entries.{Step, lookedUp}
+use Rattle.model.proofs.Facts.{Facts, facts}
+use Rattle.blocks.specs.Blocks.{anyExtents, sizeOf, Tells, hasIn}
+use Rattle.blocks.specs.declared.Block.{Block}
+use Rattle.blocks.proofs.BlockLaws.{has-told}
+use Rattle.job.specs.declared.Job.{Job}
+use Rattle.job.specs.Jobs.{anyCuts, jobOf, toldOf, stateOf}
+use Rattle.job.proofs.JobLaws.{fits-append}
+use Rattle.steps.specs.declared.Entry.{Entry}
+use Rattle.steps.specs.Steps.{openedOf, entryOf, placedOf, lateOf, mapStandsIn}
+use Rattle.steps.proofs.StepLaws.{Passed, opened-passed, or-first, or-then, or-none, refusal-opened, late-none, block-sized, stands-is, step-refused, step-accepted}
+use Rattle.lookup.specs.declared.Sizes.{Sizes}
+use Rattle.lookup.specs.Inner.{lent, sizesOf, traysFit, standIn, restOf, refusalOf, Ready, HasPlace}
+use Rattle.lookup.proofs.NumberLaws.{place-there}
+
+-- ---- the ways of `has_place`
+
+module _ (cx cy cz : List ℕ) (b : ℕ) (c : Triple) (t : Bool) (h : anyExtents cx cy cz (λ k. t ≡ ltb b (blocks k))) where
+  pub place-none : not t ≡ true → anyExtents cx cy cz (λ k. false ≡ (ltb b (blocks k) && hasCell k b c))
+  place-none p nx ny nz = rw (sym (h nx ny nz) ∙ not-true t p)
+
+  pub place-some : not t ≡ false → (r : Block) → anyExtents cx cy cz (λ k. Tells k b r) → (u : Bool) → u ≡ hasIn r c
+      → anyExtents cx cy cz (λ k. u ≡ (ltb b (blocks k) && hasCell k b c))
+  place-some p r T u e nx ny nz = rw (sym (h nx ny nz) ∙ not-false t p) (e ∙ has-told _ b r (T nx ny nz) c)
+
+-- ---- the ways of `stands`
+
+module _ (j : Job) (e : Triple) (d : Entry) (m : List ℕ) (t : Bool) (h : anyCuts (λ cx cy cz. t ≡ talliesFit (jobOf j cx cy cz))) where
+  abbrev Stands : Bool → Type 0
+  Stands u = anyCuts (λ cx cy cz. u ≡ standIn (talliesFit (jobOf j cx cy cz)) e d (j .faces) (j .curves) m)
+
+  pub stands-none : not t ≡ true → Stands false
+  unfolding standIn
+  stands-none p cx cy cz = rw (sym (h cx cy cz) ∙ not-true t p)
+
+  pub stands-map : not t ≡ false → (u : Bool) → u ≡ mapStandsIn e d (j .faces) (j .curves) m → Stands u
+  unfolding standIn
+  stands-map p u q cx cy cz = rw (sym (h cx cy cz) ∙ not-false t p) q
+
+-- ---- the ways of `rest`
+
+module _ (k : Cutting) (b : ℕ) (r : Block) (T : Tells k b r) where
+  pub trays-told : (count faces curves points : ℕ) (z : Sizes) (u : Bool) → count ≡ blocks k → u ≡ traysFit count (sizeOf r) faces curves points z
+      → u ≡ traysFit (blocks k) (blockExtents k b) faces curves points z
+  trays-told count faces curves points z u e h = rw (← e, ← T .size) h
+
+  pub stand-told : (t : Bool) (table : List ℕ) (d : Entry) (faces curves : ℕ) (m : List ℕ) (u : Bool) → d ≡ entryOf table b
+      → u ≡ standIn t (sizeOf r) d faces curves m → u ≡ standIn t (blockExtents k b) (entryOf table b) faces curves m
+  stand-told t table d faces curves m u e h = rw (← e, ← T .size) h
+
+pub map-length : (e : Triple) (count faces curves points : ℕ) (z : Sizes) (u : Bool) → u ≡ traysFit count e faces curves points z → not u ≡ false → (n : ℕ) → z .map ≡ n → n ≡ cells e
+unfolding traysFit
+map-length e count faces curves points z u h p n q = sym q ∙ eqb-true _ _ (and-left (eqb (z .map) (cells e)) _ (sym h ∙ not-false u p))
+
+-- ---- the ways of `refusal`
+
+module _ (j : Job) (cx cy cz : List ℕ) (z : Sizes) (table : List ℕ) (b : ℕ) (m : List ℕ) (c : Triple) (r : ℕ) (e : r ≡ openedOf (jobOf j cx cy cz) Closed) where
+  abbrev Refuses : ℕ → Type 0
+  Refuses x = x ≡ refusalOf j cx cy cz z table b m c
+
+  pub look-first : (r ≡ 0 → ⊥) → Refuses r
+  unfolding refusalOf
+  look-first q = rw (← e) (or-first r _ q)
+
+  module _ (q : r ≡ 0) (t : Bool) (h : anyExtents cx cy cz (λ k. t ≡ (ltb b (blocks k) && hasCell k b c))) where
+    is-there : t ≡ (ltb b (blocks (toldOf j cx cy cz .cutting)) && hasCell (toldOf j cx cy cz .cutting) b c)
+    is-there = h (j .nx) (j .ny) (j .nz)
+
+    pub look-4 : not t ≡ true → Refuses 4
+    unfolding refusalOf
+    look-4 p = rw (← e, sym is-there ∙ not-true t p) (or-then r _ 4 q refl)
+
+    pub look-rest : not t ≡ false → (x : ℕ) → x ≡ restOf j cx cy cz z table b m → Refuses x
+    unfolding refusalOf
+    look-rest p x f = rw (← e, sym is-there ∙ not-false t p) (or-then r _ x q f)
+
+-- what `rest` requires
+pub look-passed : (j : Job) (cx cy cz : List ℕ) (b : ℕ) (c : Triple) (r : ℕ) → r ≡ openedOf (jobOf j cx cy cz) Closed → r ≡ 0 → (t : Bool)
+    → anyExtents cx cy cz (λ k. t ≡ (ltb b (blocks k) && hasCell k b c)) → not t ≡ false
+    → (goodCut (toldOf j cx cy cz .cutting) ≡ true) × (b < blocks (toldOf j cx cy cz .cutting))
+look-passed j cx cy cz b c r e q t h p = (
+  opened-passed (jobOf j cx cy cz) Closed (sym e ∙ q) .good,
+  ltb-true _ _ (and-left (ltb b (blocks (toldOf j cx cy cz .cutting))) _ (sym (h (j .nx) (j .ny) (j .nz)) ∙ not-false t p)),
+)
+
+-- ---- the refusal is the joiner's
+
+module _ (j : Job) (cx cy cz ticks table faces curves points : List ℕ) (b : ℕ) (m : List ℕ) (c : Triple) where
+  abbrev k : Cutting
+  k = toldOf j cx cy cz .cutting
+
+  abbrev before : State
+  before = stateOf j cx cy cz (lent ticks table faces curves points)
+
+  abbrev call : Call
+  call = look b m c
+
+  trays-is : (mapsFit k call && fits (lentTo (before .job .told) (before .tables) call))
+      ≡ traysFit (blocks k) (blockExtents k b) (j .«face_entries») (j .«curve_entries») (j .«point_entries») (sizesOf ticks table faces curves points m)
+  unfolding blockTrays numberTrays firstTrays traysFit
+  trays-is =
+      let B = blockTrays (before .job .told) (before .tables) in
+      let F = numberTrays (before .job .told) (before .tables) Face in
+      let C = numberTrays (before .job .told) (before .tables) Curve in
+      let P = firstTrays (before .job .told) (before .tables) Point in
+      ap (λ (x : Bool). mapsFit k call && x)
+      (fits-append B (F ++ C ++ P) ∙ ap (λ (x : Bool). fits B && x) (fits-append F (C ++ P) ∙ ap (λ (x : Bool). fits F && x) (fits-append C P)))
+
+  stands-told : (talliesFit (before .job) && standsFor before call)
+      ≡ standIn (talliesFit (jobOf j cx cy cz)) (blockExtents k b) (entryOf table b) (j .faces) (j .curves) m
+  unfolding standIn
+  stands-told = rw (stands-is before (blockExtents k b) b m)
+
+  none : (κ : Kind) → adds before call κ ≡ 0
+  unfolding adds
+  none κ = refl
+
+  pub refusal-is : refusal before call ≡ refusalOf j cx cy cz (sizesOf ticks table faces curves points m) table b m c
+  unfolding refusalOf restOf placedOf lateOf
+  refusal-is = refusal-opened before call refl ∙ rw (← trays-is, ← stands-told, ← late-none before call none false)
+
+  -- ---- an accepted lookup
+
+  module _ (acc : Ready j cx cy cz ticks table faces curves points b m c) where
+    F : Facts before call
+    F = facts before call (refusal-is ∙ acc .none)
+
+    passed : Passed (jobOf j cx cy cz) Closed
+    unfolding refusalOf
+    passed = opened-passed (jobOf j cx cy cz) Closed (or-none (openedOf (jobOf j cx cy cz) Closed) _ (acc .none) .0)
+
+    block-there : b < blocks k
+    block-there = ltb-true b (blocks k) (and-left (ltb b (blocks k)) (hasCell k b c) (F .at))
+
+    pub cell-there : (r : Block) → Tells k b r → hasIn r c ≡ true
+    cell-there r T = has-told k b r T c ∙ and-right (ltb b (blocks k)) (hasCell k b c) (F .at)
+
+    pub cell-local : (r : Block) → Tells k b r → (hasIn r c ≡ true) × Sized 64 (sizeOf r)
+    cell-local r T = (cell-there r T, block-sized k (passed .good) b block-there r T)
+
+    pub cell-placed : (r : Block) → Tells k b r → HasPlace (k .extents) r c
+    cell-placed r T = place-there j cx cy cz ticks table faces curves points b m c r T (passed .sized) (passed .good) block-there (cell-there r T)
+
+  -- ---- the entry
+
+  module _ (number′ : ℕ) (e : number′ ≡ refusalOf j cx cy cz (sizesOf ticks table faces curves points m) table b m c) where
+    told-number : number′ ≡ refusal before call
+    told-number = e ∙ sym refusal-is
+
+    pub look-refused : (number′ ≡ 0 → ⊥) → Step before call (answer number′ 0 []) before
+    look-refused = step-refused before call number′ told-number
+
+    pub ready : number′ ≡ 0 → Ready j cx cy cz ticks table faces curves points b m c
+    ready z = record { none = sym e ∙ z }
+
+    pub look-accepted : number′ ≡ 0 → (v : ℕ) → v ≡ lookedUp before b m c → Step before call (answer 0 v []) before
+    look-accepted z v q = step-accepted before call number′ told-number z (answer 0 v []) before refl (ap (λ (x : ℕ). answer 0 x []) q, refl)

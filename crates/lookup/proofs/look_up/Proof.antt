@@ -1,0 +1,35 @@
+-- `lookup::look_up` meets its contract.
+use borrow.Author.Needs.{needs}
+use Rattle.lookup.proofs.NumberLaws.{looked-up}
+use Rattle.lookup.proofs.LookupLaws.{cell-there, cell-local, cell-placed}
+use Rattle.lookup.proofs.look_up.Statement.{statement}
+use Rattle.lookup.proofs.look_up.Tie as tie
+
+block-at-requires : tie.Need-block-at-requires
+block-at-requires c κs = search needs
+
+local-requires : tie.Need-local-requires
+local-requires c κs = cell-local _ _ _ _ _ _ _ _ _ _ _ _ ((c .before .before .before .before .before .before .before .before .before .before .pre)) _ ((c .block-at) .ensures _ _ _)
+
+entry-of-requires : tie.Need-entry-of-requires
+entry-of-requires c κs = search needs
+
+at-requires : tie.Need-at-requires
+at-requires c κs = search needs
+
+number-of-requires : tie.Need-number-of-requires
+number-of-requires c κs = cell-placed _ _ _ _ _ _ _ _ _ _ _ _ ((c .before .before .before .before .before .before .before .before .before .before .before .before .before .pre)) _ ((c .before .before .before .block-at) .ensures _ _ _)
+
+returns : tie.Need-returns
+returns c = looked-up _ _ _ _ _ _ _ _ _ _ _ _ _ ((c .before .before .before .before .block-at) .ensures _ _ _) (cell-there _ _ _ _ _ _ _ _ _ _ _ _ ((c .before .before .before .before .before .before .before .before .before .before .before .before .before .before .pre)) _ ((c .before .before .before .before .block-at) .ensures _ _ _)) _ _ _ _ ((c .before .before .before .local) .ensures) ((c .before .before .entry-of) .ensures) ((c .before .at) .ensures) ((c .number-of) .ensures)
+
+pub look-up-spec : {M : Type 1} → statement M
+look-up-spec =
+    tie.close
+    (tie.spec
+    block-at-requires
+    local-requires
+    entry-of-requires
+    at-requires
+    number-of-requires
+    returns)
