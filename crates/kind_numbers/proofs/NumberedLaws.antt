@@ -23,7 +23,7 @@ pub numbered-kind : (s t : State) (κ : Kind) (n : ℕ)
     → Numbered (t .tables) κ n (t .job .numbered κ) (s .tables .numbers κ) (t .tables .numbers κ) (s .tables .firsts κ) (t .tables .firsts κ) (s .tables .listed κ) (t .tables .listed κ)
     → NumberedKind s t κ n
 numbered-kind s t κ n N = record {
-  total = N .count;
+  total = N .many;
   numbers = N .ranks;
   firsts = N .firsts-are;
   listed = N .listed-are;
@@ -82,7 +82,7 @@ module _ (t : Tables) (κ : Kind) (n total : ℕ) (keys numbers numbers′ first
       → width κ * n ≤ length listed → listed′ ≡ overlay spare 0 (λ i. getD (rowFinal t κ (headOf t κ n (suc (i / width κ)))) (i % width κ) 0) (width κ * total)
       → Numbered t κ n total numbers numbers′ firsts firsts′ listed listed′
   numbered-of firsts′ e listed spare listed′ same room f = record {
-    count = R .total;
+    many = R .total;
     ranks = R .ranks;
     firsts-are = closed-firsts-front t κ n total places places-front K (omega (arith, few, places-long)) firsts′ e;
     listed-are = closed-front t κ n total spare listed′ (omega (arith, times-low (width κ) few)) f;

@@ -1,23 +1,33 @@
 // The entries, exported for programs in C and Rust. A slice goes in as a pointer and a length, an array as a pointer.
+use crossing::crossing;
 use enrolling::enrol;
+use job::Job;
 use job::Stage;
 use job_numbers::job_in;
 use job_numbers::keep;
 use labeller::label;
+use lookup::lookup;
 use opening::open;
+use pointing::point;
 use reader::read_record;
+use row_reading::Kind;
+use row_reading::row;
 use seaming::seam;
 use writer::write_record;
 ghost use mathlib.Core.Path.{_≡_};
 ghost use mathlib.Core.List.{[]};
-ghost use Rattle.joiner.specs.Calls.{enrol, join};
+ghost use lib.ListN.{getD};
+ghost use Rattle.joiner.specs.Job as joiner;
+ghost use Rattle.joiner.specs.Calls.{enrol, join, cross, point, look};
 ghost use Rattle.job.specs.declared.Stage.{Stage};
 ghost use Rattle.job.specs.Jobs.{toldBy, tablesOf};
 ghost use Rattle.cells.specs.Box.{triple};
 ghost use Rattle.labeller.specs.Labelling.{labelling};
 ghost use Rattle.writer.specs.Writing.{writing};
 ghost use Rattle.reader.specs.Reading.{reading};
-ghost use Rattle.service.specs.Exports.{exported, export, exportedWriting, exportWriting, exportedReading, exportReading, ExportedOpening, ExportedStep};
+ghost use Rattle.service.specs.Exports.{exported, export, exportedWriting, exportWriting, exportedReading, exportReading, ExportedOpening, ExportedStep, ExportedLookup, ExportedRow, sixOf};
+ghost use Rattle.job_numbers.specs.Numbers.{jobIn};
+ghost use Rattle.row_reading.specs.Inner.{kindOf};
 
 // Labels a block; answers the refusal, 0 for none, and stores how many faces, curves and points there are.
 #[no_mangle]
@@ -235,4 +245,180 @@ pub extern "C" fn tugrelis_seam(
     );
     keep(job, r.refusal, r.job);
     r.refusal
+}
+
+// Joins the curves of a block at its point cells; answers the refusal, 0 for none, and stores the job.
+#[no_mangle]
+pub extern "C" fn tugrelis_crossing(
+    job: &mut [u32; 13],
+    cx: &[u32],
+    cy: &[u32],
+    cz: &[u32],
+    ticks: &mut [u32],
+    blocks: &[u32],
+    face_links: &mut [u32],
+    curve_links: &mut [u32],
+    face_keys: &[u64],
+    curve_keys: &[u64],
+    face_rows: &[u32],
+    curve_rows: &[u32],
+    face_numbers: &mut [u32],
+    curve_numbers: &mut [u32],
+    face_firsts: &mut [u64],
+    curve_firsts: &mut [u64],
+    face_listed: &mut [u32],
+    curve_listed: &mut [u32],
+    block: u32,
+    map: &[u32],
+) -> u32
+    ensures { λ r. ⌜ ExportedStep (now (job .entry)) (now (job .exit)) Stage.Closed (now (cx .entry)) (now (cy .entry)) (now (cz .entry))
+        (tablesOf (now (ticks .entry)) (now (blocks .entry)) (now («face_links» .entry)) (now («curve_links» .entry)) (now («face_keys» .entry)) (now («curve_keys» .entry)) [] (now («face_rows» .entry)) (now («curve_rows» .entry)) [] (now («face_numbers» .entry)) (now («curve_numbers» .entry)) [] (now («face_firsts» .entry)) (now («curve_firsts» .entry)) [] (now («face_listed» .entry)) (now («curve_listed» .entry)) [])
+        (tablesOf (now (ticks .exit)) (now (blocks .entry)) (now («face_links» .exit)) (now («curve_links» .exit)) (now («face_keys» .entry)) (now («curve_keys» .entry)) [] (now («face_rows» .entry)) (now («curve_rows» .entry)) [] (now («face_numbers» .exit)) (now («curve_numbers» .exit)) [] (now («face_firsts» .exit)) (now («curve_firsts» .exit)) [] (now («face_listed» .exit)) (now («curve_listed» .exit)) [])
+        (cross block (now (map .entry))) r ⌝ }
+{
+    let r = crossing(job_in(job, Stage::Closed), cx, cy, cz, ticks, blocks, face_links, curve_links, face_keys, curve_keys, face_rows, curve_rows, face_numbers, curve_numbers, face_firsts, curve_firsts, face_listed, curve_listed, block, map);
+    keep(job, r.refusal, r.job);
+    r.refusal
+}
+
+// Finds the points of a block; answers the refusal, 0 for none, and stores the job.
+#[no_mangle]
+pub extern "C" fn tugrelis_point(
+    job: &mut [u32; 13],
+    cx: &[u32],
+    cy: &[u32],
+    cz: &[u32],
+    ticks: &mut [u32],
+    blocks: &[u32],
+    curve_numbers: &[u32],
+    point_keys: &mut [u64],
+    point_rows: &mut [u32],
+    point_numbers: &mut [u32],
+    point_firsts: &mut [u64],
+    point_listed: &mut [u32],
+    block: u32,
+    map: &[u32],
+) -> u32
+    ensures { λ r. ⌜ ExportedStep (now (job .entry)) (now (job .exit)) Stage.Closed (now (cx .entry)) (now (cy .entry)) (now (cz .entry))
+        (tablesOf (now (ticks .entry)) (now (blocks .entry)) [] [] [] [] (now («point_keys» .entry)) [] [] (now («point_rows» .entry)) [] (now («curve_numbers» .entry)) (now («point_numbers» .entry)) [] [] (now («point_firsts» .entry)) [] [] (now («point_listed» .entry)))
+        (tablesOf (now (ticks .exit)) (now (blocks .entry)) [] [] [] [] (now («point_keys» .exit)) [] [] (now («point_rows» .exit)) [] (now («curve_numbers» .entry)) (now («point_numbers» .exit)) [] [] (now («point_firsts» .exit)) [] [] (now («point_listed» .exit)))
+        (point block (now (map .entry))) r ⌝ }
+{
+    let r = point(job_in(job, Stage::Closed), cx, cy, cz, ticks, blocks, curve_numbers, point_keys, point_rows, point_numbers, point_firsts, point_listed, block, map);
+    keep(job, r.refusal, r.job);
+    r.refusal
+}
+
+// The final number of a cell; answers the refusal, 0 for none, and stores the number.
+#[no_mangle]
+pub extern "C" fn tugrelis_lookup(
+    job: &[u32; 13],
+    cx: &[u32],
+    cy: &[u32],
+    cz: &[u32],
+    ticks: &[u32],
+    blocks: &[u32],
+    face_numbers: &[u32],
+    curve_numbers: &[u32],
+    point_firsts: &[u64],
+    block: u32,
+    map: &[u32],
+    x: u32,
+    y: u32,
+    z: u32,
+    number: &mut u32,
+) -> u32
+    ensures { λ r. ⌜ ExportedLookup (now (job .entry)) Stage.Enrol (now (cx .entry)) (now (cy .entry)) (now (cz .entry))
+        (tablesOf (now (ticks .entry)) (now (blocks .entry)) [] [] [] [] [] [] [] [] (now («face_numbers» .entry)) (now («curve_numbers» .entry)) [] [] [] (now («point_firsts» .entry)) [] [] [])
+        (look block (now (map .entry)) (triple x y z)) r (now (number .entry)) (now (number .exit)) ⌝ }
+{
+    let r = lookup(job_in(job, Stage::Enrol), cx, cy, cz, ticks, blocks, face_numbers, curve_numbers, point_firsts, block, map, x, y, z);
+    if r.refusal == 0 {
+        *number = r.number;
+    }
+    r.refusal
+}
+
+// The entry of a part, 0 past its end.
+fn in_part(part: &[u32], i: usize) -> u32
+    ensures { λ r. ⌜ r ≡ getD (now (part .entry)) i 0 ⌝ }
+{
+    if i < part.len() {
+        return part[i];
+    }
+    0
+}
+
+// A part filled with zeros to six places.
+fn six(part: &[u32]) -> [u32; 6]
+    ensures { λ r. ⌜ r ≡ sixOf (now (part .entry)) ⌝ }
+{
+    [
+        in_part(part, 0),
+        in_part(part, 1),
+        in_part(part, 2),
+        in_part(part, 3),
+        in_part(part, 4),
+        in_part(part, 5),
+    ]
+}
+
+// The row of a component of a kind: answers the refusal, 0 for none, and stores the row.
+fn read_row(job: Job, kind: Kind, number: u32, face_listed: &[u32], curve_listed: &[u32], point_listed: &[u32], places: &mut [u32; 6]) -> u32
+    ensures { λ r. ⌜ ExportedRow job (kindOf kind) number (tablesOf [] [] [] [] [] [] [] [] [] [] [] [] [] [] [] [] (now («face_listed» .entry)) (now («curve_listed» .entry)) (now («point_listed» .entry))) r (now (places .entry)) (now (places .exit)) ⌝ }
+{
+    let mut refusal: u32 = 0;
+    let part = row(job, kind, number, face_listed, curve_listed, point_listed, &mut refusal);
+    if refusal == 0 {
+        *places = six(part);
+    }
+    refusal
+}
+
+// The row of a face; answers the refusal, 0 for none, and stores the row, filled with zeros.
+#[no_mangle]
+pub extern "C" fn tugrelis_face_row(
+    job: &[u32; 13],
+    number: u32,
+    face_listed: &[u32],
+    curve_listed: &[u32],
+    point_listed: &[u32],
+    row: &mut [u32; 6],
+) -> u32
+    ensures { λ r. ⌜ ExportedRow (jobIn (now (job .entry)) Stage.Enrol) joiner.Face number
+        (tablesOf [] [] [] [] [] [] [] [] [] [] [] [] [] [] [] [] (now («face_listed» .entry)) (now («curve_listed» .entry)) (now («point_listed» .entry))) r (now (row .entry)) (now (row .exit)) ⌝ }
+{
+    read_row(job_in(job, Stage::Enrol), Kind::Face, number, face_listed, curve_listed, point_listed, row)
+}
+
+// The row of a curve; answers the refusal, 0 for none, and stores the row, filled with zeros.
+#[no_mangle]
+pub extern "C" fn tugrelis_curve_row(
+    job: &[u32; 13],
+    number: u32,
+    face_listed: &[u32],
+    curve_listed: &[u32],
+    point_listed: &[u32],
+    row: &mut [u32; 6],
+) -> u32
+    ensures { λ r. ⌜ ExportedRow (jobIn (now (job .entry)) Stage.Enrol) joiner.Curve number
+        (tablesOf [] [] [] [] [] [] [] [] [] [] [] [] [] [] [] [] (now («face_listed» .entry)) (now («curve_listed» .entry)) (now («point_listed» .entry))) r (now (row .entry)) (now (row .exit)) ⌝ }
+{
+    read_row(job_in(job, Stage::Enrol), Kind::Curve, number, face_listed, curve_listed, point_listed, row)
+}
+
+// The row of a point; answers the refusal, 0 for none, and stores the row, filled with zeros.
+#[no_mangle]
+pub extern "C" fn tugrelis_point_row(
+    job: &[u32; 13],
+    number: u32,
+    face_listed: &[u32],
+    curve_listed: &[u32],
+    point_listed: &[u32],
+    row: &mut [u32; 6],
+) -> u32
+    ensures { λ r. ⌜ ExportedRow (jobIn (now (job .entry)) Stage.Enrol) joiner.Point number
+        (tablesOf [] [] [] [] [] [] [] [] [] [] [] [] [] [] [] [] (now («face_listed» .entry)) (now («curve_listed» .entry)) (now («point_listed» .entry))) r (now (row .entry)) (now (row .exit)) ⌝ }
+{
+    read_row(job_in(job, Stage::Enrol), Kind::Point, number, face_listed, curve_listed, point_listed, row)
 }

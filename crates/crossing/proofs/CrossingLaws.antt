@@ -1,0 +1,130 @@
+-- The ways of the functions of a crossing step, over plain lists and numbers.
+-- Assumes nothing.
+use mathlib.Core.Path.{_≡_, refl, sym, ap, _∙_}
+use mathlib.Core.Bool.{Bool, true, false, not, cond, _&&_, _||_}
+use mathlib.Core.List.{List, [], _∷_, map}
+use Prim.Native.Nat.{ℕ, suc, _+_, _*_, _≤_, _<_}
+use native.Mathlib.Omega.{arith}
+use lib.Dec.{eqb, leb}
+use lib.ListN.{getD, length}
+use borrow.Author.Tests.{eqb-true, eqb-false, eq-eqb, ne-eqb, not-true, not-false}
+use Rattle.lists.specs.Lists.{consecutive, allOf}
+use Rattle.lists.proofs.Cases.{by-test, and-left}
+use Rattle.lists.proofs.Lists.{consecutive-in, consecutive-out}
+use Rattle.lists.proofs.Tests.{all-in, all-out}
+use Rattle.cells.specs.Box.{Triple}
+use Rattle.cells.specs.Grid.{cells}
+use Rattle.cutting.specs.Cutting.{Cutting, blocks, blockExtents, goodCut}
+use Rattle.joiner.specs.Job as joiner
+use Rattle.joiner.specs.Declines.{talliesFit}
+use Rattle.crossings.specs.Crossings.{crossEdges, Trays, Crossed}
+use Rattle.union_find.specs.Links.{root}
+use Rattle.blocks.specs.Blocks.{Tells, sizeOf}
+use Rattle.blocks.specs.declared.Block.{Block}
+use Rattle.job.specs.declared.Job.{Job}
+use Rattle.job.specs.Jobs.{anyCuts, jobOf, toldOf}
+use Rattle.staging.specs.Staging.{tickedIn}
+use Rattle.steps.specs.declared.Entry.{Entry}
+use Rattle.steps.specs.Steps.{reachedOf, entryOf, mapStandsIn, Advanced}
+use Rattle.steps.proofs.StepLaws.{or-first, or-then, reached-passed}
+use Rattle.crossing.specs.declared.Sizes.{Sizes}
+use Rattle.crossing.specs.Inner.{traysFit, crossedBut, lastIn, rowsIn, numberable, standIn, restOf, refusalOf, JoinReady, TalliesFit, CurvesJoined}
+
+-- ---- loops that ask the same of each of the first places
+
+module _ (g : ℕ → Bool) where
+  abbrev pub Held : ℕ → Type 0
+  Held i = (x : ℕ) → x < i → g x ≡ true
+
+  pub held-none : Held 0
+  held-none x h = absurd (omega arith)
+
+  pub held-more : (i : ℕ) (t : Bool) → Held i → t ≡ g i → not t ≡ false → Held (i + 1)
+  held-more i t h e q x l =
+      by-test (eqb x i) (λ u. ap g (eqb-true x i u) ∙ sym e ∙ not-false t q) (λ u. let d : x ≡ i → ⊥ = eqb-false x i u in h x (omega arith))
+
+  pub held-broken : (n i : ℕ) (t : Bool) → i < n → t ≡ g i → not t ≡ true → false ≡ allOf g (consecutive 0 n)
+  held-broken n i t h e q =
+      by-test (allOf g (consecutive 0 n))
+      (λ u. sym (sym (all-out g (consecutive 0 n) u (consecutive-in 0 n (omega arith) (omega arith))) ∙ sym e ∙ not-true t q) ∙ sym u)
+      (λ u. sym u)
+
+  pub held-all : (n i : ℕ) → n ≤ i → Held i → true ≡ allOf g (consecutive 0 n)
+  held-all n i h a = sym (all-in g (consecutive 0 n) (λ x m. a x (omega (arith, consecutive-out 0 n m))))
+
+-- ---- the last crossing
+
+module _ (ticks : List ℕ) (b x r : ℕ) (e : r ≡ 6 * b + 4) where
+  pub crossed-here : r ≡ 6 * x + 4 → true ≡ crossedBut ticks b x
+  unfolding crossedBut
+  crossed-here q = rw (eq-eqb (6 * b + 4) (6 * x + 4) (sym e ∙ q))
+
+  pub crossed-else : (r ≡ 6 * x + 4 → ⊥) → (u : Bool) → u ≡ tickedIn ticks (6 * x + 4) → u ≡ crossedBut ticks b x
+  unfolding crossedBut
+  crossed-else q u h = rw (ne-eqb (6 * b + 4) (6 * x + 4) (λ p. q (e ∙ p))) h
+
+-- ---- the ways of `stand`
+
+module _ (e : Triple) (d : Entry) (faces curves : ℕ) (m : List ℕ) (all t u : Bool) (h : t ≡ u) where
+  pub stand-none : not t ≡ true → false ≡ standIn u e d faces curves m all
+  unfolding standIn
+  stand-none p = rw (sym h ∙ not-true t p)
+
+  module _ (q : not t ≡ false) (v : Bool) (i : v ≡ mapStandsIn e d faces curves m) where
+    pub stand-one : not v ≡ true → false ≡ standIn u e d faces curves m all
+    unfolding standIn
+    stand-one p = rw (sym h ∙ not-false t q, sym i ∙ not-true v p)
+
+    pub stand-all : not v ≡ false → all ≡ standIn u e d faces curves m all
+    unfolding standIn
+    stand-all p = rw (sym h ∙ not-false t q, sym i ∙ not-false v p)
+
+-- ---- what the tests tell of the block
+
+module _ (k : Cutting) (b : ℕ) (r : Block) (T : Tells k b r) (count : ℕ) (many : count ≡ blocks k) where
+  pub trays-told : (faces curves : ℕ) (z : Sizes) (u : Bool) → u ≡ traysFit count (sizeOf r) faces curves z → u ≡ traysFit (blocks k) (blockExtents k b) faces curves z
+  trays-told faces curves z u h = rw (← many, ← T .size) h
+
+  pub stand-told : (t : Bool) (table : List ℕ) (d : Entry) (ticks rows : List ℕ) (faces curves : ℕ) (m : List ℕ) (all u : Bool) → d ≡ entryOf table b → all ≡ numberable ticks b count rows faces curves
+      → u ≡ standIn t (sizeOf r) d faces curves m all → u ≡ standIn t (blockExtents k b) (entryOf table b) faces curves m (numberable ticks b (blocks k) rows faces curves)
+  stand-told t table d ticks rows faces curves m all u e f h = rw (← e, ← many, ← f, ← T .size) h
+
+pub map-length : (e : Triple) (count faces curves : ℕ) (z : Sizes) (u : Bool) → u ≡ traysFit count e faces curves z → not u ≡ false → (n : ℕ) → z .map ≡ n → n ≡ cells e
+unfolding traysFit
+map-length e count faces curves z u h p n q = sym q ∙ eqb-true _ _ (and-left (eqb (z .map) (cells e)) _ (sym h ∙ not-false u p))
+
+-- ---- the ladder of refusals
+
+module _ (j : Job) (cx cy cz ticks : List ℕ) (z : Sizes) (table rows : List ℕ) (b : ℕ) (m : List ℕ) (step r : ℕ) (f : step ≡ 6 * b + 4)
+    (e : r ≡ reachedOf (jobOf j cx cy cz) joiner.Crossing ticks b step) where
+  abbrev Refuses : ℕ → Type 0
+  Refuses x = x ≡ refusalOf (jobOf j cx cy cz) ticks z table rows b m
+
+  pub cross-first : (r ≡ 0 → ⊥) → Refuses r
+  unfolding refusalOf
+  cross-first q = rw (← f, ← e) (or-first r _ q)
+
+  pub cross-rest : r ≡ 0 → (x : ℕ) → x ≡ restOf (jobOf j cx cy cz) ticks z table rows b m → Refuses x
+  unfolding refusalOf
+  cross-rest q x h = rw (← f, ← e) (or-then r _ x q h)
+
+pub cross-passed : (j : Job) (cx cy cz ticks : List ℕ) (b step r : ℕ) → r ≡ reachedOf (jobOf j cx cy cz) joiner.Crossing ticks b step → r ≡ 0
+    → (goodCut (toldOf j cx cy cz .cutting) ≡ true) × (b < blocks (toldOf j cx cy cz .cutting))
+cross-passed j cx cy cz ticks b step r e q = let p = reached-passed (jobOf j cx cy cz) joiner.Crossing ticks b step (sym e ∙ q) in (p .0 .good, p .1)
+
+-- ---- the joins
+
+-- what the tick requires of the tallies
+pub tick-sums : (j : Job) (cx cy cz : List ℕ) → TalliesFit (jobOf j cx cy cz) → (j .faces + 0 ≤ j .«face_entries») × (j .curves + 0 ≤ j .«curve_entries») × (j .points + 0 ≤ j .«point_entries»)
+tick-sums j cx cy cz T = (omega (arith, T .each joiner.Face), omega (arith, T .each joiner.Curve), omega (arith, T .each joiner.Point))
+
+module _ (k : Cutting) (ticks table faces curves : List ℕ) (b : ℕ) (m : List ℕ) (r : Block) (T : Tells k b r) (d : Entry) (e : d ≡ entryOf table b) where
+  pub cross-trays : JoinReady k ticks table faces curves b m → Trays (sizeOf r) m 1 faces (d .«face_from») curves (d .«curve_from»)
+  cross-trays R = rw (T .size, e) (R .trays)
+
+pub joined-by : (j : Job) (cx cy cz ticks ticks′ table faces faces′ curves curves′ : List ℕ) (b : ℕ) (m : List ℕ) (q : Job) (r : Block) → Tells (toldOf j cx cy cz .cutting) b r
+    → (d : Entry) → d ≡ entryOf table b → (step : ℕ) → step ≡ 6 * b + 4 → Advanced j cx cy cz ticks ticks′ step 0 0 0 q
+    → Crossed faces faces′ curves curves′ (crossEdges (sizeOf r) m 1 (root faces) (d .«face_from») (d .«curve_from»))
+    → CurvesJoined j cx cy cz ticks ticks′ table faces faces′ curves curves′ b m q
+joined-by j cx cy cz ticks ticks′ table faces faces′ curves curves′ b m q r T d e step f A C =
+    record { moved = rw f at A; crossed = rw (← T .size, ← e) C }

@@ -1,0 +1,15 @@
+-- `crossing::face_in` meets its contract.
+use borrow.Author.Needs.{needs}
+use mathlib.Core.Path.{ap}
+use lib.Dec.{leb}
+use Rattle.crossing.proofs.face_in.Statement.{statement}
+use Rattle.crossing.proofs.face_in.Tie as tie
+
+at-requires : tie.Need-at-requires
+at-requires c κs = search needs
+
+returns : tie.Need-returns
+returns c = cc
+
+pub face-in-spec : {M : Type 1} → statement M
+face-in-spec = tie.close (tie.spec at-requires returns)

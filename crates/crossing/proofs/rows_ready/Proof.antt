@@ -1,0 +1,29 @@
+-- `crossing::rows_ready` meets its contract.
+use borrow.Author.Needs.{needs}
+use mathlib.Core.Path.{refl}
+use Rattle.job.proofs.JobLaws.{cond-here, cond-next}
+use Rattle.crossing.specs.Inner.{numberable}
+use Rattle.crossing.proofs.rows_ready.Statement.{statement}
+use Rattle.crossing.proofs.rows_ready.Tie as tie
+
+last-crossing-requires : tie.Need-last-crossing-requires
+last-crossing-requires c κs = search needs
+
+mul-rows-stand : tie.Need-mul-rows-stand
+mul-rows-stand c = search needs
+
+rows-stand-requires : tie.Need-rows-stand-requires
+rows-stand-requires c κs = search needs
+
+returns : tie.Need-returns
+unfolding numberable
+returns c = search cond-here
+
+returns-2 : tie.Need-returns-2
+unfolding numberable
+returns-2 c = cond-next _ _ _ _ _ ((c .before .last-crossing) .ensures) ((c .if1) .left) refl
+
+pub rows-ready-spec : {M : Type 1} → statement M
+rows-ready-spec =
+    tie.close
+    (tie.spec last-crossing-requires mul-rows-stand rows-stand-requires returns returns-2)
