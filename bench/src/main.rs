@@ -1,6 +1,8 @@
 //! Times of the proved labeller, writer and reader beside plain Rust, in one run: medians of several rounds, as ratios.
 mod codec;
+mod joins;
 mod plain;
+mod volume;
 
 use plain::Counts;
 use std::time::Instant;
@@ -125,4 +127,5 @@ fn main() {
     for (name, map) in maps {
         records(name, &map);
     }
+    volume::growth();
 }

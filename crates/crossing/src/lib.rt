@@ -164,14 +164,7 @@ fn rows_stand(rows: &[u32], faces: u32, n: usize) -> bool
 }
 
 // Whether all can be numbered, asked at the last crossing only.
-fn rows_ready(
-    ticks: &[u32],
-    b: u32,
-    blocks: usize,
-    rows: &[u32],
-    faces: u32,
-    curves: u32,
-) -> bool
+fn rows_ready(ticks: &[u32], b: u32, blocks: usize, rows: &[u32], faces: u32, curves: u32) -> bool
     requires { ⌜ blocks ≤ 16384 ⌝ }
     ensures { λ r. ⌜ r ≡ numberable (now (ticks .entry)) b blocks (now (rows .entry)) faces curves ⌝ }
 {
@@ -240,16 +233,7 @@ fn refusal(
     requires { ⌜ sizes .map ≡ length (now m) ⌝ }
     ensures { λ r. ⌜ r ≡ refusalOf (jobOf job (now (cx .entry)) (now (cy .entry)) (now (cz .entry))) (now (ticks .entry)) sizes (now (table .entry)) (now (rows .entry)) b (now (m .entry)) ⌝ }
 {
-    let number = reached(
-        job,
-        cx,
-        cy,
-        cz,
-        ticks,
-        Stage::Crossing,
-        b,
-        step_of(b),
-    );
+    let number = reached(job, cx, cy, cz, ticks, Stage::Crossing, b, step_of(b));
     if number != 0 {
         return number;
     }

@@ -245,7 +245,7 @@ fn position(job: Job, block: Block, x: u32, y: u32, z: u32) -> u64
     embed(job.nx, job.ny, job.nz, block, i, j, k)
 }
 
-// The final number of a cell of the block, n in its map. A point goes by its position, the map's number is of no use.
+// The final number of a cell of the block that has number n in the map. A point goes by its position alone.
 fn number_of(
     job: Job,
     block: Block,

@@ -13,14 +13,14 @@ use Rattle.reader.specs.Reading.{Outcome as Reading·Outcome, outcome as Readin
 use Rattle.labeller.specs.declared.Labelled.{Labelled}
 use Rattle.labeller.specs.Labelling.{Outcome, outcome}
 use Rattle.service.specs.Exports.{exported, export, exportedWriting, exportWriting, exportedReading, exportReading}
-use Rattle.joiner.specs.Job.{Tables}
-use Rattle.joiner.specs.Calls.{Call, answer}
+use Rattle.joiner.specs.Job.{Kind, Tables}
+use Rattle.joiner.specs.Calls.{Call, reading, answer}
 use Rattle.joiner.specs.Entries.{Step}
 use Rattle.job.specs.declared.Job.{Job}
 use Rattle.job.specs.declared.Stage.{Stage}
-use Rattle.job.specs.Jobs.{stateOf}
+use Rattle.job.specs.Jobs.{anyCuts, stateOf}
 use Rattle.job_numbers.specs.Numbers.{jobIn, kept}
-use Rattle.service.specs.Exports.{ExportedStep}
+use Rattle.service.specs.Exports.{ExportedStep, ExportedLookup, ExportedRow, sixOf}
 
 module _ (r : Labelled) (m w c : List ℕ) (o : Outcome) (promise : outcome r m w ≡ o) where
   pub export-stored : r .refusal ≡ 0 → exported (r .refusal) m w (set (set (set c 0 (r .faces)) 1 (r .curves)) 2 (r .points)) ≡ export o c
@@ -55,3 +55,27 @@ module _ (a : Head) (t h : List ℕ) (o : Reading·Outcome) (promise : Reading·
 module _ (ns ns′ : List ℕ) (other : Stage) (cx cy cz : List ℕ) (t t′ : Tables) (c : Call) (r : ℕ) (job : Job) where
   pub step-exported : (j : Job) → j ≡ jobIn ns other → Step (stateOf j cx cy cz t) c (answer r 0 []) (stateOf job cx cy cz t′) → ns′ ≡ kept r ns job → ExportedStep ns ns′ other cx cy cz t t′ c r
   step-exported j e s n = record { job = job; step = subst (λ (x : Job). Step (stateOf x cx cy cz t) c (answer r 0 []) (stateOf job cx cy cz t′)) e s; numbers = n }
+
+module _ (ns : List ℕ) (other : Stage) (cx cy cz : List ℕ) (t : Tables) (c : Call) (r found v : ℕ) (j : Job) (e : j ≡ jobIn ns other)
+    (s : Step (stateOf j cx cy cz t) c (answer r found []) (stateOf j cx cy cz t)) where
+  looked : Step (stateOf (jobIn ns other) cx cy cz t) c (answer r found []) (stateOf (jobIn ns other) cx cy cz t)
+  looked = subst (λ (x : Job). Step (stateOf x cx cy cz t) c (answer r found []) (stateOf x cx cy cz t)) e s
+
+  pub lookup-stored : r ≡ 0 → ExportedLookup ns other cx cy cz t c r v found
+  lookup-stored z = record { found = found; step = looked; number = rw (eq-eqb r 0 z) }
+
+  pub lookup-refused : r ≢ 0 → ExportedLookup ns other cx cy cz t c r v v
+  lookup-refused n = record { found = found; step = looked; number = rw (ne-eqb r 0 n) }
+
+module _ (j : Job) (κ : Kind) (n : ℕ) (t : Tables) (r : ℕ) (part : List ℕ)
+    (s : anyCuts (λ cx cy cz. Step (stateOf j cx cy cz t) (reading κ n) (answer r 0 part) (stateOf j cx cy cz t))) where
+  pub row-stored : r ≡ 0 → (row row′ : List ℕ) → row′ ≡ sixOf part → ExportedRow j κ n t r row row′
+  row-stored z row row′ e = record { part = part; step = s; places = rw (eq-eqb r 0 z) e }
+
+  pub row-refused : r ≢ 0 → (row : List ℕ) → ExportedRow j κ n t r row row
+  row-refused m row = record { part = part; step = s; places = rw (ne-eqb r 0 m) }
+
+-- a row of the job that the numbers tell
+pub row-exported : (ns : List ℕ) (other : Stage) (κ : Kind) (n : ℕ) (t : Tables) (r : ℕ) (row row′ : List ℕ) (j : Job) → j ≡ jobIn ns other
+    → ExportedRow j κ n t r row row′ → ExportedRow (jobIn ns other) κ n t r row row′
+row-exported ns other κ n t r row row′ j e x = subst (λ (y : Job). ExportedRow y κ n t r row row′) e x

@@ -13,10 +13,10 @@ use reader::read_record;
 use row_reading::Kind;
 use row_reading::row;
 use seaming::seam;
+use steps::at;
 use writer::write_record;
 ghost use mathlib.Core.Path.{_≡_};
 ghost use mathlib.Core.List.{[]};
-ghost use lib.ListN.{getD};
 ghost use Rattle.joiner.specs.Job as joiner;
 ghost use Rattle.joiner.specs.Calls.{enrol, join, cross, point, look};
 ghost use Rattle.job.specs.declared.Stage.{Stage};
@@ -276,7 +276,28 @@ pub extern "C" fn tugrelis_crossing(
         (tablesOf (now (ticks .exit)) (now (blocks .entry)) (now («face_links» .exit)) (now («curve_links» .exit)) (now («face_keys» .entry)) (now («curve_keys» .entry)) [] (now («face_rows» .entry)) (now («curve_rows» .entry)) [] (now («face_numbers» .exit)) (now («curve_numbers» .exit)) [] (now («face_firsts» .exit)) (now («curve_firsts» .exit)) [] (now («face_listed» .exit)) (now («curve_listed» .exit)) [])
         (cross block (now (map .entry))) r ⌝ }
 {
-    let r = crossing(job_in(job, Stage::Closed), cx, cy, cz, ticks, blocks, face_links, curve_links, face_keys, curve_keys, face_rows, curve_rows, face_numbers, curve_numbers, face_firsts, curve_firsts, face_listed, curve_listed, block, map);
+    let r = crossing(
+        job_in(job, Stage::Closed),
+        cx,
+        cy,
+        cz,
+        ticks,
+        blocks,
+        face_links,
+        curve_links,
+        face_keys,
+        curve_keys,
+        face_rows,
+        curve_rows,
+        face_numbers,
+        curve_numbers,
+        face_firsts,
+        curve_firsts,
+        face_listed,
+        curve_listed,
+        block,
+        map,
+    );
     keep(job, r.refusal, r.job);
     r.refusal
 }
@@ -304,7 +325,22 @@ pub extern "C" fn tugrelis_point(
         (tablesOf (now (ticks .exit)) (now (blocks .entry)) [] [] [] [] (now («point_keys» .exit)) [] [] (now («point_rows» .exit)) [] (now («curve_numbers» .entry)) (now («point_numbers» .exit)) [] [] (now («point_firsts» .exit)) [] [] (now («point_listed» .exit)))
         (point block (now (map .entry))) r ⌝ }
 {
-    let r = point(job_in(job, Stage::Closed), cx, cy, cz, ticks, blocks, curve_numbers, point_keys, point_rows, point_numbers, point_firsts, point_listed, block, map);
+    let r = point(
+        job_in(job, Stage::Closed),
+        cx,
+        cy,
+        cz,
+        ticks,
+        blocks,
+        curve_numbers,
+        point_keys,
+        point_rows,
+        point_numbers,
+        point_firsts,
+        point_listed,
+        block,
+        map,
+    );
     keep(job, r.refusal, r.job);
     r.refusal
 }
@@ -332,21 +368,26 @@ pub extern "C" fn tugrelis_lookup(
         (tablesOf (now (ticks .entry)) (now (blocks .entry)) [] [] [] [] [] [] [] [] (now («face_numbers» .entry)) (now («curve_numbers» .entry)) [] [] [] (now («point_firsts» .entry)) [] [] [])
         (look block (now (map .entry)) (triple x y z)) r (now (number .entry)) (now (number .exit)) ⌝ }
 {
-    let r = lookup(job_in(job, Stage::Enrol), cx, cy, cz, ticks, blocks, face_numbers, curve_numbers, point_firsts, block, map, x, y, z);
+    let r = lookup(
+        job_in(job, Stage::Enrol),
+        cx,
+        cy,
+        cz,
+        ticks,
+        blocks,
+        face_numbers,
+        curve_numbers,
+        point_firsts,
+        block,
+        map,
+        x,
+        y,
+        z,
+    );
     if r.refusal == 0 {
         *number = r.number;
     }
     r.refusal
-}
-
-// The entry of a part, 0 past its end.
-fn in_part(part: &[u32], i: usize) -> u32
-    ensures { λ r. ⌜ r ≡ getD (now (part .entry)) i 0 ⌝ }
-{
-    if i < part.len() {
-        return part[i];
-    }
-    0
 }
 
 // A part filled with zeros to six places.
@@ -354,21 +395,37 @@ fn six(part: &[u32]) -> [u32; 6]
     ensures { λ r. ⌜ r ≡ sixOf (now (part .entry)) ⌝ }
 {
     [
-        in_part(part, 0),
-        in_part(part, 1),
-        in_part(part, 2),
-        in_part(part, 3),
-        in_part(part, 4),
-        in_part(part, 5),
+        at(part, 0),
+        at(part, 1),
+        at(part, 2),
+        at(part, 3),
+        at(part, 4),
+        at(part, 5),
     ]
 }
 
 // The row of a component of a kind: answers the refusal, 0 for none, and stores the row.
-fn read_row(job: Job, kind: Kind, number: u32, face_listed: &[u32], curve_listed: &[u32], point_listed: &[u32], places: &mut [u32; 6]) -> u32
+fn read_row<'a>(
+    job: Job,
+    kind: Kind,
+    number: u32,
+    face_listed: &'a [u32],
+    curve_listed: &'a [u32],
+    point_listed: &'a [u32],
+    places: &mut [u32; 6],
+) -> u32
     ensures { λ r. ⌜ ExportedRow job (kindOf kind) number (tablesOf [] [] [] [] [] [] [] [] [] [] [] [] [] [] [] [] (now («face_listed» .entry)) (now («curve_listed» .entry)) (now («point_listed» .entry))) r (now (places .entry)) (now (places .exit)) ⌝ }
 {
     let mut refusal: u32 = 0;
-    let part = row(job, kind, number, face_listed, curve_listed, point_listed, &mut refusal);
+    let part = row(
+        job,
+        kind,
+        number,
+        face_listed,
+        curve_listed,
+        point_listed,
+        &mut refusal,
+    );
     if refusal == 0 {
         *places = six(part);
     }
@@ -377,48 +434,72 @@ fn read_row(job: Job, kind: Kind, number: u32, face_listed: &[u32], curve_listed
 
 // The row of a face; answers the refusal, 0 for none, and stores the row, filled with zeros.
 #[no_mangle]
-pub extern "C" fn tugrelis_face_row(
+pub extern "C" fn tugrelis_face_row<'a>(
     job: &[u32; 13],
     number: u32,
-    face_listed: &[u32],
-    curve_listed: &[u32],
-    point_listed: &[u32],
+    face_listed: &'a [u32],
+    curve_listed: &'a [u32],
+    point_listed: &'a [u32],
     row: &mut [u32; 6],
 ) -> u32
     ensures { λ r. ⌜ ExportedRow (jobIn (now (job .entry)) Stage.Enrol) joiner.Face number
         (tablesOf [] [] [] [] [] [] [] [] [] [] [] [] [] [] [] [] (now («face_listed» .entry)) (now («curve_listed» .entry)) (now («point_listed» .entry))) r (now (row .entry)) (now (row .exit)) ⌝ }
 {
-    read_row(job_in(job, Stage::Enrol), Kind::Face, number, face_listed, curve_listed, point_listed, row)
+    read_row(
+        job_in(job, Stage::Enrol),
+        Kind::Face,
+        number,
+        face_listed,
+        curve_listed,
+        point_listed,
+        row,
+    )
 }
 
 // The row of a curve; answers the refusal, 0 for none, and stores the row, filled with zeros.
 #[no_mangle]
-pub extern "C" fn tugrelis_curve_row(
+pub extern "C" fn tugrelis_curve_row<'a>(
     job: &[u32; 13],
     number: u32,
-    face_listed: &[u32],
-    curve_listed: &[u32],
-    point_listed: &[u32],
+    face_listed: &'a [u32],
+    curve_listed: &'a [u32],
+    point_listed: &'a [u32],
     row: &mut [u32; 6],
 ) -> u32
     ensures { λ r. ⌜ ExportedRow (jobIn (now (job .entry)) Stage.Enrol) joiner.Curve number
         (tablesOf [] [] [] [] [] [] [] [] [] [] [] [] [] [] [] [] (now («face_listed» .entry)) (now («curve_listed» .entry)) (now («point_listed» .entry))) r (now (row .entry)) (now (row .exit)) ⌝ }
 {
-    read_row(job_in(job, Stage::Enrol), Kind::Curve, number, face_listed, curve_listed, point_listed, row)
+    read_row(
+        job_in(job, Stage::Enrol),
+        Kind::Curve,
+        number,
+        face_listed,
+        curve_listed,
+        point_listed,
+        row,
+    )
 }
 
 // The row of a point; answers the refusal, 0 for none, and stores the row, filled with zeros.
 #[no_mangle]
-pub extern "C" fn tugrelis_point_row(
+pub extern "C" fn tugrelis_point_row<'a>(
     job: &[u32; 13],
     number: u32,
-    face_listed: &[u32],
-    curve_listed: &[u32],
-    point_listed: &[u32],
+    face_listed: &'a [u32],
+    curve_listed: &'a [u32],
+    point_listed: &'a [u32],
     row: &mut [u32; 6],
 ) -> u32
     ensures { λ r. ⌜ ExportedRow (jobIn (now (job .entry)) Stage.Enrol) joiner.Point number
         (tablesOf [] [] [] [] [] [] [] [] [] [] [] [] [] [] [] [] (now («face_listed» .entry)) (now («curve_listed» .entry)) (now («point_listed» .entry))) r (now (row .entry)) (now (row .exit)) ⌝ }
 {
-    read_row(job_in(job, Stage::Enrol), Kind::Point, number, face_listed, curve_listed, point_listed, row)
+    read_row(
+        job_in(job, Stage::Enrol),
+        Kind::Point,
+        number,
+        face_listed,
+        curve_listed,
+        point_listed,
+        row,
+    )
 }

@@ -8,13 +8,13 @@ refusal-requires : tie.Need-refusal-requires
 refusal-requires c κs = search needs
 
 returns : tie.Need-returns
-returns c = look-refused _ _ _ _ _ _ _ _ _ _ _ _ _ ((c .before .refusal) .ensures) ((c .if1) .taken)
+returns c = look-refused _ _ _ _ _ _ _ _ _ _ _ _ _ (c .before .refusal .ensures) (c .if1 .taken)
 
 look-up-requires : tie.Need-look-up-requires
 look-up-requires c κs = search needs
 
 returns-2 : tie.Need-returns-2
-returns-2 c = look-accepted _ _ _ _ _ _ _ _ _ _ _ _ _ ((c .before .before .refusal) .ensures) ((c .before .if1) .left) _ ((c .look-up) .ensures)
+returns-2 c = look-accepted _ _ _ _ _ _ _ _ _ _ _ _ _ (c .before .before .refusal .ensures) (c .before .if1 .left) _ (c .look-up .ensures)
 
 pub lookup-spec : {M : Type 1} → statement M
 lookup-spec = tie.close (tie.spec refusal-requires returns look-up-requires returns-2)

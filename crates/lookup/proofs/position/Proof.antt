@@ -7,28 +7,28 @@ use Rattle.lookup.proofs.position.Statement.{statement}
 use Rattle.lookup.proofs.position.Tie as tie
 
 mul-i : tie.Need-mul-i
-mul-i c = omega (arith, in-low _ _ ((c .before .pre) .has) X)
+mul-i c = omega (arith, in-low _ _ (c .before .pre .has) X)
 
 sub-i : tie.Need-sub-i
-sub-i c = omega (arith, in-low _ _ ((c .before .pre) .has) X)
+sub-i c = omega (arith, in-low _ _ (c .before .pre .has) X)
 
 mul-j : tie.Need-mul-j
-mul-j c = omega (arith, in-low _ _ ((c .before .before .pre) .has) Y)
+mul-j c = omega (arith, in-low _ _ (c .before .before .pre .has) Y)
 
 sub-j : tie.Need-sub-j
-sub-j c = omega (arith, in-low _ _ ((c .before .before .pre) .has) Y)
+sub-j c = omega (arith, in-low _ _ (c .before .before .pre .has) Y)
 
 mul-k : tie.Need-mul-k
-mul-k c = omega (arith, in-low _ _ ((c .before .before .before .pre) .has) Z)
+mul-k c = omega (arith, in-low _ _ (c .before .before .before .pre .has) Z)
 
 sub-k : tie.Need-sub-k
-sub-k c = omega (arith, in-low _ _ ((c .before .before .before .pre) .has) Z)
+sub-k c = omega (arith, in-low _ _ (c .before .before .before .pre .has) Z)
 
 embed-requires : tie.Need-embed-requires
-embed-requires c κs = embeds _ _ _ _ _ ((c .before .before .before .pre))
+embed-requires c κs = embeds _ _ _ _ _ (c .before .before .before .pre)
 
 returns : tie.Need-returns
-returns c = position-is _ _ _ _ _ ((c .before .before .before .before .pre)) _ (c .embed .ensures)
+returns c = position-is _ _ _ _ _ (c .before .before .before .before .pre) _ (c .embed .ensures)
 
 pub position-spec : {M : Type 1} → statement M
 position-spec = tie.close (tie.spec mul-i sub-i mul-j sub-j mul-k sub-k embed-requires returns)

@@ -1,0 +1,62 @@
+-- `service::tugrelis_crossing` meets its contract.
+use borrow.Author.Needs.{needs}
+use Rattle.service.proofs.ExportLaws.{step-exported}
+use Rattle.service.proofs.tugrelis_crossing.Statement.{statement}
+use Rattle.service.proofs.tugrelis_crossing.Tie as tie
+
+job-in-requires : tie.Need-job-in-requires
+job-in-requires c κs = search needs
+
+crossing-requires : tie.Need-crossing-requires
+crossing-requires c κs = search needs
+
+keep-requires : tie.Need-keep-requires
+keep-requires c κs = search needs
+
+same-length : tie.Need-same-length
+same-length c = search needs
+
+same-length-2 : tie.Need-same-length-2
+same-length-2 c = search needs
+
+same-length-3 : tie.Need-same-length-3
+same-length-3 c = search needs
+
+same-length-4 : tie.Need-same-length-4
+same-length-4 c = search needs
+
+same-length-5 : tie.Need-same-length-5
+same-length-5 c = search needs
+
+same-length-6 : tie.Need-same-length-6
+same-length-6 c = search needs
+
+same-length-7 : tie.Need-same-length-7
+same-length-7 c = search needs
+
+same-length-8 : tie.Need-same-length-8
+same-length-8 c = search needs
+
+same-length-9 : tie.Need-same-length-9
+same-length-9 c = search needs
+
+returns : tie.Need-returns
+returns c = step-exported _ _ _ _ _ _ _ _ _ _ _ _ ((c .before .before .before .before .before .before .before .before .before .before .before .before .before .before .before .before .before .before .before .before .before .before .before .before .before .before .before .before .before .before .job-in) .ensures) ((c .before .before .before .before .before .before .before .before .before .before .before .before .before .before .before .before .before .before .before .before .crossing) .ensures) (c .keep .ensures)
+
+pub tugrelis-crossing-spec : {M : Type 1} → statement M
+tugrelis-crossing-spec =
+    tie.close
+    (tie.spec
+    job-in-requires
+    crossing-requires
+    keep-requires
+    same-length
+    same-length-2
+    same-length-3
+    same-length-4
+    same-length-5
+    same-length-6
+    same-length-7
+    same-length-8
+    same-length-9
+    returns)

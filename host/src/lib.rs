@@ -1,0 +1,15 @@
+//! Tugrelis for programs in Rust: the proved library behind types for blocks, records, cuttings, jobs and tables. Everything that the library
+//! declines comes back as a [`Refusal`]; nothing has to be tested beforehand.
+pub mod block;
+pub mod cutting;
+pub mod job;
+pub mod joining;
+pub mod raw;
+pub mod refusal;
+pub mod sheet;
+pub mod volumes;
+
+pub use block::{cells, Block, Counts};
+pub use cutting::Cutting;
+pub use job::{Entries, Job, Kind, Stage, Tables};
+pub use refusal::{Refusal, REFUSALS};

@@ -1,0 +1,125 @@
+//! The command-line tool: one volume under ten cuttings gives one sheet, and failures leave nothing behind.
+use reference::label::number;
+use reference::random::Random;
+use std::fs;
+use std::path::{Path, PathBuf};
+use std::process::{Command, Output};
+
+/// A new folder for one test.
+fn folder(name: &str) -> PathBuf {
+    let path = std::env::temp_dir().join(format!("tugrelis-{name}-{}", std::process::id()));
+    let _ = fs::remove_dir_all(&path);
+    fs::create_dir_all(&path).unwrap();
+    path
+}
+
+fn tool(words: &[&str]) -> Output {
+    Command::new(env!("CARGO_BIN_EXE_tugrelis")).args(words).output().unwrap()
+}
+
+fn write_volume(path: &Path, codes: &[u32]) {
+    fs::write(path, codes.iter().flat_map(|c| c.to_le_bytes()).collect::<Vec<u8>>()).unwrap();
+}
+
+/// Each voxel takes the code of its nearest seed.
+fn voronoi(extents: [usize; 3], seeds: usize, seed: u64) -> Vec<u32> {
+    let mut random = Random::new(seed);
+    let seeds: Vec<[i64; 3]> = (0..seeds).map(|_| extents.map(|n| random.below(n) as i64)).collect();
+    let [nx, ny, nz] = extents;
+    (0..nx * ny * nz)
+        .map(|v| {
+            let p = [v % nx, v / nx % ny, v / nx / ny].map(|c| c as i64);
+            (0..seeds.len()).min_by_key(|&s| (0..3).map(|a| (p[a] - seeds[s][a]).pow(2)).sum::<i64>()).unwrap() as u32 + 1
+        })
+        .collect()
+}
+
+/// The sheet without its cutting line.
+fn without_cutting(sheet: &str) -> String {
+    sheet.lines().filter(|l| !l.starts_with("cut ")).map(|l| format!("{l}\n")).collect()
+}
+
+#[test]
+fn ten_cuttings_one_sheet() {
+    let dir = folder("cuttings");
+    let volume = dir.join("volume.raw");
+    write_volume(&volume, &voronoi([100, 100, 60], 40, 5));
+    let mut sheets = Vec::new();
+    let lists = ["0,50,99", "0,13,40,80,99", "0,31,59"];
+    for way in 0..10 {
+        let out = dir.join(format!("out{way}"));
+        let size = ["64", "63", "50", "41", "33", "32", "20", "17", "12"].get(way).copied();
+        let mut words = vec![volume.to_str().unwrap(), "100", "100", "60", out.to_str().unwrap()];
+        match size {
+            Some(n) => words.extend(["--size", n]),
+            None => words.extend(["--cut", lists[0], lists[1], lists[2]]),
+        }
+        let ran = tool(&words);
+        assert!(ran.status.success(), "{}", String::from_utf8_lossy(&ran.stderr));
+        sheets.push(fs::read_to_string(out.join("sheet.txt")).unwrap());
+        fs::remove_dir_all(&out).unwrap();
+    }
+    let cuts: std::collections::BTreeSet<&str> = sheets.iter().map(|s| s.lines().nth(1).unwrap()).collect();
+    assert_eq!(cuts.len(), 10);
+    assert!(sheets.iter().all(|s| without_cutting(s) == without_cutting(&sheets[0])));
+    assert!(sheets[0].lines().count() > 200);
+    fs::remove_dir_all(&dir).unwrap();
+}
+
+#[test]
+fn the_sheet_of_a_small_volume() {
+    let dir = folder("small");
+    let volume = dir.join("volume.raw");
+    let codes = voronoi([9, 7, 5], 6, 2);
+    write_volume(&volume, &codes);
+    let out = dir.join("out");
+    assert!(tool(&[volume.to_str().unwrap(), "9", "7", "5", out.to_str().unwrap(), "--size", "3"]).status.success());
+    let uncut = number([9, 7, 5], &codes);
+    let mut text = format!("faces {} curves {} points {}\n", uncut.components[2].len(), uncut.components[1].len(), uncut.components[0].len());
+    for (letter, order, width) in [('f', 2, 2), ('c', 1, 4), ('p', 0, 6)] {
+        for (i, c) in uncut.components[order].iter().enumerate() {
+            let [x, y, z] = uncut.grid.place(c.first);
+            let row: Vec<String> = c.row[..width].iter().map(u32::to_string).collect();
+            text += &format!("{letter} {} {x} {y} {z} {}\n", i + 1, row.join(" "));
+        }
+    }
+    let sheet = fs::read_to_string(out.join("sheet.txt")).unwrap();
+    assert_eq!(without_cutting(&sheet), text);
+    assert_eq!(sheet.lines().nth(1), Some("cut x 0 2 4 6 8 y 0 2 4 6 z 0 2 4"));
+    assert_eq!(fs::read_dir(&out).unwrap().count(), 4 * 3 * 2 + 1);
+    fs::remove_dir_all(&dir).unwrap();
+}
+
+#[test]
+fn failures_leave_nothing_behind() {
+    let dir = folder("failures");
+    let (volume, blank) = (dir.join("volume.raw"), dir.join("blank.raw"));
+    write_volume(&volume, &[1, 2, 3, 4, 5, 6, 7, 8]);
+    write_volume(&blank, &[1, 2, 3, 4, 5, 6, 7, 0]);
+    let (v, b, out) = (volume.to_str().unwrap(), blank.to_str().unwrap(), dir.join("out"));
+    let o = out.to_str().unwrap();
+    let missing = dir.join("missing.raw");
+    let kept: Vec<_> = fs::read_dir(&dir).unwrap().map(|e| e.unwrap().file_name()).collect();
+    for (words, message) in [
+        (vec![missing.to_str().unwrap(), "2", "2", "2", o], "missing.raw"),
+        (vec![v, "2", "2", "3", o], "has 32 bytes"),
+        (vec![v, "2", "2", "0", o], "refused 1 (off size)"),
+        (vec![v, "2000", "2", "2", o], "refused 1 (off size)"),
+        (vec![v, "2", "2", "2", o, "--cut", "0,1", "0", "0,1"], "refused 2 (bad cut)"),
+        (vec![v, "2", "2", "2", o, "--cut", "0,x", "0", "0,1"], "no list of numbers"),
+        (vec![v, "2", "2", "2", o, "--size", "65"], "no block size"),
+        (vec![v, "2", "2", "two", o], "no extent"),
+        (vec![v, "2", "2", "2"], "usage"),
+        (vec![b, "2", "2", "2", o], "refused 7 (blank voxel)"),
+        (vec![v, "2", "2", "2", dir.to_str().unwrap()], "exists already"),
+        (vec![v, "2", "2", "2", "/dev/null/out"], "/dev/null/out"),
+    ] {
+        let ran = tool(&words);
+        let said = String::from_utf8_lossy(&ran.stderr).to_string();
+        assert_eq!(ran.status.code(), Some(1), "{words:?}: {said}");
+        assert!(said.starts_with("tugrelis: ") && said.contains(message), "{words:?}: {said}");
+        let now: Vec<_> = fs::read_dir(&dir).unwrap().map(|e| e.unwrap().file_name()).collect();
+        assert_eq!(now, kept, "{words:?} left something behind");
+    }
+    fs::remove_dir_all(&dir).unwrap();
+}
