@@ -1,34 +1,32 @@
 -- The ways of the functions of a crossing step, over plain lists and numbers.
 -- Assumes nothing.
-use mathlib.Core.Path.{_≡_, refl, sym, ap, _∙_}
-use mathlib.Core.Bool.{Bool, true, false, not, cond, _&&_, _||_}
-use mathlib.Core.List.{List, [], _∷_, map}
-use Prim.Native.Nat.{ℕ, suc, _+_, _*_, _≤_, _<_}
+use mathlib.Core.Path.{_≡_, sym, ap, _∙_}
+use mathlib.Core.Bool.{Bool, true, false, not}
+use mathlib.Core.List.{List}
+use Prim.Native.Nat.{ℕ, _+_, _*_, _≤_, _<_}
 use native.Mathlib.Omega.{arith}
-use lib.Dec.{eqb, leb}
-use lib.ListN.{getD, length}
+use lib.Dec.{eqb}
 use borrow.Author.Tests.{eqb-true, eqb-false, eq-eqb, ne-eqb, not-true, not-false}
 use Rattle.lists.specs.Lists.{consecutive, allOf}
 use Rattle.lists.proofs.Cases.{by-test, and-left}
 use Rattle.lists.proofs.Lists.{consecutive-in, consecutive-out}
 use Rattle.lists.proofs.Tests.{all-in, all-out}
+use Rattle.union_find.specs.Links.{root}
 use Rattle.cells.specs.Box.{Triple}
 use Rattle.cells.specs.Grid.{cells}
 use Rattle.cutting.specs.Cutting.{Cutting, blocks, blockExtents, goodCut}
 use Rattle.joiner.specs.Job as joiner
-use Rattle.joiner.specs.Declines.{talliesFit}
 use Rattle.crossings.specs.Crossings.{crossEdges, Trays, Crossed}
-use Rattle.union_find.specs.Links.{root}
 use Rattle.blocks.specs.Blocks.{Tells, sizeOf}
 use Rattle.blocks.specs.declared.Block.{Block}
 use Rattle.job.specs.declared.Job.{Job}
-use Rattle.job.specs.Jobs.{anyCuts, jobOf, toldOf}
+use Rattle.job.specs.Jobs.{jobOf, toldOf}
 use Rattle.staging.specs.Staging.{tickedIn}
 use Rattle.steps.specs.declared.Entry.{Entry}
 use Rattle.steps.specs.Steps.{reachedOf, entryOf, mapStandsIn, Advanced}
 use Rattle.steps.proofs.StepLaws.{or-first, or-then, reached-passed}
 use Rattle.crossing.specs.declared.Sizes.{Sizes}
-use Rattle.crossing.specs.Inner.{traysFit, crossedBut, lastIn, rowsIn, numberable, standIn, restOf, refusalOf, JoinReady, TalliesFit, CurvesJoined}
+use Rattle.crossing.specs.Inner.{traysFit, crossedBut, numberable, standIn, restOf, refusalOf, JoinReady, TalliesFit, CurvesJoined}
 
 -- ---- loops that ask the same of each of the first places
 

@@ -1,32 +1,27 @@
 -- The tests by lengths are the joiner's, and what an accepted crossing step leaves is what the joiner asks for.
 -- Assumes nothing.
-use mathlib.Core.Path.{_≡_, refl, sym, ap, subst, _∙_}
+use mathlib.Core.Path.{_≡_, refl, sym, ap, _∙_}
 use mathlib.Core.Bool.{Bool, true, false, not, cond, _&&_, _||_}
 use mathlib.Core.Logic.{_≢_}
 use mathlib.Core.List.{List, [], _∷_, _++_, map}
 use Prim.Native.Nat.{ℕ, _+_, _*_, _≤_, _<_}
 use native.Mathlib.Omega.{arith}
-use lib.Dec.{eqb, leb}
+use lib.Dec.{eqb}
 use lib.ListN.{getD, length}
 use borrow.Author.Tests.{eqb-true, eqb-false, not-true, not-false, ltb-true}
 use Rattle.lists.specs.Lists.{consecutive, allOf}
-use Rattle.lists.proofs.Cases.{and-left, and-right}
-use Rattle.union_find.specs.Links.{root}
-use Rattle.cells.specs.Box.{Triple}
-use Rattle.cells.specs.Extents.{Sized}
+use Rattle.lists.proofs.Cases.{and-left}
 use Rattle.cells.specs.Grid.{cells}
-use Rattle.labels.specs.Components.{largest}
-use Rattle.cutting.specs.Cutting.{Cutting, blocks, blockExtents, goodCut}
+use Rattle.cutting.specs.Cutting.{Cutting, blocks, blockExtents}
 use Rattle.cutting.proofs.CutLaws.{block-sized}
-use Rattle.joiner.specs.Job.{Kind, Face, Curve, Point, Stage, Points, Tables, State, tray, sameStage, stageNumber, countOf, fromOf, ticked, fits, blockTrays, linkTrays, foundTrays, numberTrays, firstTrays, listedTrays, kindTrays}
+use Rattle.joiner.specs.Job.{Kind, Face, Curve, Point, Stage, Points, Tables, State, tray, sameStage, stageNumber, fromOf, ticked, fits, blockTrays, linkTrays, foundTrays, numberTrays, firstTrays, listedTrays, kindTrays}
 use Rattle.joiner.specs.Job as joiner
 use Rattle.joiner.specs.Stages.{crossingStep, finished, stepsOf}
 use Rattle.joiner.specs.Calls.{cross, answer, mapsFit}
 use Rattle.joiner.specs.Declines.{adds, lastCrossing, lentTo, mapStands, refusal, rowsStand, standsFor, talliesFit}
-use Rattle.joiner.specs.Entries.{CrossingDone, KeptNumbers, NumberedKind, Step, Merged, AtCrossing, Ticked, classOf, rowFinal}
+use Rattle.joiner.specs.Entries.{CrossingDone, NumberedKind, Step, Merged, AtCrossing, Ticked, classOf, rowFinal}
 use Rattle.joiner.proofs.Accepted.{stage-same}
-use Rattle.model.proofs.Facts.{Facts, facts, fits-at, tally-fits, Standing, faces-stand, curves-stand}
-use Rattle.crossings.specs.Crossings.{Crossed, Room, Trays}
+use Rattle.model.proofs.Facts.{Facts, facts, fits-at, tally-fits, faces-stand, curves-stand}
 use Rattle.crossings.proofs.MergeLaws.{crossing-merged}
 use Rattle.kind_numbers.proofs.NumberedLaws.{numbered-kind}
 use Rattle.job.specs.declared.Job.{Job}
@@ -34,12 +29,11 @@ use Rattle.job.specs.Jobs.{byKind, toldOf, jobOf, stateOf}
 use Rattle.job.specs.Jobs as job
 use Rattle.job.proofs.JobLaws.{fits-append}
 use Rattle.staging.specs.Staging.{tickedIn}
-use Rattle.steps.specs.Steps.{orElse, reachedOf, lateOf, entryOf, Advanced}
+use Rattle.steps.specs.Steps.{reachedOf, lateOf, entryOf}
 use Rattle.steps.proofs.StepLaws.{or-none, or-six, six-none, refusal-reached, late-none, few-of, stands-is, ticked-by, numbered-kept, step-refused, step-accepted}
-use Rattle.crossing.specs.declared.Crossed as answer
 use Rattle.crossing.specs.declared.Totals.{Totals}
 use Rattle.crossing.proofs.CrossingLaws.{map-length}
-use Rattle.crossing.specs.Inner.{lent, kindSizes, sizesOf, kindFits, traysFit, crossedBut, lastIn, rowsIn, numberable, standIn, restOf, refusalOf, Ready, edgesOf, JoinReady, TalliesFit, CurvesJoined, KindRoom, BothNumbered}
+use Rattle.crossing.specs.Inner.{lent, sizesOf, kindFits, traysFit, crossedBut, lastIn, rowsIn, numberable, standIn, restOf, refusalOf, Ready, JoinReady, TalliesFit, CurvesJoined, KindRoom, BothNumbered}
 
 all-map : (f : ℕ → Bool) (g : ℕ → ℕ) (l : List ℕ) → allOf f (map g l) ≡ allOf (λ x. f (g x)) l
 all-map f g [] = refl
@@ -55,7 +49,7 @@ unfolding sameStage
 not-stage s t e q = eqb-false (stageNumber s) (stageNumber t) e (ap stageNumber q)
 
 module _ (s : State) (b : ℕ) (m : List ℕ) where
-  abbrev pub k : Cutting
+  abbrev k : Cutting
   k = s .job .told .cutting
 
   -- ---- the tests by lengths are the joiner's

@@ -23,7 +23,7 @@ use steps::map_fits;
 use steps::map_stands;
 use steps::reached;
 ghost use mathlib.Core.Path.{_≡_};
-ghost use mathlib.Core.Bool.{Bool, true};
+ghost use mathlib.Core.Bool.{true};
 ghost use mathlib.Core.List.{[]};
 ghost use Prim.Native.Nat.{_+_, _*_, _≤_, _<_};
 ghost use lib.Dec.{leb};
@@ -260,14 +260,14 @@ fn join_curves(
     ensures { λ r. ⌜ CurvesJoined job (now (cx .entry)) (now (cy .entry)) (now (cz .entry)) (now (ticks .entry)) (now (ticks .exit)) (now (table .entry))
         (now («face_links» .entry)) (now («face_links» .exit)) (now («curve_links» .entry)) (now («curve_links» .exit)) b (now (m .entry)) r ⌝ }
 {
-    let block = block_at(cx, cy, cz, b as usize);
+    let here = block_at(cx, cy, cz, b as usize);
     let entry = entry_of(table, b);
     let next = advance(job, ticks, cx, cy, cz, step_of(b), 0, 0, 0);
     cross_cells(
         m,
-        block.nx,
-        block.ny,
-        block.nz,
+        here.nx,
+        here.ny,
+        here.nz,
         1,
         face_links,
         entry.face_from,
@@ -279,10 +279,10 @@ fn join_curves(
 
 // Numbers the faces, then the curves by the faces' numbers.
 fn number_both(
-    face_links: &[u32],
-    curve_links: &[u32],
-    face_keys: &[u64],
-    curve_keys: &[u64],
+    links_of_faces: &[u32],
+    links_of_curves: &[u32],
+    keys_of_faces: &[u64],
+    keys_of_curves: &[u64],
     face_rows: &[u32],
     curve_rows: &[u32],
     face_numbers: &mut [u32],
@@ -294,16 +294,16 @@ fn number_both(
     faces: u32,
     curves: u32,
 ) -> Totals
-    requires { ⌜ KindRoom 2 faces (length (now «face_keys»)) (length (now «face_numbers»)) (length (now «face_firsts»)) (length (now «face_listed»)) ⌝ }
-    requires { ⌜ KindRoom 4 curves (length (now «curve_keys»)) (length (now «curve_numbers»)) (length (now «curve_firsts»)) (length (now «curve_listed»)) ⌝ }
-    ensures { λ r. ⌜ BothNumbered (now («face_links» .entry)) (now («curve_links» .entry)) (now («face_keys» .entry)) (now («curve_keys» .entry)) (now («face_rows» .entry)) (now («curve_rows» .entry))
+    requires { ⌜ KindRoom 2 faces (length (now «keys_of_faces»)) (length (now «face_numbers»)) (length (now «face_firsts»)) (length (now «face_listed»)) ⌝ }
+    requires { ⌜ KindRoom 4 curves (length (now «keys_of_curves»)) (length (now «curve_numbers»)) (length (now «curve_firsts»)) (length (now «curve_listed»)) ⌝ }
+    ensures { λ r. ⌜ BothNumbered (now («links_of_faces» .entry)) (now («links_of_curves» .entry)) (now («keys_of_faces» .entry)) (now («keys_of_curves» .entry)) (now («face_rows» .entry)) (now («curve_rows» .entry))
         (now («face_numbers» .entry)) (now («face_numbers» .exit)) (now («curve_numbers» .entry)) (now («curve_numbers» .exit))
         (now («face_firsts» .entry)) (now («face_firsts» .exit)) (now («curve_firsts» .entry)) (now («curve_firsts» .exit))
         (now («face_listed» .entry)) (now («face_listed» .exit)) (now («curve_listed» .entry)) (now («curve_listed» .exit)) faces curves r ⌝ }
 {
     let f = number_copied(
-        face_links,
-        face_keys,
+        links_of_faces,
+        keys_of_faces,
         face_rows,
         2,
         face_numbers,
@@ -312,8 +312,8 @@ fn number_both(
         faces,
     );
     let c = number_curves(
-        curve_links,
-        curve_keys,
+        links_of_curves,
+        keys_of_curves,
         curve_rows,
         face_numbers,
         curve_numbers,

@@ -1,6 +1,6 @@
 -- What the passes leave is the record, and the record is the joiner's `NumberedKind`.
 -- Assumes nothing.
-use mathlib.Core.Path.{_≡_, refl, sym, ap, _∙_}
+use mathlib.Core.Path.{_≡_, refl, ap, _∙_}
 use mathlib.Core.List.{List, []}
 use Prim.Native.Nat.{ℕ, suc, _*_, _/_, _%_, _≤_}
 use native.Mathlib.Nat.{le-refl, mul-le-mul, mul-le-mul-right}
@@ -8,9 +8,8 @@ use native.Mathlib.Omega.{arith}
 use lib.ListN.{getD, length, take}
 use Rattle.lists.specs.Lists.{tabulate, overlay}
 use Rattle.lists.proofs.Overlay.{length-overlay}
-use Rattle.union_find.specs.Links.{root}
 use Rattle.joiner.specs.Job.{Kind, Face, Curve, width, Tables, State}
-use Rattle.joiner.specs.Entries.{classOf, headOf, rowAt, rowFinal, NumberedKind}
+use Rattle.joiner.specs.Entries.{classOf, headOf, rowFinal, NumberedKind}
 use Rattle.joiner.proofs.Crossings.{heads-most}
 use Rattle.model.proofs.Numbers.{overlay-front}
 use Rattle.ranking.specs.Ranking.{anyKind, Ranked}
@@ -23,7 +22,7 @@ pub numbered-kind : (s t : State) (κ : Kind) (n : ℕ)
     → Numbered (t .tables) κ n (t .job .numbered κ) (s .tables .numbers κ) (t .tables .numbers κ) (s .tables .firsts κ) (t .tables .firsts κ) (s .tables .listed κ) (t .tables .listed κ)
     → NumberedKind s t κ n
 numbered-kind s t κ n N = record {
-  total = N .many;
+  total = N .total-is;
   numbers = N .ranks;
   firsts = N .firsts-are;
   listed = N .listed-are;
@@ -82,7 +81,7 @@ module _ (t : Tables) (κ : Kind) (n total : ℕ) (keys numbers numbers′ first
       → width κ * n ≤ length listed → listed′ ≡ overlay spare 0 (λ i. getD (rowFinal t κ (headOf t κ n (suc (i / width κ)))) (i % width κ) 0) (width κ * total)
       → Numbered t κ n total numbers numbers′ firsts firsts′ listed listed′
   numbered-of firsts′ e listed spare listed′ same room f = record {
-    many = R .total;
+    total-is = R .total;
     ranks = R .ranks;
     firsts-are = closed-firsts-front t κ n total places places-front K (omega (arith, few, places-long)) firsts′ e;
     listed-are = closed-front t κ n total spare listed′ (omega (arith, times-low (width κ) few)) f;

@@ -12,7 +12,7 @@ use Rattle.ranking.specs.Ranking.{anyKind}
 
 -- The n components numbered 1 to `total`. What the closed tables hold behind the last one is free.
 pub record Numbered (t : Tables) (κ : Kind) (n total : ℕ) (numbers numbers′ firsts firsts′ listed listed′ : List ℕ) : Type 0 where
-  pub many : total ≡ length (heads t κ n)
+  pub total-is : total ≡ length (heads t κ n)
   pub ranks : numbers′ ≡ overlay numbers 0 (rank t κ n) n
   pub firsts-are : take total firsts′ ≡ tabulate total (λ i. firstAt t κ (headOf t κ n (suc i)))
   pub listed-are : take (width κ * total) listed′ ≡ tabulate (width κ * total) (λ i. getD (rowFinal t κ (headOf t κ n (suc (i / width κ)))) (i % width κ) 0)

@@ -3,7 +3,6 @@ use closings::copy_rows;
 use closings::curve_rows;
 use closings::write_firsts;
 use ranking::rank_kind;
-ghost use mathlib.Core.Path.{_≡_};
 ghost use Prim.Native.Nat.{_*_, _≤_};
 ghost use lib.ListN.{length};
 ghost use Rattle.joiner.specs.Job.{Curve};

@@ -246,7 +246,7 @@ pub fn point(
         (lent (now (ticks .exit)) (now (blocks .entry)) (now («curve_numbers» .entry)) (now («point_keys» .exit)) (now («point_rows» .exit)) (now («point_numbers» .exit))
         (now («point_firsts» .exit)) (now («point_listed» .exit)))) ⌝ }
 {
-    let sizes = Sizes {
+    let has = Sizes {
         ticks: ticks.len(),
         blocks: blocks.len(),
         curves: curve_numbers.len(),
@@ -256,43 +256,31 @@ pub fn point(
         firsts: point_firsts.len(),
         listed: point_listed.len(),
     };
-    let plan = judge(
-        job,
-        cx,
-        cy,
-        cz,
-        ticks,
-        sizes,
-        blocks,
-        curve_numbers,
-        block,
-        m,
-    );
+    let plan = judge(job, cx, cy, cz, ticks, has, blocks, curve_numbers, block, m);
     if plan.refusal != 0 {
         return Pointed {
             refusal: plan.refusal,
             job: job,
         };
     }
-    let next = accept(
-        job,
-        cx,
-        cy,
-        cz,
-        ticks,
-        blocks,
-        curve_numbers,
-        point_keys,
-        point_rows,
-        point_numbers,
-        point_firsts,
-        point_listed,
-        block,
-        m,
-        plan.points,
-    );
     Pointed {
         refusal: 0,
-        job: next,
+        job: accept(
+            job,
+            cx,
+            cy,
+            cz,
+            ticks,
+            blocks,
+            curve_numbers,
+            point_keys,
+            point_rows,
+            point_numbers,
+            point_firsts,
+            point_listed,
+            block,
+            m,
+            plan.points,
+        ),
     }
 }

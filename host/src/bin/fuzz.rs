@@ -153,8 +153,11 @@ impl Fuzz {
         let [ticks, blocks, fl, cl, fr, cr, pr, fnum, cnum, pnum, flist, clist, plist] = &mut w[..] else { unreachable!() };
         let [fk, ck, pk, ff, cf, pf] = &mut l[..] else { unreachable!() };
         let (b, c, m, n) = (s.block, s.other, &s.maps[0], &s.maps[1]);
-        let [x, y, z] = [0; 3].map(|_| self.small());
-        let (what, refusal) = match self.random.below(9) {
+        let [x, y, z] = [0; 3].map(|_| if self.random.once_in(4) { self.small() } else { self.random.below(5) as u32 });
+        // mostly a call of the stage that the job tells
+        let stage = s.job[0].min(5) as usize;
+        let call = if self.random.once_in(3) { self.random.below(9) } else { [1, 2, 3, 4, 5 + self.random.below(4), 0][stage] };
+        let (what, refusal) = match call {
             0 => ("open", raw::open(
                 &mut job, s.job[1], s.job[2], s.job[3], s.job[4], s.job[5], s.job[6], cx, cy, cz, ticks.part(), blocks.part(), fl.part(), cl.part(), fk.part(), ck.part(), pk.part(), fr.part(), cr.part(), pr.part(),
                 fnum.part(), cnum.part(), pnum.part(), ff.part(), cf.part(), pf.part(), flist.part(), clist.part(), plist.part(),

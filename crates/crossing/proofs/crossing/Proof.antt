@@ -1,6 +1,5 @@
 -- `crossing::crossing` meets its contract.
 use borrow.Author.Needs.{needs}
-use mathlib.Core.Path.{refl}
 use Rattle.crossing.proofs.DoneLaws.{cross-refused, ready, cross-accepted}
 use Rattle.crossing.proofs.crossing.Statement.{statement}
 use Rattle.crossing.proofs.crossing.Tie as tie

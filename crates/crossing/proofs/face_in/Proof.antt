@@ -1,7 +1,5 @@
 -- `crossing::face_in` meets its contract.
 use borrow.Author.Needs.{needs}
-use mathlib.Core.Path.{ap}
-use lib.Dec.{leb}
 use Rattle.crossing.proofs.face_in.Statement.{statement}
 use Rattle.crossing.proofs.face_in.Tie as tie
 
