@@ -1,0 +1,15 @@
+-- `jobs::Joining::row` meets its contract.
+use borrow.Author.Needs.{needs}
+use Rattle.tie.specs.Contracts.{read}
+use Rattle.tie.proofs.Service.{called-step}
+use Rattle.jobs.proofs.Joining.row.Statement.{statement}
+use Rattle.jobs.proofs.Joining.row.Tie as tie
+
+row-requires : tie.Need-row-requires
+row-requires c κs = search needs
+
+returns : tie.Need-returns
+returns c = called-step (read {j = c .before .before .before .before .before .before .before .before .before .before .before .before .before .before .before .before .before .before .before .before .before .before .before .before .args .self .job} (c .row .ensures))
+
+pub row-spec : {M : Type 1} → statement M
+row-spec = tie.close (tie.spec row-requires returns)

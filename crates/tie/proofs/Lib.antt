@@ -1,0 +1,2 @@
+-- Statement 3 for the entries.
+pub mod Service
