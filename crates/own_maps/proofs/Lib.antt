@@ -1,0 +1,2 @@
+-- The law of the crate.
+pub mod OwnMaps
