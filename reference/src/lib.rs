@@ -7,6 +7,7 @@ pub mod grid;
 pub mod label;
 pub mod listing;
 pub mod random;
+pub mod samples;
 #[cfg(test)]
 mod volumes;
 

@@ -1,0 +1,2 @@
+-- The definitions give what the second implementation lists.
+pub mod SampleLaws

@@ -1,0 +1,3 @@
+-- What the definitions answer for a volume; random volumes with the answers listed.
+pub mod Answers
+pub mod Samples
