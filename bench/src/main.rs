@@ -114,6 +114,10 @@ fn records(name: &str, map: &[u32]) {
 }
 
 fn main() {
+    let words: Vec<String> = std::env::args().skip(1).collect();
+    if let [k, stage] = &words[..] {
+        return volume::counted(k.parse().expect("a number"), stage.parse().expect("a number"));
+    }
     let cells = plain::cells([SIDE; 3]);
     println!("one block of 64x64x64, {} cells, medians of {} rounds, milliseconds", cells, ROUNDS);
     println!("{:<22} {:>8} {:>10} {:>8} {:>12} {:>8}", "labelling", "proved", "union-find", "ratio", "depth-first", "ratio");

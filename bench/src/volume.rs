@@ -119,8 +119,39 @@ pub fn growth() {
             "{:>6} {:>9} {:>20} {:>20} {:>20} {:>20} {:>20} {:>14.2} {:>12.2}",
             blocks.len(), seeds, pair(a.label, b.label), pair(a.enrol, b.enrol), pair(a.seam, b.seam), pair(a.crossing, b.crossing), pair(a.point, b.point), a.joining() / a.label, a.joining() / blocks.len() as f64
         );
+        let (n, seams) = (blocks.len() as f64, cutting.seams().len().max(1) as f64);
+        println!(
+            "       proved, milliseconds a step: label {:.3} enrol {:.3} seam {:.3} crossing {:.3} point {:.3}; plain: label {:.3} enrol {:.3} seam {:.3} crossing {:.3} point {:.3}",
+            a.label / n, a.enrol / n, a.seam / seams, a.crossing / n, a.point / n, b.label / n, b.enrol / n, b.seam / seams, b.crossing / n, b.point / n
+        );
         let t = job.tallies();
         let components = (t.faces + t.curves + t.points) as usize;
         println!("       {} components enrolled or found, {} bytes of tables, {:.1} bytes each", components, job.tables.bytes(), job.tables.bytes() as f64 / components as f64);
     }
+}
+
+/// Labels and joins k×k×k blocks of 8×8×8 voxels, all of the same content, as far as a stage: 0 labelling, 1 enrolment, 2 seams, 3 crossings,
+/// 4 points. To be run under a counter of instructions (bench/count), which no load of the machine disturbs. Tells how many steps the stage has.
+pub fn counted(k: u32, stage: u32) {
+    let side = 7 * k + 1;
+    let part = |c: u32| c % 7 / 4;
+    let codes: Vec<u32> = (0..side * side * side).map(|v| 1 + part(v % side) + 2 * part(v / side % side) + 4 * part(v / side / side)).collect();
+    let cutting = Cutting::even([side; 3], 8);
+    let blocks: Vec<(Block, Counts)> = (0..cutting.blocks()).map(|b| Block::label(cutting.block_extents(b), &block_codes(&cutting, &codes, b)).expect("a labelling")).collect();
+    let mut job = Job::open(cutting.clone(), entries_for(&blocks)).expect("an opening");
+    let map = |b: u32| &blocks[b as usize].0.map[..];
+    let (n, seams) = (blocks.len() as u32, cutting.seams());
+    if stage >= 1 {
+        (0..n).for_each(|b| job.enrol(b, map(b)).expect("an enrolment"));
+    }
+    if stage >= 2 {
+        seams.iter().for_each(|&(a, b)| job.seam((a, b), map(a), map(b)).expect("a seam"));
+    }
+    if stage >= 3 {
+        (0..n).for_each(|b| job.crossing(b, map(b)).expect("a crossing"));
+    }
+    if stage >= 4 {
+        (0..n).for_each(|b| job.point(b, map(b)).expect("a point step"));
+    }
+    println!("{}", if stage == 2 { seams.len() } else { blocks.len() });
 }

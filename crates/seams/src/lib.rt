@@ -137,7 +137,7 @@ fn join_row(
 }
 
 // "Numbers of one active face or curve cell seen from both blocks become the same component."
-// A face cell of the layer has one odd coordinate among column and row, a curve cell two.
+// A face cell of the layer has one odd coordinate among column and row, a curve cell two. Not an entry.
 pub fn join_layers(
     links: &mut [u32],
     m: &[u32],
