@@ -23,7 +23,7 @@ use Rattle.job.specs.declared.Job.{Job}
 use Rattle.job.specs.Jobs.{jobOf, toldOf}
 use Rattle.staging.specs.Staging.{tickedIn}
 use Rattle.steps.specs.declared.Entry.{Entry}
-use Rattle.steps.specs.Steps.{reachedOf, entryOf, mapStandsIn, Advanced}
+use Rattle.steps.specs.Steps.{reachedOf, entryOf, mapStandsIn, linksStandIn, Advanced}
 use Rattle.steps.proofs.StepLaws.{or-first, or-then, reached-passed}
 use Rattle.crossing.specs.declared.Sizes.{Sizes}
 use Rattle.crossing.specs.Inner.{traysFit, crossedBut, numberable, standIn, restOf, refusalOf, JoinReady, TalliesFit, CurvesJoined}
@@ -63,19 +63,19 @@ module _ (ticks : List ℕ) (b x r : ℕ) (e : r ≡ 6 * b + 4) where
 
 -- ---- the ways of `stand`
 
-module _ (e : Triple) (d : Entry) (faces curves : ℕ) (m : List ℕ) (all t u : Bool) (h : t ≡ u) where
-  pub stand-none : not t ≡ true → false ≡ standIn u e d faces curves m all
+module _ (e : Triple) (d : Entry) (faces curves : ℕ) (m fl cl : List ℕ) (t u : Bool) (h : t ≡ u) where
+  pub stand-none : not t ≡ true → false ≡ standIn u e d faces curves m fl cl
   unfolding standIn
   stand-none p = rw (sym h ∙ not-true t p)
 
   module _ (q : not t ≡ false) (v : Bool) (i : v ≡ mapStandsIn e d faces curves m) where
-    pub stand-one : not v ≡ true → false ≡ standIn u e d faces curves m all
+    pub stand-one : not v ≡ true → false ≡ standIn u e d faces curves m fl cl
     unfolding standIn
     stand-one p = rw (sym h ∙ not-false t q, sym i ∙ not-true v p)
 
-    pub stand-all : not v ≡ false → all ≡ standIn u e d faces curves m all
+    pub stand-all : not v ≡ false → (w : Bool) → w ≡ linksStandIn d fl cl → w ≡ standIn u e d faces curves m fl cl
     unfolding standIn
-    stand-all p = rw (sym h ∙ not-false t q, sym i ∙ not-false v p)
+    stand-all p w j = rw (sym h ∙ not-false t q, sym i ∙ not-false v p) j
 
 -- ---- what the tests tell of the block
 
@@ -83,9 +83,13 @@ module _ (k : Cutting) (b : ℕ) (r : Block) (T : Tells k b r) (count : ℕ) (ma
   pub trays-told : (faces curves : ℕ) (z : Sizes) (u : Bool) → u ≡ traysFit count (sizeOf r) faces curves z → u ≡ traysFit (blocks k) (blockExtents k b) faces curves z
   trays-told faces curves z u h = rw (← many, ← T .size) h
 
-  pub stand-told : (t : Bool) (table : List ℕ) (d : Entry) (ticks rows : List ℕ) (faces curves : ℕ) (m : List ℕ) (all u : Bool) → d ≡ entryOf table b → all ≡ numberable ticks b count rows faces curves
-      → u ≡ standIn t (sizeOf r) d faces curves m all → u ≡ standIn t (blockExtents k b) (entryOf table b) faces curves m (numberable ticks b (blocks k) rows faces curves)
-  stand-told t table d ticks rows faces curves m all u e f h = rw (← e, ← many, ← f, ← T .size) h
+  pub stand-told : (t : Bool) (table : List ℕ) (d : Entry) (faces curves : ℕ) (m fl cl : List ℕ) (u : Bool) → d ≡ entryOf table b
+      → u ≡ standIn t (sizeOf r) d faces curves m fl cl → u ≡ standIn t (blockExtents k b) (entryOf table b) faces curves m fl cl
+  stand-told t table d faces curves m fl cl u e h = rw (← e, ← T .size) h
+
+  pub rows-told : (ticks rows : List ℕ) (entries faces curves : ℕ) (fl cl : List ℕ) (u : Bool) → u ≡ numberable ticks b count rows entries faces curves fl cl
+      → u ≡ numberable ticks b (blocks k) rows entries faces curves fl cl
+  rows-told ticks rows entries faces curves fl cl u h = rw (← many) h
 
 pub map-length : (e : Triple) (count faces curves : ℕ) (z : Sizes) (u : Bool) → u ≡ traysFit count e faces curves z → not u ≡ false → (n : ℕ) → z .map ≡ n → n ≡ cells e
 unfolding traysFit
@@ -93,16 +97,16 @@ map-length e count faces curves z u h p n q = sym q ∙ eqb-true _ _ (and-left (
 
 -- ---- the ladder of refusals
 
-module _ (j : Job) (cx cy cz ticks : List ℕ) (z : Sizes) (table rows : List ℕ) (b : ℕ) (m : List ℕ) (step r : ℕ) (f : step ≡ 6 * b + 4)
+module _ (j : Job) (cx cy cz ticks : List ℕ) (z : Sizes) (table rows fl cl : List ℕ) (b : ℕ) (m : List ℕ) (step r : ℕ) (f : step ≡ 6 * b + 4)
     (e : r ≡ reachedOf (jobOf j cx cy cz) joiner.Crossing ticks b step) where
   abbrev Refuses : ℕ → Type 0
-  Refuses x = x ≡ refusalOf (jobOf j cx cy cz) ticks z table rows b m
+  Refuses x = x ≡ refusalOf (jobOf j cx cy cz) ticks z table rows fl cl b m
 
   pub cross-first : (r ≡ 0 → ⊥) → Refuses r
   unfolding refusalOf
   cross-first q = rw (← f, ← e) (or-first r _ q)
 
-  pub cross-rest : r ≡ 0 → (x : ℕ) → x ≡ restOf (jobOf j cx cy cz) ticks z table rows b m → Refuses x
+  pub cross-rest : r ≡ 0 → (x : ℕ) → x ≡ restOf (jobOf j cx cy cz) ticks z table rows fl cl b m → Refuses x
   unfolding refusalOf
   cross-rest q x h = rw (← f, ← e) (or-then r _ x q h)
 

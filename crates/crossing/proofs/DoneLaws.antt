@@ -18,7 +18,7 @@ use Rattle.joiner.specs.Job.{Kind, Face, Curve, Point, Stage, Points, Tables, S
 use Rattle.joiner.specs.Job as joiner
 use Rattle.joiner.specs.Stages.{crossingStep, finished, stepsOf}
 use Rattle.joiner.specs.Calls.{cross, answer, mapsFit}
-use Rattle.joiner.specs.Declines.{adds, lastCrossing, lentTo, mapStands, refusal, rowsStand, standsFor, talliesFit}
+use Rattle.joiner.specs.Declines.{adds, allLinksStand, lastCrossing, lentTo, mapStands, refusal, rowsStand, standsFor, talliesFit}
 use Rattle.joiner.specs.Entries.{CrossingDone, NumberedKind, Step, Merged, AtCrossing, Ticked, classOf, rowFinal}
 use Rattle.joiner.proofs.Accepted.{stage-same}
 use Rattle.model.proofs.Facts.{Facts, facts, fits-at, tally-fits, faces-stand, curves-stand}
@@ -29,11 +29,21 @@ use Rattle.job.specs.Jobs.{byKind, toldOf, jobOf, stateOf}
 use Rattle.job.specs.Jobs as job
 use Rattle.job.proofs.JobLaws.{fits-append}
 use Rattle.staging.specs.Staging.{tickedIn}
-use Rattle.steps.specs.Steps.{reachedOf, lateOf, entryOf}
-use Rattle.steps.proofs.StepLaws.{or-none, or-six, six-none, refusal-reached, late-none, few-of, stands-is, ticked-by, numbered-kept, step-refused, step-accepted}
+use Rattle.steps.specs.Steps.{reachedOf, lateOf, entryOf, linksStandIn, mapStandsIn}
+use Rattle.steps.proofs.StepLaws.{or-none, or-six, six-none, refusal-reached, late-none, few-of, stands-is, links-is, ticked-by, numbered-kept, step-refused, step-accepted}
 use Rattle.crossing.specs.declared.Totals.{Totals}
 use Rattle.crossing.proofs.CrossingLaws.{map-length}
-use Rattle.crossing.specs.Inner.{lent, sizesOf, kindFits, traysFit, crossedBut, lastIn, rowsIn, numberable, standIn, restOf, refusalOf, Ready, JoinReady, TalliesFit, CurvesJoined, KindRoom, BothNumbered}
+use Rattle.crossing.specs.Inner.{lent, sizesOf, kindFits, traysFit, crossedBut, lastIn, rowsIn, allReady, numberable, standIn, restOf, refusalOf, Ready, JoinReady, TalliesFit, CurvesJoined, KindRoom, BothNumbered}
+
+and-three : (a b c d : Bool) → (a && (b && (c && d))) ≡ ((a && (b && c)) && d)
+and-three true true c d = refl
+and-three true false c d = refl
+and-three false b c d = refl
+
+-- one refusal decided in two steps
+in-two : (a b : Bool) → _≡_ {A = ℕ} (cond (not (a && b)) 8 0) (cond (not a) 8 (cond (not b) 8 0))
+in-two true b = refl
+in-two false b = refl
 
 all-map : (f : ℕ → Bool) (g : ℕ → ℕ) (l : List ℕ) → allOf f (map g l) ≡ allOf (λ x. f (g x)) l
 all-map f g [] = refl
@@ -69,15 +79,23 @@ module _ (s : State) (b : ℕ) (m : List ℕ) where
   unfolding lastCrossing finished stepsOf crossingStep ticked tickedIn lastIn crossedBut
   last-is = all-map (λ i. eqb (6 * b + 4) i || ticked (s .tables) i) (λ x. 6 * x + 4) (consecutive 0 (blocks k))
 
-  all-is : cond (lastCrossing s b) (rowsStand s) true ≡ numberable (s .tables .ticks) b (blocks k) (s .tables .rows Curve) (s .job .sofar Face) (s .job .sofar Curve)
-  unfolding numberable rowsStand rowsIn
+  all-is : cond (lastCrossing s b) (rowsStand s && allLinksStand s) true ≡ numberable (s .tables .ticks) b (blocks k) (s .tables .rows Curve) (s .job .told .entries Face) (s .job .sofar Face) (s .job .sofar Curve) (s .tables .links Face) (s .tables .links Curve)
+  unfolding numberable allReady rowsStand rowsIn allLinksStand
   all-is = rw last-is
 
-  stand-is : (talliesFit (s .job) && standsFor s (cross b m))
-      ≡ standIn (talliesFit (s .job)) (blockExtents k b) (entryOf (s .tables .blocks) b) (s .job .sofar Face) (s .job .sofar Curve) m
-      (numberable (s .tables .ticks) b (blocks k) (s .tables .rows Curve) (s .job .sofar Face) (s .job .sofar Curve))
+  abbrev first-part : Bool
+  first-part =
+      standIn (talliesFit (s .job)) (blockExtents k b) (entryOf (s .tables .blocks) b) (s .job .told .entries Face) (s .job .told .entries Curve) m (s .tables .links Face) (s .tables .links Curve)
+
+  abbrev last-part : Bool
+  last-part =
+      numberable (s .tables .ticks) b (blocks k) (s .tables .rows Curve) (s .job .told .entries Face) (s .job .sofar Face) (s .job .sofar Curve) (s .tables .links Face) (s .tables .links Curve)
+
+  stand-is : (talliesFit (s .job) && standsFor s (cross b m)) ≡ (first-part && last-part)
   unfolding standIn
-  stand-is = rw (stands-is s (blockExtents k b) b m, all-is)
+  stand-is = rw (stands-is s (blockExtents k b) b m, links-is s b, all-is)
+      (and-three (talliesFit (s .job)) (mapStandsIn (blockExtents k b) (entryOf (s .tables .blocks) b) (s .job .told .entries Face) (s .job .told .entries Curve) m)
+      (linksStandIn (entryOf (s .tables .blocks) b) (s .tables .links Face) (s .tables .links Curve)) last-part)
 
   none : (κ : Kind) → adds s (cross b m) κ ≡ 0
   unfolding adds
@@ -89,9 +107,9 @@ module _ (s : State) (b : ℕ) (m : List ℕ) where
   adds-none Curve = refl
   adds-none Point = refl
 
-  pub refusal-is : refusal s (cross b m) ≡ refusalOf (s .job) (s .tables .ticks) (sizesOf (s .tables) (length m)) (s .tables .blocks) (s .tables .rows Curve) b m
+  pub refusal-is : refusal s (cross b m) ≡ refusalOf (s .job) (s .tables .ticks) (sizesOf (s .tables) (length m)) (s .tables .blocks) (s .tables .rows Curve) (s .tables .links Face) (s .tables .links Curve) b m
   unfolding refusalOf restOf lateOf ticked tickedIn crossingStep
-  refusal-is = refusal-reached s (cross b m) refl b (6 * b + 4) refl refl ∙ rw (← trays-is, ← stand-is, ← late-none s (cross b m) none false)
+  refusal-is = refusal-reached s (cross b m) refl b (6 * b + 4) refl refl ∙ rw (← in-two first-part last-part, ← trays-is, ← stand-is, ← late-none s (cross b m) none false)
 
   -- ---- what an accepted step has passed
 
@@ -156,7 +174,7 @@ module _ (s : State) (b : ℕ) (m : List ℕ) where
 
   -- ---- the entry
 
-  module _ (number′ : ℕ) (e : number′ ≡ refusalOf (s .job) (s .tables .ticks) (sizesOf (s .tables) (length m)) (s .tables .blocks) (s .tables .rows Curve) b m) where
+  module _ (number′ : ℕ) (e : number′ ≡ refusalOf (s .job) (s .tables .ticks) (sizesOf (s .tables) (length m)) (s .tables .blocks) (s .tables .rows Curve) (s .tables .links Face) (s .tables .links Curve) b m) where
     told-number : number′ ≡ refusal s (cross b m)
     told-number = e ∙ sym refusal-is
 

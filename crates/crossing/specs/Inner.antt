@@ -8,7 +8,7 @@ use lib.Dec.{eqb, leb}
 use lib.ListN.{getD, length}
 use Rattle.lists.specs.Lists.{consecutive, allOf}
 use Rattle.closure.specs.Joined.{Edge}
-use Rattle.union_find.specs.Links.{root}
+use Rattle.union_find.specs.Links.{root, soundBelow}
 use Rattle.cells.specs.Box.{Triple}
 use Rattle.cells.specs.Grid.{cells}
 use Rattle.cutting.specs.Cutting.{Cutting, intervals, blocks, blockExtents}
@@ -21,7 +21,7 @@ use Rattle.job.specs.declared.Job.{Job}
 use Rattle.job.specs.Jobs.{tablesOf, toldOf, blockLengths, linkLengths, kindLengths}
 use Rattle.staging.specs.Staging.{tickedIn}
 use Rattle.steps.specs.declared.Entry.{Entry}
-use Rattle.steps.specs.Steps.{orElse, reachedOf, entryOf, mapStandsIn, Advanced}
+use Rattle.steps.specs.Steps.{orElse, reachedOf, entryOf, mapStandsIn, linksStandIn, Advanced}
 use Rattle.crossing.specs.declared.KindSizes.{KindSizes}
 use Rattle.crossing.specs.declared.Sizes.{Sizes}
 use Rattle.crossing.specs.declared.Totals.{Totals}
@@ -69,34 +69,39 @@ crossedBut ticks b x = eqb (6 * b + 4) (6 * x + 4) || tickedIn ticks (6 * x + 4)
 unfoldable pub lastIn : List ℕ → ℕ → ℕ → Bool
 lastIn ticks b count = allOf (crossedBut ticks b) (consecutive 0 count)
 
--- The first n entries of the rows are enrolled faces: the joiner's `rowsStand`.
+-- The first n entries of the rows are places of a table of so many faces, + 1: the joiner's `rowsStand`.
 unfoldable pub rowsIn : List ℕ → ℕ → ℕ → Bool
 rowsIn rows faces n = allOf (λ i. leb (getD rows i 0) faces) (consecutive 0 n)
 
--- .. asked at the last crossing only.
-unfoldable pub numberable : List ℕ → ℕ → ℕ → List ℕ → ℕ → ℕ → Bool
-numberable ticks b count rows faces curves = cond (lastIn ticks b count) (rowsIn rows faces (4 * curves)) true
+-- .. and no link of an enrolled face or curve is longer than its place: the joiner's `allLinksStand`.
+unfoldable pub allReady : List ℕ → ℕ → ℕ → ℕ → List ℕ → List ℕ → Bool
+allReady rows entries faces curves fl cl = rowsIn rows entries (4 * curves) && (soundBelow fl faces && soundBelow cl curves)
 
--- 8 denies it: the tallies fit, the map keeps to its block's entry, and all can be numbered.
-unfoldable pub standIn : Bool → Triple → Entry → ℕ → ℕ → List ℕ → Bool → Bool
-standIn tallies e d faces curves m all = tallies && (mapStandsIn e d faces curves m && all)
+-- .. asked at the last crossing only.
+unfoldable pub numberable : List ℕ → ℕ → ℕ → List ℕ → ℕ → ℕ → ℕ → List ℕ → List ℕ → Bool
+numberable ticks b count rows entries faces curves fl cl = cond (lastIn ticks b count) (allReady rows entries faces curves fl cl) true
+
+-- 8 denies it: the tallies fit, the map keeps to its block's entry, and the block's links may be followed.
+unfoldable pub standIn : Bool → Triple → Entry → ℕ → ℕ → List ℕ → List ℕ → List ℕ → Bool
+standIn tallies e d faces curves m fl cl = tallies && (mapStandsIn e d faces curves m && linksStandIn d fl cl)
 
 -- The refusal of a call that brings a block: 6, 8 or none. 9 and 10 cannot stand.
-unfoldable pub restOf : joiner.Job → List ℕ → Sizes → List ℕ → List ℕ → ℕ → List ℕ → ℕ
-restOf j ticks z table rows b m =
+unfoldable pub restOf : joiner.Job → List ℕ → Sizes → List ℕ → List ℕ → List ℕ → List ℕ → ℕ → List ℕ → ℕ
+restOf j ticks z table rows fl cl b m =
     let k : Cutting = j .told .cutting in
     cond (not (traysFit (blocks k) (blockExtents k b) (j .told .entries Face) (j .told .entries Curve) z)) 6
-    (cond (not (standIn (talliesFit j) (blockExtents k b) (entryOf table b) (j .sofar Face) (j .sofar Curve) m (numberable ticks b (blocks k) rows (j .sofar Face) (j .sofar Curve)))) 8 0)
+    (cond (not (standIn (talliesFit j) (blockExtents k b) (entryOf table b) (j .told .entries Face) (j .told .entries Curve) m fl cl)) 8
+    (cond (not (numberable ticks b (blocks k) rows (j .told .entries Face) (j .sofar Face) (j .sofar Curve) fl cl)) 8 0))
 
 -- The refusal, 0 for none: the joiner's `refusal`.
-unfoldable pub refusalOf : joiner.Job → List ℕ → Sizes → List ℕ → List ℕ → ℕ → List ℕ → ℕ
-refusalOf j ticks z table rows b m = orElse (reachedOf j joiner.Crossing ticks b (6 * b + 4)) (restOf j ticks z table rows b m)
+unfoldable pub refusalOf : joiner.Job → List ℕ → Sizes → List ℕ → List ℕ → List ℕ → List ℕ → ℕ → List ℕ → ℕ
+refusalOf j ticks z table rows fl cl b m = orElse (reachedOf j joiner.Crossing ticks b (6 * b + 4)) (restOf j ticks z table rows fl cl b m)
 
 -- ---- what is stored
 
 -- The step is not refused.
 pub record Ready (s : State) (b : ℕ) (m : List ℕ) : Type 0 where
-  pub none : refusalOf (s .job) (s .tables .ticks) (sizesOf (s .tables) (length m)) (s .tables .blocks) (s .tables .rows Curve) b m ≡ 0
+  pub none : refusalOf (s .job) (s .tables .ticks) (sizesOf (s .tables) (length m)) (s .tables .blocks) (s .tables .rows Curve) (s .tables .links Face) (s .tables .links Curve) b m ≡ 0
 
 -- The edges that the crossing of block b joins.
 abbrev pub edgesOf : Cutting → List ℕ → List ℕ → ℕ → List ℕ → List Edge

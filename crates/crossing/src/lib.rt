@@ -19,9 +19,11 @@ use steps::Entry;
 use steps::advance;
 use steps::at;
 use steps::entry_of;
+use steps::links_stand;
 use steps::map_fits;
 use steps::map_stands;
 use steps::reached;
+use union_find::all_sound;
 ghost use mathlib.Core.Path.{_≡_};
 ghost use mathlib.Core.Bool.{true};
 ghost use mathlib.Core.List.{[]};
@@ -36,7 +38,7 @@ ghost use Rattle.joiner.specs.Declines.{talliesFit};
 ghost use Rattle.joiner.specs.Entries.{Step, CrossingDone};
 ghost use Rattle.blocks.specs.Blocks.{cutOf, sizeOf};
 ghost use Rattle.job.specs.Jobs.{anyCuts, jobOf, stateOf};
-ghost use Rattle.crossing.specs.Inner.{lent, kindFits, traysFit, crossedBut, lastIn, rowsIn, numberable, standIn, restOf, refusalOf, Ready, JoinReady, TalliesFit, CurvesJoined, KindRoom, BothNumbered};
+ghost use Rattle.crossing.specs.Inner.{lent, kindFits, traysFit, crossedBut, lastIn, rowsIn, allReady, numberable, standIn, restOf, refusalOf, Ready, JoinReady, TalliesFit, CurvesJoined, KindRoom, BothNumbered};
 
 // What a crossing step answers: the number of its refusal, 0 for none, and the job.
 pub struct Crossed {
@@ -144,14 +146,14 @@ fn last_crossing(ticks: &[u32], b: u32, blocks: usize) -> bool
     true
 }
 
-// Whether entry i of the rows is an enrolled face.
+// Whether entry i of the rows is a place of a table of so many faces, + 1.
 fn face_in(rows: &[u32], i: usize, faces: u32) -> bool
     ensures { λ r. ⌜ r ≡ leb (getD (now (rows .entry)) i 0) faces ⌝ }
 {
     at(rows, i) <= faces
 }
 
-// Whether the first n entries of the rows are enrolled faces.
+// Whether the first n entries of the rows are such places.
 fn rows_stand(rows: &[u32], faces: u32, n: usize) -> bool
     ensures { λ r. ⌜ r ≡ rowsIn (now (rows .entry)) faces n ⌝ }
 {
@@ -163,32 +165,74 @@ fn rows_stand(rows: &[u32], faces: u32, n: usize) -> bool
     true
 }
 
-// Whether all can be numbered, asked at the last crossing only.
-fn rows_ready(ticks: &[u32], b: u32, blocks: usize, rows: &[u32], faces: u32, curves: u32) -> bool
+// Whether all can be numbered: the rows of curves name places of the face table, and no link is longer than its place.
+fn all_ready(
+    rows: &[u32],
+    entries: u32,
+    faces: u32,
+    curves: u32,
+    face_links: &[u32],
+    curve_links: &[u32],
+) -> bool
+    ensures { λ r. ⌜ r ≡ allReady (now (rows .entry)) entries faces curves (now («face_links» .entry)) (now («curve_links» .entry)) ⌝ }
+{
+    if !rows_stand(rows, entries, 4 * curves as usize) {
+        return false;
+    }
+    if !all_sound(face_links, faces as usize) {
+        return false;
+    }
+    all_sound(curve_links, curves as usize)
+}
+
+// .. asked at the last crossing only.
+fn rows_ready(
+    job: Job,
+    ticks: &[u32],
+    b: u32,
+    blocks: usize,
+    rows: &[u32],
+    face_links: &[u32],
+    curve_links: &[u32],
+) -> bool
     requires { ⌜ blocks ≤ 16384 ⌝ }
-    ensures { λ r. ⌜ r ≡ numberable (now (ticks .entry)) b blocks (now (rows .entry)) faces curves ⌝ }
+    ensures { λ r. ⌜ r ≡ numberable (now (ticks .entry)) b blocks (now (rows .entry)) (job .«face_entries») (job .faces) (job .curves) (now («face_links» .entry)) (now («curve_links» .entry)) ⌝ }
 {
     if last_crossing(ticks, b, blocks) {
-        return rows_stand(rows, faces, 4 * curves as usize);
+        return all_ready(
+            rows,
+            job.face_entries,
+            job.faces,
+            job.curves,
+            face_links,
+            curve_links,
+        );
     }
     true
 }
 
-// Whether the tallies fit, the map keeps to its block's entry, and all can be numbered.
-fn stand(job: Job, block: Block, entry: Entry, m: &[u32], all: bool) -> bool
+// Whether the tallies fit, the map keeps to its block's entry, and the block's links may be followed.
+fn stand(
+    job: Job,
+    block: Block,
+    entry: Entry,
+    m: &[u32],
+    face_links: &[u32],
+    curve_links: &[u32],
+) -> bool
     requires { ⌜ Sized 64 (sizeOf block) × (length (now m) ≡ cells (sizeOf block)) ⌝ }
-    ensures { λ r. ⌜ anyCuts (λ cx cy cz. r ≡ standIn (talliesFit (jobOf job cx cy cz)) (sizeOf block) entry (job .faces) (job .curves) (now (m .entry)) all) ⌝ }
+    ensures { λ r. ⌜ anyCuts (λ cx cy cz. r ≡ standIn (talliesFit (jobOf job cx cy cz)) (sizeOf block) entry (job .«face_entries») (job .«curve_entries») (now (m .entry)) (now («face_links» .entry)) (now («curve_links» .entry))) ⌝ }
 {
     if !tallies_fit(job) {
         return false;
     }
-    if !map_stands(m, block, entry, job.faces, job.curves) {
+    if !map_stands(m, block, entry, job.face_entries, job.curve_entries) {
         return false;
     }
-    all
+    links_stand(face_links, curve_links, entry)
 }
 
-// The refusal of a call that brings a block. Layers cannot differ, and no table gets full.
+// The refusal of a call that brings a block. Layers cannot differ, and no table gets full. What grows with the tallies comes after their test.
 fn rest(
     job: Job,
     cx: &[u32],
@@ -198,20 +242,24 @@ fn rest(
     sizes: Sizes,
     table: &[u32],
     rows: &[u32],
+    face_links: &[u32],
+    curve_links: &[u32],
     b: u32,
     m: &[u32],
 ) -> u32
     requires { ⌜ (goodCut (cutOf (job .nx) (job .ny) (job .nz) (now cx) (now cy) (now cz)) ≡ true)
         × (b < blocks (cutOf (job .nx) (job .ny) (job .nz) (now cx) (now cy) (now cz))) × (sizes .map ≡ length (now m)) ⌝ }
-    ensures { λ r. ⌜ r ≡ restOf (jobOf job (now (cx .entry)) (now (cy .entry)) (now (cz .entry))) (now (ticks .entry)) sizes (now (table .entry)) (now (rows .entry)) b (now (m .entry)) ⌝ }
+    ensures { λ r. ⌜ r ≡ restOf (jobOf job (now (cx .entry)) (now (cy .entry)) (now (cz .entry))) (now (ticks .entry)) sizes (now (table .entry)) (now (rows .entry)) (now («face_links» .entry)) (now («curve_links» .entry)) b (now (m .entry)) ⌝ }
 {
     let block = block_at(cx, cy, cz, b as usize);
     let count = block_count(cx, cy, cz);
     if !trays_fit(count, block, job, sizes) {
         return WRONG_TRAY;
     }
-    let all = rows_ready(ticks, b, count, rows, job.faces, job.curves);
-    if !stand(job, block, entry_of(table, b), m, all) {
+    if !stand(job, block, entry_of(table, b), m, face_links, curve_links) {
+        return STRAY_LABEL;
+    }
+    if !rows_ready(job, ticks, b, count, rows, face_links, curve_links) {
         return STRAY_LABEL;
     }
     0
@@ -227,17 +275,32 @@ fn refusal(
     sizes: Sizes,
     table: &[u32],
     rows: &[u32],
+    face_links: &[u32],
+    curve_links: &[u32],
     b: u32,
     m: &[u32],
 ) -> u32
     requires { ⌜ sizes .map ≡ length (now m) ⌝ }
-    ensures { λ r. ⌜ r ≡ refusalOf (jobOf job (now (cx .entry)) (now (cy .entry)) (now (cz .entry))) (now (ticks .entry)) sizes (now (table .entry)) (now (rows .entry)) b (now (m .entry)) ⌝ }
+    ensures { λ r. ⌜ r ≡ refusalOf (jobOf job (now (cx .entry)) (now (cy .entry)) (now (cz .entry))) (now (ticks .entry)) sizes (now (table .entry)) (now (rows .entry)) (now («face_links» .entry)) (now («curve_links» .entry)) b (now (m .entry)) ⌝ }
 {
     let number = reached(job, cx, cy, cz, ticks, Stage::Crossing, b, step_of(b));
     if number != 0 {
         return number;
     }
-    rest(job, cx, cy, cz, ticks, sizes, table, rows, b, m)
+    rest(
+        job,
+        cx,
+        cy,
+        cz,
+        ticks,
+        sizes,
+        table,
+        rows,
+        face_links,
+        curve_links,
+        b,
+        m,
+    )
 }
 
 // ---- what is stored
@@ -443,7 +506,20 @@ pub fn crossing(
         },
         map: m.len(),
     };
-    let number = refusal(job, cx, cy, cz, ticks, sizes, blocks, curve_rows, block, m);
+    let number = refusal(
+        job,
+        cx,
+        cy,
+        cz,
+        ticks,
+        sizes,
+        blocks,
+        curve_rows,
+        face_links,
+        curve_links,
+        block,
+        m,
+    );
     if number != 0 {
         return Crossed {
             refusal: number,

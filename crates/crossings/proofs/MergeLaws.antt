@@ -148,4 +148,4 @@ pub crossing-merged : (k : Cutting) (t : Tables) (b : ℕ) (m : List ℕ) (e : T
     → fromOf t Face b ≡ start → fromOf t Curve b ≡ from → Rooted links links′ (joins (root links) (crossEdges e m 1 (root above) start from)) → Merged links links′ (AtCrossing k t b m)
 crossing-merged k t b m e above start from links links′ p q r s R =
     let J : Rooted links links′ (joins (root links) (curves k t b m)) = rw (p, q, r, s) R in
-    joins-merged-by links links′ (curves k t b m) (AtCrossing k t b m) (J .size) (J .roots) (curves-joined k t b m (root links)) (λ d i. joined (curve-edge k t b m d i))
+    joins-merged-by links links′ (curves k t b m) (AtCrossing k t b m) J (curves-joined k t b m (root links)) (λ d i. joined (curve-edge k t b m d i))

@@ -6,11 +6,11 @@ use mathlib.Core.Path.{_≡_, _∙_, ap, refl, sym}
 use Prim.Native.Nat.{ℕ, _+_}
 use lib.Dec.{eqb}
 use lib.ListN.{getD, set}
-use Rattle.refusals.specs.Refusals.{first, lowest, table}
+use Rattle.refusals.specs.Refusals.{first, givenBy, number, standsIn, table}
 use Rattle.joiner.specs.Job.{Kind, Face, Curve, Point, Job, Tables, State, ticked, countOf, fromOf, node, firstAt, fits, blockTrays, linkTrays, foundTrays, numberTrays, firstTrays, listedTrays, kindTrays}
 use Rattle.joiner.specs.Stages.{nextAfter}
 use Rattle.joiner.specs.Calls.{Call, enrol, join, cross, point, look, reading, Answer, answer, full, overfull}
-use Rattle.joiner.specs.Declines.{refusal, declines, stray, mapStands, counted, standing, rowsStand, lastCrossing, adds, finalOf, finalRow, pointCells}
+use Rattle.joiner.specs.Declines.{refusal, declines, stray, mapStands, waysStand, linksStand, allLinksStand, numberStands, curvesStand, handedStands, lookStands, counted, standing, rowsStand, lastCrossing, adds, finalOf, finalRow, pointCells}
 use Rattle.joiner.specs.Entries.{Step, Done, Ticked, EnrolDone, SeamDone, CrossingDone, PointDone, KeptFound, NumberedKind, Merged, AtSeam, AtCrossing, blockEntry, through, joinedRow, notAfter, classOf, isOne, leads, heads, rank, headOf, rowAt, finalFace, rowFinal, cellNumber, lookedUp, rowTaken}
 use Rattle.joiner.proofs.Roots.{together-map}
 use Rattle.frames.specs.Frames.{around}
@@ -19,7 +19,7 @@ use Rattle.frames.specs.Frames.{around}
 
 module _ (e o : Tables) (s : State) where
   pub refusal-same : (c : Call) → refusal (around c e s) c ≡ refusal (around c o s) c
-  unfolding refusal lowest first table declines stray mapStands counted standing countOf fromOf ticked fits blockTrays linkTrays foundTrays numberTrays firstTrays listedTrays kindTrays full overfull adds pointCells finalRow finalOf node rowsStand lastCrossing
+  unfolding refusal givenBy first table number standsIn declines stray mapStands waysStand linksStand allLinksStand numberStands curvesStand handedStands lookStands counted standing countOf fromOf ticked fits blockTrays linkTrays foundTrays numberTrays firstTrays listedTrays kindTrays full overfull adds pointCells finalRow finalOf node rowsStand lastCrossing
   refusal-same (enrol b m) = refl
   refusal-same (join b c m n) = refl
   refusal-same (cross b m) = refl
@@ -79,6 +79,7 @@ merged-same : (before after : List ℕ) (R S : ℕ → ℕ → Type 0) → ((x y
 merged-same before after R S f g M = record {
   size = M .size;
   one = λ x y. ((λ p. together-map f (M .one x y .0 p)), (λ l. M .one x y .1 (together-map g l)));
+  sound = M .sound;
 }
 
 -- ---- what a step does

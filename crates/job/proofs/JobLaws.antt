@@ -56,10 +56,10 @@ places-high w n h k = mul-le-mul {n₂ = 255} {m₂ = 4294967295} (omega arith) 
 -- ---- tallies
 
 module _ (entries tally more : ℕ) where
-  pub tally-within : tally ≤ entries → leb more tally ≡ (leb tally entries && leb more tally)
+  pub tally-within : tally ≤ entries → leb more entries ≡ (leb tally entries && leb more entries)
   tally-within h = rw (le-leb tally entries h)
 
-  pub tally-beyond : entries < tally → false ≡ (leb tally entries && leb more tally)
+  pub tally-beyond : entries < tally → false ≡ (leb tally entries && leb more entries)
   tally-beyond h = rw (lt-leb tally entries h)
 
 -- ---- the job of a refused opening

@@ -55,12 +55,12 @@ pub fn same_stage(a: Stage, b: Stage) -> bool
     stage_number(a) == stage_number(b)
 }
 
-// Whether a tally is at most its table's entries, and no more is numbered than enrolled or found.
+// Whether both tallies of a kind, what is enrolled or found and what is numbered, are at most its table's entries.
 fn tally_fits(entries: u32, sofar: u32, numbered: u32) -> bool
-    ensures { λ r. ⌜ r ≡ (leb sofar entries && leb numbered sofar) ⌝ }
+    ensures { λ r. ⌜ r ≡ (leb sofar entries && leb numbered entries) ⌝ }
 {
     if sofar <= entries {
-        return numbered <= sofar;
+        return numbered <= entries;
     }
     false
 }

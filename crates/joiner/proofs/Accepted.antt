@@ -10,7 +10,7 @@ use lib.ListN.{getD, length, set}
 use lib.Seq.{getD-set-other, getD-set-same}
 use borrow.Author.Tests.{eqb-false, eqb-true, ltb-false, not-false}
 use Rattle.lists.specs.Lists.{isIn}
-use Rattle.refusals.specs.Refusals.{Refusal, done-already, layers-differ, no-such-place, table-full, wrong-stage}
+use Rattle.refusals.specs.Refusals.{Refusal, done-already, layers-differ, no-such-place, number, standsIn, table-full, wrong-stage}
 use Rattle.labels.specs.Number.{numbered}
 use Rattle.cutting.specs.Cutting.{Cutting, blocks}
 use Rattle.joiner.specs.Book.{Book, bookAdds}
@@ -21,7 +21,7 @@ use Rattle.joiner.specs.Job.{Closed, Crossing, Curve, Enrol, Face, Kind,
 use Rattle.joiner.specs.Stages.{finished, nextAfter, nextStage, stepsOf}
 use Rattle.lists.proofs.Cases.{by-test, neither}
 use Rattle.lists.proofs.Tests.{all-same}
-use Rattle.refusals.proofs.RefusalLaws.{lowest-none}
+use Rattle.refusals.proofs.RefusalLaws.{given-none}
 use Rattle.cells.proofs.GridLaws.{inside}
 use Rattle.joiner.proofs.Inv.{Inv}
 use Rattle.joiner.proofs.Progress.{Progress, progress-more}
@@ -52,9 +52,9 @@ pub record Passed (s : State) (c : Call) : Type 0 where
   pub room : full (s .job .told .entries) (s .job .sofar) (adds s c) ≡ false
 
 pub passed : (s : State) (c : Call) → refusal s c ≡ 0 → Passed s c
-unfolding refusal declines sameStage
+unfolding refusal declines standsIn number sameStage
 passed s c e =
-    let n : (r : Refusal) → declines s c r ≡ false = lowest-none (declines s c) .0 e in
+    let n : (r : Refusal) → standsIn (declines s c) r ≡ false = given-none (standsIn (declines s c)) .0 e in
     record {
       stage = stage-same (s .job .stage) (stageOf c) (eqb-true _ _ (not-false _ (n wrong-stage)));
       placed-in = not-false _ (n no-such-place);

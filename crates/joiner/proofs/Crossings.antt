@@ -13,7 +13,7 @@ use Rattle.lists.specs.Lists.{consecutive}
 use Rattle.closure.specs.Joined.{Edge, edge}
 use Rattle.cells.specs.Grid.{up}
 use Rattle.cells.specs.Row.{rowOf}
-use Rattle.union_find.specs.Links.{root}
+use Rattle.union_find.specs.Links.{root, soundAt}
 use Rattle.labels.specs.Number.{numbered}
 use Rattle.cutting.specs.Cutting.{blockExtents, blocks, goodCut}
 use Rattle.joiner.specs.Book.{Book, bookAdds, bookAfter, entered}
@@ -72,14 +72,15 @@ module _ (o : Told) (own : ℕ → List ℕ) (good : goodCut (o .cutting) ≡ tr
         record { b = e .b; c = e .c; joint = e .joint; ticked-in = seam-done (edge (e .b) (e .c)) (e .ticked-in); at = move-seam (t .tables) (s .tables) (same-node o own good B s I every t c st L κ) (e .at) }
 
     -- faces do not move
-    faces-kept : ((x : ℕ) → root (t .tables .links Face) x ≡ root (s .tables .links Face) x) → Connected (t .tables .links Face) (t .job .sofar Face) (EdgeDone o own (after o own good B s I every t c st L) t Face)
-    faces-kept R =
+    faces-kept : ((x : ℕ) → root (t .tables .links Face) x ≡ root (s .tables .links Face) x) → ((x : ℕ) → soundAt (s .tables .links Face) x ≡ true → soundAt (t .tables .links Face) x ≡ true) → Connected (t .tables .links Face) (t .job .sofar Face) (EdgeDone o own (after o own good B s I every t c st L) t Face)
+    faces-kept R S =
         subst (λ (n : ℕ). Connected (t .tables .links Face) n (SeamEdge o own (after o own good B s I every t c st L) t Face)) (sym (same-sofar o own good B s I every t c st L Face (L .no-faces)))
         (record {
           one = λ x y hx hy. (
             (λ e. together-map (seam-there o own good B s I every t c st L Face) (I .faces .linked .one x y hx hy .0 (sym (R x) ∙ e ∙ R y))),
             (λ l. R x ∙ I .faces .linked .one x y hx hy .1 (together-map (seam-here Face) l) ∙ sym (R y)),
           );
+          sound = λ x h. S x (I .faces .linked .sound x h);
         })
 
     -- so rows over the joined faces stay
@@ -210,7 +211,7 @@ module _ (o : Told) (own : ℕ → List ℕ) (good : goodCut (o .cutting) ≡ tr
     pub cross-keeps : Inv o own (bookAfter B (cross b (own b))) t
     unfolding bookAfter
     cross-keeps =
-        inv-later o own good B s I every t c₁ st₁ L₁ (λ κ. omega (arith, lengths κ (numbers₁ κ) .most, same-sofar o own good B s I every t c₁ st₁ L₁ κ (none₁ κ))) (faces-kept t c₁ st₁ L₁ late₁ (D .faces .roots)) curves₁
+        inv-later o own good B s I every t c₁ st₁ L₁ (λ κ. omega (arith, lengths κ (numbers₁ κ) .most, same-sofar o own good B s I every t c₁ st₁ L₁ κ (none₁ κ))) (faces-kept t c₁ st₁ L₁ late₁ (D .faces .roots) (D .faces .sound)) curves₁
         (λ d e w m. I .layers d e w (seam-done t c₁ st₁ L₁ late₁ (edge d e) m))
 
   -- ---- a point step
@@ -286,7 +287,7 @@ module _ (o : Told) (own : ℕ → List ℕ) (good : goodCut (o .cutting) ≡ tr
     curves₂ =
         subst (λ (n : ℕ). Connected (t .tables .links Curve) n (EdgeDone o own B₂ t Curve)) (sym (pub-sofar Curve (none₂ .1)))
         (subst (λ (l : List ℕ). Connected l (s .job .sofar Curve) (EdgeDone o own B₂ t Curve)) (sym (D .curve-links))
-        (record { one = λ x y hx hy. ((λ q. together-map there (I .curves .linked .one x y hx hy .0 q)), (λ q. I .curves .linked .one x y hx hy .1 (together-map back-again q))) }))
+        (record { one = λ x y hx hy. ((λ q. together-map there (I .curves .linked .one x y hx hy .0 q)), (λ q. I .curves .linked .one x y hx hy .1 (together-map back-again q))); sound = I .curves .linked .sound }))
       where
         pub-sofar : (κ : Kind) → adds s c₂ κ ≡ 0 → t .job .sofar κ ≡ s .job .sofar κ
         pub-sofar = same-sofar o own good B s I every t c₂ st₂ L₂
@@ -313,4 +314,4 @@ module _ (o : Told) (own : ℕ → List ℕ) (good : goodCut (o .cutting) ≡ tr
 
     pub point-keeps : Inv o own (bookAfter B (point b (own b))) t
     unfolding bookAfter
-    point-keeps = inv-later o own good B s I every t c₂ st₂ L₂ numbered₂ (faces-kept t c₂ st₂ L₂ late₂ roots₂) curves₂ (λ d e w m. I .layers d e w (seam-done t c₂ st₂ L₂ late₂ (edge d e) m))
+    point-keeps = inv-later o own good B s I every t c₂ st₂ L₂ numbered₂ (faces-kept t c₂ st₂ L₂ late₂ roots₂ (λ x e. ap (λ (l : List ℕ). soundAt l x) (D .face-links) ∙ e)) curves₂ (λ d e w m. I .layers d e w (seam-done t c₂ st₂ L₂ late₂ (edge d e) m))

@@ -10,12 +10,12 @@ use native.Mathlib.Omega.{arith}
 use lib.Arith.{digits-div, digits-lt, digits-mod}
 use lib.Dec.{eqb, leb, ltb}
 use lib.ListN.{getD, length, length-set}
-use borrow.Author.Tests.{eqb-false, eqb-true, leb-true, ltb-false, ltb-true}
+use borrow.Author.Tests.{eqb-false, eqb-true, le-leb, leb-true, ltb-false, ltb-true}
 use Rattle.lists.specs.Lists.{overlay}
 use Rattle.closure.specs.Joined.{edge}
 use Rattle.cells.specs.Box.{Triple}
 use Rattle.cells.specs.Grid.{order}
-use Rattle.union_find.specs.Links.{parent, root}
+use Rattle.union_find.specs.Links.{parent, root, soundAt}
 use Rattle.labels.specs.Components.{component, firstCell, largest}
 use Rattle.labels.specs.Number.{numbered}
 use Rattle.labels.specs.Numbering.{Numbering}
@@ -254,6 +254,12 @@ module _ (o : Told) (own : ℕ → List ℕ) (good : goodCut (o .cutting) ≡ tr
         let r : ℕ = root (s .tables .links κ) x in
         together-keeps (λ (z : ℕ). z) (λ y z e. absurd (none y z e)) (J .linked .one r x (omega (arith, root-low (s .tables .links κ) x)) h .0 (root-idem (s .tables .links κ) x))
 
+    -- a new link is 0
+    zero-new : (x : ℕ) → x < t .job .sofar κ → s .job .sofar κ ≤ x → getD (t .tables .links κ) x 0 ≡ 0
+    zero-new x h g =
+        let e : s .job .sofar κ + (x - s .job .sofar κ) ≡ x = omega arith in
+        ap₂ (λ (l : List ℕ) (y : ℕ). getD l y 0) (E .links) (sym e) ∙ overlay-at (s .tables .links κ) (s .job .sofar κ) (λ i. 0) (adds s (enrol b (own b)) κ) (x - s .job .sofar κ) (omega (arith, n-is, more)) (omega (arith, links-long, enough κ))
+
     alone : (x : ℕ) → x < t .job .sofar κ → root (t .tables .links κ) x ≡ x
     unfolding parent
     alone x h =
@@ -263,11 +269,16 @@ module _ (o : Told) (own : ℕ → List ℕ) (good : goodCut (o .cutting) ≡ tr
         let p : parent (s .tables .links κ) x ≡ x = own-root (s .tables .links κ) x (alone-old x g) in
         root-own (t .tables .links κ) x (ap (λ (l : List ℕ). x - getD l x 0) (E .links) ∙ ap (λ (y : ℕ). x - y) (overlay-before (s .tables .links κ) (s .job .sofar κ) (λ i. 0) (adds s (enrol b (own b)) κ) x g) ∙ p))
         (λ q.
-        let g : s .job .sofar κ ≤ x = ltb-false _ _ q in
-        let e : s .job .sofar κ + (x - s .job .sofar κ) ≡ x = omega arith in
-        let z : getD (t .tables .links κ) x 0 ≡ 0 =
-        ap₂ (λ (l : List ℕ) (y : ℕ). getD l y 0) (E .links) (sym e) ∙ overlay-at (s .tables .links κ) (s .job .sofar κ) (λ i. 0) (adds s (enrol b (own b)) κ) (x - s .job .sofar κ) (omega (arith, n-is, more)) (omega (arith, links-long, enough κ)) in
-        root-own (t .tables .links κ) x (omega (arith, z)))
+        root-own (t .tables .links κ) x (omega (arith, zero-new x h (ltb-false _ _ q))))
+
+    sound′ : (x : ℕ) → x < t .job .sofar κ → soundAt (t .tables .links κ) x ≡ true
+    unfolding soundAt
+    sound′ x h =
+        by-test (ltb x (s .job .sofar κ))
+        (λ q.
+        let g : x < s .job .sofar κ = ltb-true _ _ q in
+        ap (λ (l : List ℕ). leb (getD l x 0) x) (E .links) ∙ ap (λ (y : ℕ). leb y x) (overlay-before (s .tables .links κ) (s .job .sofar κ) (λ i. 0) (adds s (enrol b (own b)) κ) x g) ∙ J .linked .sound x g)
+        (λ q. le-leb (getD (t .tables .links κ) x 0) x (omega (arith, zero-new x h (ltb-false _ _ q))))
 
     linked′ : Connected (t .tables .links κ) (t .job .sofar κ) (EdgeDone o own B′ t κ)
     linked′ = record {
@@ -275,6 +286,7 @@ module _ (o : Told) (own : ℕ → List ℕ) (good : goodCut (o .cutting) ≡ tr
         (λ e. same (sym (alone x hx) ∙ e ∙ alone y hy)),
         (λ l. ap (root (t .tables .links κ)) (together-keeps (λ (z : ℕ). z) (λ u v e. absurd (none′ u v e)) l)),
       );
+      sound = sound′;
     }
 
     rows′ : (c m i : ℕ) → c < blocks (o .cutting) → In o own B′ c → 0 < m → m ≤ largest (blockExtents (o .cutting) c) (own c) (orderOf κ) → i < width κ

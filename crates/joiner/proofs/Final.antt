@@ -34,6 +34,7 @@ use Rattle.labels.proofs.LabelLaws.{labels-numbering}
 use Rattle.cutting.proofs.BlockLaws.{face-row, row-through}
 use Rattle.joiner.proofs.Classes.{ByEither, BySeam, Layout, NodeAt, curve-classes, face-classes, first-sees, order-small, vol}
 use Rattle.joiner.proofs.Codes.{codes-same, own-part}
+use Rattle.joiner.proofs.Linking.{Within}
 use Rattle.joiner.proofs.Inv.{EdgeDone, In, Inv, Kept, Numbered, SeamEdge}
 use Rattle.joiner.proofs.Points.{MorePoints, PointsSo, cell-out, point-rows, pointsOf, ranked-points}
 use Rattle.joiner.proofs.Ranking.{HeadOf, Ranked, head-of, heads-total, rank-is}
@@ -58,6 +59,7 @@ module _ (o : Told) (own : ℕ → List ℕ) (good : goodCut (o .cutting) ≡ tr
   -- what the tables hold of one kind once it is numbered
   pub record Final (s : State) (κ : Kind) : Type 0 where
     pub numbers : (x : ℕ) → x < s .job .sofar κ → getD (s .tables .numbers κ) x 0 ≡ vol (o .cutting) codes (s .tables) κ x
+    pub within : Within s κ
     pub total : s .job .numbered κ ≡ largest (o .cutting .extents) volume-map (orderOf κ)
     pub firsts : take (s .job .numbered κ) (s .tables .firsts κ) ≡ tabulate (s .job .numbered κ) (λ i. firstCell (o .cutting .extents) volume-map (orderOf κ) (suc i))
     pub rows : take (width κ * s .job .numbered κ) (s .tables .listed κ)
@@ -94,6 +96,7 @@ module _ (o : Told) (own : ℕ → List ℕ) (good : goodCut (o .cutting) ≡ tr
     final-of =
         record {
           numbers = λ x h. numbers′ x (omega (arith, h, tally));
+          within = λ x h. let k : x < n = omega (arith, h, tally) in (omega (arith, numbers′ x k, R .positive x k), omega (arith, numbers′ x k, R .most x k, total′));
           total = total′;
           firsts = N .firsts ∙ tabulate-same (s .job .numbered κ) _ _ (λ i h. head-at i h .first-is);
           rows = N .listed ∙ tabulate-same (width κ * s .job .numbered κ) _ _ row-here;
@@ -176,12 +179,12 @@ module _ (o : Told) (own : ℕ → List ℕ) (good : goodCut (o .cutting) ≡ tr
     faces-one : (x y : ℕ) → x < s .job .sofar Face → y < s .job .sofar Face → (root (s .tables .links Face) x ≡ root (s .tables .links Face) y) ↔ (vol (o .cutting) codes (s .tables) Face x ≡ vol (o .cutting) codes (s .tables) Face y)
     faces-one =
         face-classes (o .cutting) good codes (s .tables) (s .job .sofar Face) (layout Face (I .faces))
-        (record { one = λ x y hx hy. ((λ e. together-map (seam-to Face) (I .faces .linked .one x y hx hy .0 e)), (λ l. I .faces .linked .one x y hx hy .1 (together-map (seam-from Face) l))) })
+        (record { one = λ x y hx hy. ((λ e. together-map (seam-to Face) (I .faces .linked .one x y hx hy .0 e)), (λ l. I .faces .linked .one x y hx hy .1 (together-map (seam-from Face) l))); sound = I .faces .linked .sound })
 
     curves-one : (x y : ℕ) → x < s .job .sofar Curve → y < s .job .sofar Curve → (root (s .tables .links Curve) x ≡ root (s .tables .links Curve) y) ↔ (vol (o .cutting) codes (s .tables) Curve x ≡ vol (o .cutting) codes (s .tables) Curve y)
     curves-one =
         curve-classes (o .cutting) good codes (s .tables) (s .job .sofar Face) (s .job .sofar Curve) (layout Face (I .faces)) (layout Curve (I .curves)) faces-one
-        (record { one = λ x y hx hy. ((λ e. together-map either-to (I .curves .linked .one x y hx hy .0 e)), (λ l. I .curves .linked .one x y hx hy .1 (together-map either-from l))) })
+        (record { one = λ x y hx hy. ((λ e. together-map either-to (I .curves .linked .one x y hx hy .0 e)), (λ l. I .curves .linked .one x y hx hy .1 (together-map either-from l))); sound = I .curves .linked .sound })
 
     -- the rows kept at enrolment
     part-row : (κ : Kind) (b m : ℕ) → b < blocks (o .cutting) → 0 < m → m ≤ largest (blockExtents (o .cutting) b) (own b) (orderOf κ)

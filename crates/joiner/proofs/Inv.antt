@@ -11,23 +11,26 @@ use lib.ListN.{getD}
 use borrow.Author.Tests.{eqb-true, le-leb, ltb-true, not-false}
 use Rattle.lists.specs.Lists.{consecutive, isIn, someOf}
 use Rattle.closure.specs.Joined.{edge}
+use Rattle.refusals.specs.Refusals.{Refusal, no-such-place, number, standsIn, wrong-stage}
 use Rattle.cells.specs.Box.{Triple}
 use Rattle.cells.specs.Extents.{offSize}
 use Rattle.cells.specs.Row.{sameRow}
 use Rattle.labels.specs.Components.{componentRow, firstCell, largest}
 use Rattle.cutting.specs.Cutting.{Cutting, blockExtents, blocks, embed, goodCut, seam}
-use Rattle.joiner.specs.Book.{Book, bookAdds, bookDeclines, bookEarly, bookRefusal, bringsOwn, uncutCount}
+use Rattle.joiner.specs.Book.{Book, bookAdds, bookDeclines, bookEarly, earlyCases, bookRefusal, bringsOwn, uncutCount}
 use Rattle.joiner.specs.Calls.{Call, cross, differs, enrol, full, join, layersDiffer, look, mapsFit, overfull, placed, point, reading, repeated, stageOf}
-use Rattle.joiner.specs.Declines.{adds, counted, cutFor, declines, filled, lastCrossing, lentTo, mapStands, refusal, rowsStand, standing, standsFor, stray, talliesFit, tallyFits}
+use Rattle.joiner.specs.Declines.{adds, allLinksStand, counted, curvesStand, cutFor, declines, filled, lastCrossing, lentTo, linksStand, lookStands, mapStands, refusal, rowsStand, standing, standsFor, stray, talliesFit, tallyFits}
 use Rattle.joiner.specs.Entries.{AtCrossing, AtSeam, enrolledRow, shifted}
 use Rattle.joiner.specs.Job.{Closed, Crossing, Curve, Enrol, Face, Kind, Point, Points, Seam, Stage, State, Told, countOf, firstAt, fits, fromOf, node, orderOf, sameStage, stageNumber, ticked, width}
-use Rattle.joiner.specs.Stages.{crossingStep, enrolStep, hasCell, pointStep, seamStep, shared, stepsOf}
+use Rattle.joiner.specs.Stages.{crossingStep, enrolStep, hasCell, local, pointStep, seamStep, shared, stepsOf}
 use Rattle.joiner.specs.Statement.{Labelling}
+use Rattle.refusals.proofs.RefusalLaws.{given-none}
 use Rattle.lists.proofs.Cases.{and-both, and-left, and-right, picked}
 use Rattle.lists.proofs.Lists.{consecutive-in, consecutive-out}
 use Rattle.lists.proofs.Tests.{all-in}
 use Rattle.cells.proofs.RowLaws.{same-row}
-use Rattle.joiner.proofs.Ladder.{Alongside, Bookish, lowest-agree, lowest-early, lowest-early-only}
+use Rattle.joiner.proofs.Ladder.{Alongside, Bookish, EarlyOnly, given-agree, given-book, given-early, given-early-only, given-stray}
+use Rattle.joiner.proofs.Linking.{Enrolled, all-links, block-links}
 use Rattle.joiner.proofs.Own.{labelled-labelling, labelling-filled}
 use Rattle.joiner.proofs.Progress.{Progress}
 use Rattle.joiner.proofs.Roots.{Connected}
@@ -104,11 +107,14 @@ module _ (o : Told) (own : ℕ → List ℕ) where
 
 module _ (o : Told) (own : ℕ → List ℕ) (ext : offSize 1024 (o .cutting .extents) ≡ false) (good : goodCut (o .cutting) ≡ true)
     (lab : (b : ℕ) → b < blocks (o .cutting) → Labelling (blockExtents (o .cutting) b) (own b)) (B : Book) (s : State) (I : Inv o own B s) where
+  tally-in : (κ : Kind) → s .job .sofar κ ≤ s .job .told .entries κ
+  tally-in κ = omega (arith, I .sofar κ, I .room κ, ap (λ (z : Told). z .entries κ) (I .told))
+
   tally-fits : (κ : Kind) → tallyFits (s .job) κ ≡ true
   unfolding tallyFits
   tally-fits κ =
-      and-both (leb (s .job .sofar κ) (s .job .told .entries κ)) (leb (s .job .numbered κ) (s .job .sofar κ))
-      (le-leb (s .job .sofar κ) (s .job .told .entries κ) (omega (arith, I .sofar κ, I .room κ, ap (λ (z : Told). z .entries κ) (I .told)))) (le-leb _ _ (I .numbered κ))
+      and-both (leb (s .job .sofar κ) (s .job .told .entries κ)) (leb (s .job .numbered κ) (s .job .told .entries κ))
+      (le-leb _ _ (tally-in κ)) (le-leb (s .job .numbered κ) (s .job .told .entries κ) (omega (arith, I .numbered κ, tally-in κ)))
 
   tallies-fit : talliesFit (s .job) ≡ true
   unfolding talliesFit
@@ -120,11 +126,15 @@ module _ (o : Told) (own : ℕ → List ℕ) (ext : offSize 1024 (o .cutting .ex
   unfolding counted
   is-counted b hb i κ = le-leb (largest (blockExtents (o .cutting) b) (own b) (orderOf κ)) (countOf (s .tables) κ b) (omega (arith, I .counts κ b hb i))
 
+  -- the components of an enrolled block are enrolled
+  pub block-in : (b : ℕ) → b < blocks (o .cutting) → In o own B b → Enrolled s b Face × Enrolled s b Curve
+  block-in b hb i = (omega (arith, I .counts Face b hb i, I .faces .from-in b hb i), omega (arith, I .counts Curve b hb i, I .curves .from-in b hb i))
+
   is-standing : (b : ℕ) → b < blocks (o .cutting) → In o own B b → (standing s b Face ≡ true) × (standing s b Curve ≡ true)
   unfolding standing
-  is-standing b hb i = (
-    le-leb (fromOf (s .tables) Face b + countOf (s .tables) Face b) (s .job .sofar Face) (omega (arith, I .counts Face b hb i, I .faces .from-in b hb i)),
-    le-leb (fromOf (s .tables) Curve b + countOf (s .tables) Curve b) (s .job .sofar Curve) (omega (arith, I .counts Curve b hb i, I .curves .from-in b hb i)),
+  is-standing b hb i = let w = block-in b hb i in (
+    le-leb (fromOf (s .tables) Face b + countOf (s .tables) Face b) (s .job .told .entries Face) (omega (arith, w .0, tally-in Face)),
+    le-leb (fromOf (s .tables) Curve b + countOf (s .tables) Curve b) (s .job .told .entries Curve) (omega (arith, w .1, tally-in Curve)),
   )
 
   map-stands : (b : ℕ) → b < blocks (o .cutting) → In o own B b → mapStands s (blockExtents (o .cutting) b) b (own b) ≡ true
@@ -153,8 +163,8 @@ module _ (o : Told) (own : ℕ → List ℕ) (ext : offSize 1024 (o .cutting .ex
   rows-stand : rowsStand s ≡ true
   unfolding rowsStand
   rows-stand =
-      all-in (λ i. leb (getD (s .tables .rows Curve) i 0) (s .job .sofar Face)) (consecutive 0 (4 * s .job .sofar Curve))
-      (λ i m. le-leb _ _ (rows-in i (omega (arith, consecutive-out 0 (4 * s .job .sofar Curve) m))))
+      all-in (λ i. leb (getD (s .tables .rows Curve) i 0) (s .job .told .entries Face)) (consecutive 0 (4 * s .job .sofar Curve))
+      (λ i m. le-leb (getD (s .tables .rows Curve) i 0) (s .job .told .entries Face) (omega (arith, rows-in i (omega (arith, consecutive-out 0 (4 * s .job .sofar Curve) m)), tally-in Face)))
 
   -- a stage after Enrol has all blocks enrolled
   pub enrolled : 0 < stageNumber (B .stage) → (b : ℕ) → b < blocks (o .cutting) → In o own B b
@@ -199,8 +209,8 @@ module _ (o : Told) (own : ℕ → List ℕ) (ext : offSize 1024 (o .cutting .ex
       ap not (and-so (mapsFit (s .job .told .cutting) c) (fits (lentTo (s .job .told) (s .tables) c)) (ap (λ (z : Told). fits (lentTo z (s .tables) c)) (I .told) ∙ lent-fit o (s .tables) (I .sizes) c) ∙ ap (λ (z : Told). mapsFit (z .cutting) c) (I .told ∙ sym (I .btold))),
     )
 
-    alongside : Alongside (declines s c) (bookDeclines B c)
-    unfolding declines bookDeclines
+    alongside : Alongside (standsIn (declines s c)) (standsIn (bookDeclines B c))
+    unfolding declines bookDeclines standsIn number
     alongside =
         record {
           f-size = ap (λ (z : Told). offSize 1024 (z .cutting .extents)) (I .told) ∙ ext;
@@ -211,25 +221,46 @@ module _ (o : Told) (own : ℕ → List ℕ) (ext : offSize 1024 (o .cutting .ex
           early = early-parts;
         }
 
-    bookish : Bookish (bookDeclines B c)
-    unfolding bookDeclines
+    bookish : Bookish (standsIn (bookDeclines B c))
+    unfolding bookDeclines standsIn number
     bookish = record { g-size = refl; g-cut = refl; g-blank = refl; g-stray = refl; g-record = refl }
+
+    earlier : EarlyOnly (standsIn (bookDeclines B c)) (standsIn (earlyCases B c))
+    unfolding bookDeclines standsIn number
+    earlier =
+        record { h-size = refl; h-cut = refl; h-stage = refl; h-place = refl; h-done = refl; h-tray = refl; h-blank = refl; h-stray = refl; h-layers = refl; h-full = refl; h-record = refl }
+
+    -- the book gives what it gives of 3 to 6, where it gives one of them, and never 8
+    pub book-early : bookEarly B c ≢ 0 → bookRefusal B c ≡ bookEarly B c
+    unfolding bookRefusal bookEarly
+    book-early = given-book (standsIn (bookDeclines B c)) (standsIn (earlyCases B c)) bookish earlier
+
+    pub book-stray : bookRefusal B c ≢ 8
+    unfolding bookRefusal
+    book-stray = given-stray (standsIn (bookDeclines B c)) bookish
+
+    -- what the book gives none of 3 to 6 for
+    pub book-passed : bookEarly B c ≡ 0 → (stageNumber (B .stage) ≡ stageNumber (stageOf c)) × (placed (B .told .cutting) (uncutCount B) c ≡ true)
+    unfolding bookEarly standsIn number sameStage
+    book-passed z =
+        let n : (r : Refusal) → standsIn (earlyCases B c) r ≡ false = given-none (standsIn (earlyCases B c)) .0 z in
+        (eqb-true _ _ (not-false _ (n wrong-stage)), not-false _ (n no-such-place))
 
     -- with any map, 3 to 6 go by the book, and nothing else up to 6 is given
     pub early-agrees : bookEarly B c ≢ 0 → refusal s c ≡ bookEarly B c
     unfolding refusal bookEarly
-    early-agrees = lowest-early (declines s c) (bookDeclines B c) alongside
+    early-agrees = given-early (standsIn (declines s c)) (standsIn (bookDeclines B c)) alongside (standsIn (earlyCases B c)) earlier
 
     pub early-only : 0 < refusal s c → refusal s c ≤ 6 → refusal s c ≡ bookEarly B c
     unfolding refusal bookEarly
-    early-only = lowest-early-only (declines s c) (bookDeclines B c) alongside
+    early-only = given-early-only (standsIn (declines s c)) (standsIn (bookDeclines B c)) alongside (standsIn (earlyCases B c)) earlier
 
     -- with its blocks' maps, all go by the book
     agrees : (stageNumber (B .stage) ≡ stageNumber (stageOf c) → placed (o .cutting) (s .job .numbered) c ≡ true → (standsFor s c ≡ true) × ((κ : Kind) → adds s c κ ≡ bookAdds B c κ))
         → refusal s c ≡ bookRefusal B c
-    unfolding refusal bookRefusal declines bookDeclines stray
+    unfolding refusal bookRefusal declines bookDeclines standsIn number stray
     agrees late =
-        lowest-agree (declines s c) (bookDeclines B c) alongside bookish
+        given-agree (standsIn (declines s c)) (standsIn (bookDeclines B c)) alongside bookish
         (λ a b.
         let l = late (same-of c a) (ap (λ (z : Told). placed (z .cutting) (s .job .numbered) c) (sym (I .told)) ∙ not-false _ b) in (
           ap not (and-both (talliesFit (s .job)) (standsFor s c) tallies-fit (l .0)),
@@ -249,6 +280,9 @@ module _ (o : Told) (own : ℕ → List ℕ) (ext : offSize 1024 (o .cutting .ex
   fit : (b : ℕ) (m : List ℕ) → b < blocks (o .cutting) → 0 < stageNumber (B .stage) → sameRow m (B .maps b) ≡ true → mapStands s (blockExtents (s .job .told .cutting) b) b m ≡ true
   fit b m hb h e = ap₂ (λ (z : Told) (x : List ℕ). mapStands s (blockExtents (z .cutting) b) b x) (I .told) (own-of h b hb m e) ∙ map-stands b hb (enrolled h b hb)
 
+  links-stand : (b : ℕ) → b < blocks (o .cutting) → 0 < stageNumber (B .stage) → linksStand s b ≡ true
+  links-stand b hb h = let w = block-in b hb (enrolled h b hb) in block-links s (I .faces .linked .sound) (I .curves .linked .sound) b (w .0) (w .1)
+
   pub enrol-agrees : (b : ℕ) (m : List ℕ) → bringsOwn B (enrol b m) ≡ true → refusal s (enrol b m) ≡ bookRefusal B (enrol b m)
   enrol-agrees b m e =
       agrees (enrol b m) (λ h. refl)
@@ -267,8 +301,11 @@ module _ (o : Told) (own : ℕ → List ℕ) (ext : offSize 1024 (o .cutting .ex
       (λ h p.
       let l = seam-listed (o .cutting) b c p in
       let g : 0 < stageNumber (B .stage) = later Seam (omega arith) h in (
-        and-both (mapStands s (blockExtents (s .job .told .cutting) b) b m) (mapStands s (blockExtents (s .job .told .cutting) c) c n)
-            (fit b m (l .0) g (and-left (sameRow m (B .maps b)) (sameRow n (B .maps c)) e)) (fit c n (l .1) g (and-right (sameRow m (B .maps b)) (sameRow n (B .maps c)) e)),
+        and-both (mapStands s (blockExtents (s .job .told .cutting) b) b m) (mapStands s (blockExtents (s .job .told .cutting) c) c n && (linksStand s b && linksStand s c))
+            (fit b m (l .0) g (and-left (sameRow m (B .maps b)) (sameRow n (B .maps c)) e))
+            (and-both (mapStands s (blockExtents (s .job .told .cutting) c) c n) (linksStand s b && linksStand s c)
+            (fit c n (l .1) g (and-right (sameRow m (B .maps b)) (sameRow n (B .maps c)) e))
+            (and-both (linksStand s b) (linksStand s c) (links-stand b (l .0) g) (links-stand c (l .1) g))),
         λ κ. refl,
       ))
 
@@ -277,27 +314,38 @@ module _ (o : Told) (own : ℕ → List ℕ) (ext : offSize 1024 (o .cutting .ex
   cross-agrees b m e =
       agrees (cross b m) (λ h. refl)
       (λ h p. (
-        and-both (mapStands s (blockExtents (s .job .told .cutting) b) b m) (cond (lastCrossing s b) (rowsStand s) true)
+        and-both (mapStands s (blockExtents (s .job .told .cutting) b) b m) (linksStand s b && cond (lastCrossing s b) (rowsStand s && allLinksStand s) true)
             (fit b m (ltb-true _ _ p) (later Crossing (omega arith) h) e)
-            (picked (λ (t : Bool). t ≡ true) (lastCrossing s b) (rowsStand s) true (λ t. rows-stand) (λ t. refl)),
+            (and-both (linksStand s b) (cond (lastCrossing s b) (rowsStand s && allLinksStand s) true)
+            (links-stand b (ltb-true _ _ p) (later Crossing (omega arith) h))
+            (picked (λ (t : Bool). t ≡ true) (lastCrossing s b) (rowsStand s && allLinksStand s) true
+            (λ t. and-both (rowsStand s) (allLinksStand s) rows-stand (all-links s (I .faces .linked .sound) (I .curves .linked .sound))) (λ t. refl))),
         λ κ. refl,
       ))
 
-  -- the points that a step finds are those of the uncut volume: shown from the numbers of the curves
+  -- the points that a step finds are those of the uncut volume, and final numbers are those of the closed tables: shown from the numbers of the curves
   pub point-agrees : (b : ℕ) (m : List ℕ) → bringsOwn B (point b m) ≡ true → (stageNumber (B .stage) ≡ 3 → b < blocks (o .cutting) → m ≡ own b → (κ : Kind) → adds s (point b m) κ ≡ bookAdds B (point b m) κ)
-      → refusal s (point b m) ≡ bookRefusal B (point b m)
+      → (stageNumber (B .stage) ≡ 3 → b < blocks (o .cutting) → curvesStand s b ≡ true) → refusal s (point b m) ≡ bookRefusal B (point b m)
   unfolding stageNumber
-  point-agrees b m e found =
+  point-agrees b m e found numbers =
       agrees (point b m) (λ h. refl)
       (λ h p.
       let g : 0 < stageNumber (B .stage) = later Points (omega arith) h in
-      (fit b m (ltb-true _ _ p) g e, found h (ltb-true _ _ p) (own-of g b (ltb-true _ _ p) m e)))
+      (and-both (mapStands s (blockExtents (s .job .told .cutting) b) b m) (curvesStand s b) (fit b m (ltb-true _ _ p) g e) (numbers h (ltb-true _ _ p)), found h (ltb-true _ _ p) (own-of g b (ltb-true _ _ p) m e)))
 
-  pub lookup-agrees : (b : ℕ) (m : List ℕ) (c : Triple) → bringsOwn B (look b m c) ≡ true → refusal s (look b m c) ≡ bookRefusal B (look b m c)
+  pub lookup-agrees : (b : ℕ) (m : List ℕ) (c : Triple) → bringsOwn B (look b m c) ≡ true
+      → (stageNumber (B .stage) ≡ 4 → b < blocks (o .cutting) → hasCell (o .cutting) b c ≡ true → m ≡ own b → lookStands s b m (local (s .job .told .cutting) b c) ≡ true)
+      → refusal s (look b m c) ≡ bookRefusal B (look b m c)
   unfolding adds bookAdds stageNumber
-  lookup-agrees b m c e =
+  lookup-agrees b m c e numbers =
       agrees (look b m c) (λ h. refl)
-      (λ h p. (fit b m (ltb-true _ _ (and-left (ltb b (blocks (o .cutting))) (hasCell (o .cutting) b c) p)) (later Closed (omega arith) h) e, λ κ. refl))
+      (λ h p.
+      let hb : b < blocks (o .cutting) = ltb-true _ _ (and-left (ltb b (blocks (o .cutting))) (hasCell (o .cutting) b c) p) in
+      let g : 0 < stageNumber (B .stage) = later Closed (omega arith) h in (
+        and-both (mapStands s (blockExtents (s .job .told .cutting) b) b m) (lookStands s b m (local (s .job .told .cutting) b c)) (fit b m hb g e)
+            (numbers h hb (and-right (ltb b (blocks (o .cutting))) (hasCell (o .cutting) b c) p) (own-of g b hb m e)),
+        λ κ. refl,
+      ))
 
   pub reading-agrees : (κ : Kind) (n : ℕ) → (stageNumber (B .stage) ≡ 4 → s .job .numbered κ ≡ uncutCount B κ) → refusal s (reading κ n) ≡ bookRefusal B (reading κ n)
   unfolding adds bookAdds stageNumber

@@ -1,20 +1,19 @@
--- The lowest refusal of the service and of the day book, from what each test says.
+-- The refusal that the service and the day book give, from what each test says.
 -- Assumes nothing.
-use mathlib.Core.Bool.{Bool, _&&_, cond, false, true}
+use mathlib.Core.Bool.{Bool, cond, false, true}
 use mathlib.Core.Logic.{_≢_, _⊎_, inl, inr}
 use mathlib.Core.Path.{_≡_, refl}
-use Prim.Native.Nat.{_<_, _≤_}
+use Prim.Native.Nat.{ℕ, _<_, _≤_}
 use native.Mathlib.Omega.{arith}
-use Rattle.refusals.specs.Refusals.{Refusal, bad-cut, bad-record, blank-voxel, done-already, first, layers-differ, lowest, no-such-place, number, off-size, stray-label, table, table-full, wrong-stage, wrong-tray}
-use Rattle.joiner.specs.Book.{isEarly}
+use Rattle.refusals.specs.Refusals.{Refusal, bad-cut, bad-record, blank-voxel, done-already, first, givenBy, layers-differ, no-such-place, number, off-size, stray-label, table, table-full, wrong-stage, wrong-tray}
 use Rattle.lists.proofs.Cases.{by-test}
 
--- the lowest as a ladder
+-- what is given as a ladder
 pub ladder : (f : Refusal → Bool)
-    → lowest f
+    → givenBy f
     ≡ cond (f off-size) 1 (cond (f bad-cut) 2 (cond (f wrong-stage) 3 (cond (f no-such-place) 4 (cond (f done-already) 5 (cond (f wrong-tray) 6
     (cond (f blank-voxel) 7 (cond (f stray-label) 8 (cond (f layers-differ) 9 (cond (f table-full) 10 (cond (f bad-record) 11 0))))))))))
-unfolding lowest first table number
+unfolding givenBy first table number
 ladder f = refl
 
 -- f for the service, g for the book: 1, 2, 7 and 11 are never given, 3 to 6 agree
@@ -34,12 +33,29 @@ pub record Bookish (g : Refusal → Bool) : Type 0 where
   pub g-stray : g stray-label ≡ false
   pub g-record : g bad-record ≡ false
 
+-- h is the book of 3 to 6 alone
+pub record EarlyOnly (g h : Refusal → Bool) : Type 0 where
+  pub h-size : h off-size ≡ false
+  pub h-cut : h bad-cut ≡ false
+  pub h-stage : h wrong-stage ≡ g wrong-stage
+  pub h-place : h no-such-place ≡ g no-such-place
+  pub h-done : h done-already ≡ g done-already
+  pub h-tray : h wrong-tray ≡ g wrong-tray
+  pub h-blank : h blank-voxel ≡ false
+  pub h-stray : h stray-label ≡ false
+  pub h-layers : h layers-differ ≡ false
+  pub h-full : h table-full ≡ false
+  pub h-record : h bad-record ≡ false
+
+early-ladder : (g h : Refusal → Bool) → EarlyOnly g h → givenBy h ≡ cond (g wrong-stage) 3 (cond (g no-such-place) 4 (cond (g done-already) 5 (cond (g wrong-tray) 6 0)))
+early-ladder g h E = rw (ladder h, E .h-size, E .h-cut, E .h-stage, E .h-place, E .h-done, E .h-tray, E .h-blank, E .h-stray, E .h-layers, E .h-full, E .h-record) refl
+
 module _ (f g : Refusal → Bool) (A : Alongside f g) where
   -- where the late tests agree too, so do the refusals
-  pub lowest-agree : Bookish g
+  pub given-agree : Bookish g
       → (f wrong-stage ≡ false → f no-such-place ≡ false → (f stray-label ≡ false) × (f layers-differ ≡ g layers-differ) × (f table-full ≡ g table-full))
-      → lowest f ≡ lowest g
-  lowest-agree G late =
+      → givenBy f ≡ givenBy g
+  given-agree G late =
       rw (ladder f, ladder g, A .f-size, A .f-cut, A .f-blank, A .f-record, G .g-size, G .g-cut, G .g-blank, G .g-stray, G .g-record, ← A .stage)
       (by-test (f wrong-stage) (λ a. rw a refl)
       (λ a. rw (a, ← A .early a .0, ← A .early a .1, ← A .early a .2)
@@ -47,42 +63,66 @@ module _ (f g : Refusal → Bool) (A : Alongside f g) where
       (λ b. rw (b, late a b .0, late a b .1, late a b .2) refl))))
 
   -- what the book says of 3 to 6 alone
-  abbrev early-of : Refusal → Bool
-  early-of r = isEarly r && g r
+  module _ (early-of : Refusal → Bool) (E : EarlyOnly g early-of) where
+    -- either the service gives what the book gives of 3 to 6, or the book gives none of them and the service none up to 6
+    early-cases : (givenBy f ≡ givenBy early-of) ⊎ ((givenBy early-of ≡ 0) × (0 < givenBy f → 6 < givenBy f))
+    early-cases =
+        rw (ladder f, early-ladder g early-of E, A .f-size, A .f-cut, A .f-blank, A .f-record, ← A .stage)
+        (by-test (f wrong-stage) (λ a. rw a (inl refl))
+        (λ a. rw (a, ← A .early a .0, ← A .early a .1, ← A .early a .2)
+        (by-test (f no-such-place) (λ b. rw b (inl refl))
+        (λ b. rw b
+        (by-test (f done-already) (λ c. rw c (inl refl))
+        (λ c. rw c
+        (by-test (f wrong-tray) (λ d. rw d (inl refl))
+        (λ d. rw d (inr (refl, later (f stray-label) (f layers-differ) (f table-full)))))))))))
+      where
+        later : (a b c : Bool) → 0 < cond a 8 (cond b 9 (cond c 10 0)) → 6 < cond a 8 (cond b 9 (cond c 10 0))
+        later true b c h = omega arith
+        later false true c h = omega arith
+        later false false true h = omega arith
+        later false false false h = absurd (omega arith)
 
-  early-ladder : lowest early-of ≡ cond (g wrong-stage) 3 (cond (g no-such-place) 4 (cond (g done-already) 5 (cond (g wrong-tray) 6 0)))
-  unfolding isEarly
-  early-ladder = ladder early-of
+    pub given-early : givenBy early-of ≢ 0 → givenBy f ≡ givenBy early-of
+    given-early n = go early-cases
+      where
+        go : (givenBy f ≡ givenBy early-of) ⊎ ((givenBy early-of ≡ 0) × (0 < givenBy f → 6 < givenBy f)) → givenBy f ≡ givenBy early-of
+        go (inl e) = e
+        go (inr e) = absurd (n (e .0))
 
-  -- either the service gives what the book gives of 3 to 6, or the book gives none of them and the service none up to 6
-  early-cases : (lowest f ≡ lowest early-of) ⊎ ((lowest early-of ≡ 0) × (0 < lowest f → 6 < lowest f))
-  early-cases =
-      rw (ladder f, early-ladder, A .f-size, A .f-cut, A .f-blank, A .f-record, ← A .stage)
-      (by-test (f wrong-stage) (λ a. rw a (inl refl))
-      (λ a. rw (a, ← A .early a .0, ← A .early a .1, ← A .early a .2)
-      (by-test (f no-such-place) (λ b. rw b (inl refl))
+    pub given-early-only : 0 < givenBy f → givenBy f ≤ 6 → givenBy f ≡ givenBy early-of
+    given-early-only h l = go early-cases
+      where
+        go : (givenBy f ≡ givenBy early-of) ⊎ ((givenBy early-of ≡ 0) × (0 < givenBy f → 6 < givenBy f)) → givenBy f ≡ givenBy early-of
+        go (inl e) = e
+        go (inr e) = absurd (omega (arith, e .1 h))
+
+-- the book gives what it gives of 3 to 6, where it gives one of them
+module _ (g h : Refusal → Bool) (G : Bookish g) (E : EarlyOnly g h) where
+  pub given-book : givenBy h ≢ 0 → givenBy g ≡ givenBy h
+  given-book =
+      rw (ladder g, early-ladder g h E, G .g-size, G .g-cut, G .g-blank, G .g-stray, G .g-record)
+      (by-test (g wrong-stage) (λ a. rw a (λ n. refl))
+      (λ a. rw a
+      (by-test (g no-such-place) (λ b. rw b (λ n. refl))
       (λ b. rw b
-      (by-test (f done-already) (λ c. rw c (inl refl))
+      (by-test (g done-already) (λ c. rw c (λ n. refl))
       (λ c. rw c
-      (by-test (f wrong-tray) (λ d. rw d (inl refl))
-      (λ d. rw d (inr (refl, later (f stray-label) (f layers-differ) (f table-full)))))))))))
-    where
-      later : (a b c : Bool) → 0 < cond a 8 (cond b 9 (cond c 10 0)) → 6 < cond a 8 (cond b 9 (cond c 10 0))
-      later true b c h = omega arith
-      later false true c h = omega arith
-      later false false true h = omega arith
-      later false false false h = absurd (omega arith)
+      (by-test (g wrong-tray) (λ d. rw d (λ n. refl))
+      (λ d. rw d (λ n. absurd (n refl))))))))))
 
-  pub lowest-early : lowest early-of ≢ 0 → lowest f ≡ lowest early-of
-  lowest-early n = go early-cases
-    where
-      go : (lowest f ≡ lowest early-of) ⊎ ((lowest early-of ≡ 0) × (0 < lowest f → 6 < lowest f)) → lowest f ≡ lowest early-of
-      go (inl e) = e
-      go (inr e) = absurd (n (e .0))
+abbrev rungs : Bool → Bool → Bool → Bool → Bool → Bool → ℕ
+rungs a b c d e f = cond a 3 (cond b 4 (cond c 5 (cond d 6 (cond e 9 (cond f 10 0)))))
 
-  pub lowest-early-only : 0 < lowest f → lowest f ≤ 6 → lowest f ≡ lowest early-of
-  lowest-early-only h l = go early-cases
-    where
-      go : (lowest f ≡ lowest early-of) ⊎ ((lowest early-of ≡ 0) × (0 < lowest f → 6 < lowest f)) → lowest f ≡ lowest early-of
-      go (inl e) = e
-      go (inr e) = absurd (omega (arith, e .1 h))
+-- .. and never 8
+pub given-stray : (g : Refusal → Bool) → Bookish g → givenBy g ≢ 8
+given-stray g G = rw (ladder g, G .g-size, G .g-cut, G .g-blank, G .g-stray, G .g-record) (go (g wrong-stage) (g no-such-place) (g done-already) (g wrong-tray) (g layers-differ) (g table-full))
+  where
+    go : (a b c d e f : Bool) → rungs a b c d e f ≢ 8
+    go true b c d e f z = omega arith
+    go false true c d e f z = omega arith
+    go false false true d e f z = omega arith
+    go false false false true e f z = omega arith
+    go false false false false true f z = omega arith
+    go false false false false false true z = omega arith
+    go false false false false false false z = omega arith

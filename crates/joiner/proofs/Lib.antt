@@ -25,3 +25,4 @@ pub mod Readings
 pub mod Simulation
 pub mod Statement3
 pub mod Sheets
+pub mod Linking

@@ -1,12 +1,13 @@
 -- Components made one step after another.
 -- Assumes nothing.
+use mathlib.Core.Bool.{true}
 use mathlib.Core.List.{List}
 use mathlib.Core.Logic.{_↔_, _⊎_, inl, inr}
 use mathlib.Core.Path.{_∙_, _≡_, ap, sym}
 use Prim.Native.Nat.{_<_, ℕ}
 use native.Mathlib.Omega.{arith}
 use lib.Dec.{T}
-use Rattle.union_find.specs.Links.{root}
+use Rattle.union_find.specs.Links.{root, soundAt}
 use Rattle.joiner.specs.Entries.{Merged, Together, back, joined, same, via}
 use Rattle.cells.proofs.GridLaws.{inside}
 use Rattle.union_find.proofs.LinkLaws.{root-idem, root-low}
@@ -24,9 +25,10 @@ together-keeps v h (joined r) = h _ _ r
 together-keeps v h (back l) = sym (together-keeps v h l)
 together-keeps v h (via l m) = together-keeps v h l ∙ together-keeps v h m
 
--- The components of the first n places are those that R makes of single ones.
+-- The components of the first n places are those that R makes of single ones, and no link there is longer than its place.
 pub record Connected (l : List ℕ) (n : ℕ) (R : ℕ → ℕ → Type 0) : Type 0 where
   pub one : (x y : ℕ) → x < n → y < n → (root l x ≡ root l y) ↔ Together (λ z. z) R x y
+  pub sound : (x : ℕ) → x < n → soundAt l x ≡ true
 
 -- one step more
 module _ (l m : List ℕ) (n : ℕ) (R S T : ℕ → ℕ → Type 0) (L : Connected l n R) (M : Merged l m S)
@@ -58,4 +60,5 @@ module _ (l m : List ℕ) (n : ℕ) (R S T : ℕ → ℕ → Type 0) (L : Connec
       (λ e. via (to-root x hx) (via (roots-together (M .one x y .0 e)) (back (to-root y hy)))),
       (λ k. M .one x y .1 (apart-together bound k)),
     );
+    sound = λ x h. M .sound x (L .sound x h);
   }

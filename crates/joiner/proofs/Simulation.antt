@@ -13,17 +13,18 @@ use Rattle.lists.specs.Lists.{isIn, tabulate}
 use Rattle.closure.specs.Joined.{edge}
 use Rattle.cells.specs.Box.{X}
 use Rattle.cells.specs.Extents.{offSize}
+use Rattle.cells.specs.Grid.{cells}
 use Rattle.cells.specs.Row.{sameRow}
 use Rattle.labels.specs.Components.{componentRow, firstCell, largest}
 use Rattle.labels.specs.Number.{numbered}
 use Rattle.cutting.specs.Cutting.{Cutting, blockExtents, blocks, goodCut}
-use Rattle.joiner.specs.Book.{Book, accepts, bookAdds, bookAfter, bookAnswer, bookRefusal, bringsOwn, entered, labelled, turned, uncut, uncutCount}
+use Rattle.joiner.specs.Book.{Book, accepts, bookAdds, bookAfter, bookAnswer, bookEarly, bookRefusal, bringsOwn, entered, labelled, turned, uncut, uncutCount}
 use Rattle.joiner.specs.Calls.{Answer, Call, answer, cross, enrol, join, look, placed, point, reading, repeated, stageOf}
-use Rattle.joiner.specs.Declines.{adds, pointCells, refusal}
+use Rattle.joiner.specs.Declines.{adds, lookStands, pointCells, refusal}
 use Rattle.joiner.specs.Entries.{CrossingDone, Done, EnrolDone, KeptFound, KeptNumbers, NumberedKind, PointDone, SeamDone, Step, lookedUp}
-use Rattle.joiner.specs.Job.{Closed, Crossing, Curve, Enrol, Face, Kind, Point, Points, Seam, Stage, State, Told, firstAt, orderOf, stageNumber, ticked, width}
+use Rattle.joiner.specs.Job.{Closed, Crossing, Curve, Enrol, Face, Kind, Point, Points, Seam, Stage, State, Told, countOf, firstAt, orderOf, stageNumber, ticked, width}
 use Rattle.joiner.specs.Sheets.{lastState}
-use Rattle.joiner.specs.Stages.{codesOf, crossingStep, enrolStep, finished, hasCell, nextAfter, nextStage, pointStep, seamStep, seams, stepsOf}
+use Rattle.joiner.specs.Stages.{codesOf, crossingStep, enrolStep, finished, hasCell, local, nextAfter, nextStage, pointStep, seamStep, seams, stepsOf}
 use Rattle.joiner.specs.Statement.{Agrees, AllDone, Brings, Entry, Fair, Labelling, Measured, Run, Uncut}
 use Rattle.lists.proofs.Cases.{and-both, and-left, and-right, by-test, picked}
 use Rattle.lists.proofs.Lists.{consecutive-in}
@@ -34,7 +35,9 @@ use Rattle.joiner.proofs.Classes.{vol}
 use Rattle.joiner.proofs.Crossings.{cross-keeps, point-keeps}
 use Rattle.joiner.proofs.Enrolling.{enrol-keeps}
 use Rattle.joiner.proofs.Final.{Final, cells-final, final-points, finals, more-points, point-adds, uncut-is, volume-map}
-use Rattle.joiner.proofs.Inv.{In, Inv, cross-agrees, early-agrees, early-only, enrol-agrees, enrolled, join-agrees, lookup-agrees, point-agrees, reading-agrees}
+use Rattle.joiner.proofs.Inv.{In, Inv, block-in, book-early, book-passed, book-stray, cross-agrees, early-agrees, early-only, enrol-agrees, enrolled, join-agrees, lookup-agrees, point-agrees, reading-agrees}
+use Rattle.joiner.proofs.Codes.{has-held}
+use Rattle.joiner.proofs.Linking.{Enrolled, curves-stand, look-stands}
 use Rattle.joiner.proofs.Own.{labelling-labelled}
 use Rattle.joiner.proofs.Points.{PointsSo, points-more, points-none, pointsOf}
 use Rattle.joiner.proofs.Progress.{closed-all, crossing-level, point-level, stepStage}
@@ -109,6 +112,9 @@ module _ (o : Told) (own : ℕ → List ℕ) (ext : offSize 1024 (o .cutting .ex
     places (look b m c) h = refl
     places (reading κ n) h = ap (λ (x : ℕ). ltb 0 n && leb n x) (total-at (h ∙ numbers-of .4) κ)
 
+    enrolled-block : 3 ≤ stageNumber (B .stage) → (b : ℕ) → b < blocks (o .cutting) → Enrolled s b Face × Enrolled s b Curve
+    enrolled-block l b hb = block-in o own ext good lab B s I b hb (enrolled o own ext good lab B s I (omega (arith, l)) b hb)
+
     -- ---- the refusal of a call with its blocks' maps
 
     own-refused : (c : Call) → bringsOwn B c ≡ true → refusal s c ≡ bookRefusal B c
@@ -120,7 +126,18 @@ module _ (o : Told) (own : ℕ → List ℕ) (ext : offSize 1024 (o .cutting .ex
         (λ h hb q κ.
         let l : 3 ≤ stageNumber (B .stage) = omega arith in
         ap (λ (x : List ℕ). adds s (point b x) κ) q ∙ point-adds o own good lab B s I l (S .final-two l .1) b hb κ ∙ ap (λ (x : List ℕ). bookAdds B (point b x) κ) (sym q))
-    own-refused (look b m c) e = lookup-agrees o own ext good lab B s I b m c e
+        (λ h hb.
+        let l : 3 ≤ stageNumber (B .stage) = omega arith in
+        curves-stand s b (S .final-two l .1 .within) (enrolled-block l b hb .1))
+    own-refused (look b m c) e =
+        lookup-agrees o own ext good lab B s I b m c e
+        (λ h hb has q.
+        let l : 3 ≤ stageNumber (B .stage) = omega arith in
+        ap₂ (λ (z : Told) (x : List ℕ). lookStands s b x (local (z .cutting) b c)) (I .told) q
+        ∙ look-stands s b (own b) (local (o .cutting) b c)
+        (subst (λ (z : Told). local (o .cutting) b c < cells (blockExtents (z .cutting) b)) (sym (I .told)) (has-held (o .cutting) good b hb c has .0))
+        (λ κ. subst (λ (z : Told). largest (blockExtents (z .cutting) b) (own b) (orderOf κ) ≤ countOf (s .tables) κ b) (sym (I .told)) (omega (arith, I .counts κ b hb (enrolled o own ext good lab B s I (omega (arith, l)) b hb))))
+        (S .final-two l .0 .within, S .final-two l .1 .within) (enrolled-block l b hb))
     own-refused (reading κ n) e = reading-agrees o own ext good lab B s I κ n (λ h. total-at h κ)
 
     -- ---- what an accepted call passed
@@ -137,19 +154,30 @@ module _ (o : Told) (own : ℕ → List ℕ) (ext : offSize 1024 (o .cutting .ex
     past : (c : Call) → refusal s c ≡ 0 → 0 < stageNumber (stageOf c) → 0 < stageNumber (B .stage)
     past c r h = omega (arith, ap stageNumber (book-stage c r), h)
 
-    -- an accepted call brings what the book takes for its blocks' maps
-    brings : (c : Call) → refusal s c ≡ 0 → Brings own c → bringsOwn B c ≡ true
-    brings (enrol b m) r e =
-        ap₂ (λ (z : Told) (x : List ℕ). labelled (blockExtents (z .cutting) b) x) (I .btold) e ∙ labelling-labelled (blockExtents (o .cutting) b) (own b) (lab b (ltb-true _ _ (placed-at (enrol b m) r)))
-    brings (join b c m n) r e =
-        let l = seam-listed (o .cutting) b c (placed-at (join b c m n) r) in
-        let h = past (join b c m n) r (omega (arith, numbers-of .1)) in
+    -- a call in its stage, of blocks that there are, brings what the book takes for its blocks' maps
+    brings : (c : Call) (many : Kind → ℕ) → stageNumber (B .stage) ≡ stageNumber (stageOf c) → placed (o .cutting) many c ≡ true → Brings own c → bringsOwn B c ≡ true
+    brings (enrol b m) n q p e =
+        ap₂ (λ (z : Told) (x : List ℕ). labelled (blockExtents (z .cutting) b) x) (I .btold) e ∙ labelling-labelled (blockExtents (o .cutting) b) (own b) (lab b (ltb-true _ _ p))
+    brings (join b c m n) k q p e =
+        let l = seam-listed (o .cutting) b c p in
+        let h : 0 < stageNumber (B .stage) = omega (arith, q, numbers-of .1) in
         and-both (sameRow m (B .maps b)) (sameRow n (B .maps c)) (maps-at b (l .0) h m (e .0)) (maps-at c (l .1) h n (e .1))
-    brings (cross b m) r e = maps-at b (ltb-true _ _ (placed-at (cross b m) r)) (past (cross b m) r (omega (arith, numbers-of .2))) m e
-    brings (point b m) r e = maps-at b (ltb-true _ _ (placed-at (point b m) r)) (past (point b m) r (omega (arith, numbers-of .3))) m e
-    brings (look b m c) r e =
-        maps-at b (ltb-true _ _ (and-left (ltb b (blocks (o .cutting))) (hasCell (o .cutting) b c) (placed-at (look b m c) r))) (past (look b m c) r (omega (arith, numbers-of .4))) m e
-    brings (reading κ n) r e = refl
+    brings (cross b m) n q p e = maps-at b (ltb-true _ _ p) (omega (arith, q, numbers-of .2)) m e
+    brings (point b m) n q p e = maps-at b (ltb-true _ _ p) (omega (arith, q, numbers-of .3)) m e
+    brings (look b m c) n q p e = maps-at b (ltb-true _ _ (and-left (ltb b (blocks (o .cutting))) (hasCell (o .cutting) b c) p)) (omega (arith, q, numbers-of .4)) m e
+    brings (reading κ n) k q p e = refl
+
+    -- the refusal of a call with the blocks' maps
+    brought : (c : Call) → Brings own c → refusal s c ≡ bookRefusal B c
+    brought c e = by-test (eqb (bookEarly B c) 0) (λ t. late (eqb-true _ _ t)) (λ t. early (eqb-false _ _ t))
+      where
+        early : bookEarly B c ≢ 0 → refusal s c ≡ bookRefusal B c
+        early n = early-agrees o own ext good lab B s I c (places c) n ∙ sym (book-early o own ext good lab B s I c (places c) n)
+
+        late : bookEarly B c ≡ 0 → refusal s c ≡ bookRefusal B c
+        late z =
+            let w = book-passed o own ext good lab B s I c (places c) z in
+            own-refused c (brings c (uncutCount B) (w .0) (ap (λ (y : Told). placed (y .cutting) (uncutCount B) c) (sym (I .btold)) ∙ w .1) e)
 
     -- ---- an accepted step keeps all
 
@@ -256,6 +284,10 @@ module _ (o : Told) (own : ℕ → List ℕ) (ext : offSize 1024 (o .cutting .ex
           numbers = λ x hx.
               ap (λ (l : List ℕ). getD l x 0) (N .numbers) ∙ f .numbers x (omega (arith, e))
               ∙ ap (λ (l : List ℕ). getD (volume-map o own good lab) (getD l x 0 / 16384) 0) (sym (F .keys));
+          within = λ x hx.
+              let w = f .within x (omega (arith, e)) in
+              let q = ap (λ (l : List ℕ). getD l x 0) (N .numbers) in
+              (omega (arith, q, w .0), omega (arith, q, w .1, N .numbered));
           total = N .numbered ∙ f .total;
           firsts = subst (λ (n : ℕ). take n (t .tables .firsts κ) ≡ tabulate n (λ i. firstCell (o .cutting .extents) (volume-map o own good lab) (orderOf κ) (suc i))) (sym (N .numbered)) (ap (take (s .job .numbered κ)) (N .firsts) ∙ f .firsts);
           rows = subst (λ (n : ℕ). take (width κ * n) (t .tables .listed κ) ≡ tabulate (width κ * n) (λ i. getD (componentRow (o .cutting .extents) (volume-map o own good lab) (orderOf κ) (suc (i / width κ))) (i % width κ) 0)) (sym (N .numbered)) (ap (take (width κ * s .job .numbered κ)) (N .listed) ∙ f .rows);
@@ -350,7 +382,7 @@ module _ (o : Told) (own : ℕ → List ℕ) (ext : offSize 1024 (o .cutting .ex
     -- ---- one call of the list
 
     pub record OneCall (e : Entry) : Type 0 where
-      pub agrees : Agrees B e
+      pub agrees : Agrees own B e
       pub after : Sim (turned B (e .call)) (e .after)
 
     module _ (e : Entry) (P : Step s (e .call) (e .answer) (e .after)) (fair : e .answer .refusal ≡ 0 → Brings own (e .call)) where
@@ -358,7 +390,7 @@ module _ (o : Told) (own : ℕ → List ℕ) (ext : offSize 1024 (o .cutting .ex
       taken : refusal s (e .call) ≡ 0 → accepts B (e .call) ≡ true
       unfolding accepts
       taken r =
-          let w : bringsOwn B (e .call) ≡ true = brings (e .call) r (fair (P .told ∙ r)) in
+          let w : bringsOwn B (e .call) ≡ true = brings (e .call) (s .job .numbered) (ap stageNumber (book-stage (e .call) r)) (placed-at (e .call) r) (fair (P .told ∙ r)) in
           and-both (eqb (bookRefusal B (e .call)) 0) (bringsOwn B (e .call)) (eq-eqb _ _ (sym (own-refused (e .call) w) ∙ r)) w
 
       taken-back : accepts B (e .call) ≡ true → refusal s (e .call) ≡ 0
@@ -386,6 +418,8 @@ module _ (o : Told) (own : ℕ → List ℕ) (ext : offSize 1024 (o .cutting .ex
           record {
             agrees =
                 record {
+                  no-stray = λ w z. book-stray o own ext good lab B s I (e .call) (places (e .call)) (sym (P .told ∙ brought (e .call) w) ∙ z);
+                  brought = λ w. P .told ∙ brought (e .call) w;
                   refused = λ w. P .told ∙ own-refused (e .call) w;
                   early = λ n. P .told ∙ early-agrees o own ext good lab B s I (e .call) (places (e .call)) n;
                   early-only = λ h k. P .told ∙ early-only o own ext good lab B s I (e .call) (places (e .call)) (omega (arith, h, P .told)) (omega (arith, k, P .told));
@@ -416,7 +450,7 @@ module _ (o : Told) (own : ℕ → List ℕ) (ext : offSize 1024 (o .cutting .ex
 
   -- ---- the list
 
-  pub measured : (B : Book) (s : State) (es : List Entry) → Sim B s → Run s es → Fair own es → Measured B es
+  pub measured : (B : Book) (s : State) (es : List Entry) → Sim B s → Run s es → Fair own es → Measured own B es
   measured B s [] S R F = Measured.none
   measured B s (e ∷ es) S (Run.next P R) F = let k : OneCall B s S e = one-call B s S e P (F .0) in Measured.next (k .agrees) (measured (turned B (e .call)) (e .after) es (k .after) R (F .1))
 

@@ -9,7 +9,7 @@ use lib.Dec.{eqb}
 use lib.ListN.{getD, length, length-replicate}
 use borrow.Author.Tests.{not-false}
 use Rattle.lists.specs.Lists.{isIn, zeros}
-use Rattle.refusals.specs.Refusals.{Refusal, bad-cut, off-size, wrong-tray}
+use Rattle.refusals.specs.Refusals.{Refusal, bad-cut, number, off-size, standsIn, wrong-tray}
 use Rattle.cells.specs.Extents.{offSize}
 use Rattle.labels.specs.Number.{numbered}
 use Rattle.cutting.specs.Cutting.{blockExtents, blocks, goodCut}
@@ -17,7 +17,7 @@ use Rattle.joiner.specs.Book.{begun}
 use Rattle.joiner.specs.Entries.{Opened, allTrays, openDeclines, openRefusal}
 use Rattle.joiner.specs.Job.{Curve, Face, Kind, Point, State, Tables, Told, fits, stageNumber, ticked}
 use Rattle.joiner.specs.Statement.{Labelling, Statement3}
-use Rattle.refusals.proofs.RefusalLaws.{lowest-none}
+use Rattle.refusals.proofs.RefusalLaws.{given-none}
 use Rattle.joiner.proofs.Inv.{Inv, Kept}
 use Rattle.joiner.proofs.Progress.{progress-start}
 use Rattle.joiner.proofs.Simulation.{Sim, measured}
@@ -35,9 +35,9 @@ zeros-at (suc n) (suc i) = zeros-at n i
 
 -- what an accepted opening passed
 pub opened-passed : (o : Told) (lent : Tables) → openRefusal o lent ≡ 0 → (offSize 1024 (o .cutting .extents) ≡ false) × (goodCut (o .cutting) ≡ true) × (fits (allTrays o lent) ≡ true)
-unfolding openRefusal openDeclines
+unfolding openRefusal openDeclines standsIn number
 opened-passed o lent r =
-    let n : (z : Refusal) → openDeclines o lent z ≡ false = lowest-none (openDeclines o lent) .0 r in
+    let n : (z : Refusal) → standsIn (openDeclines o lent) z ≡ false = given-none (standsIn (openDeclines o lent)) .0 r in
     (n off-size, not-false _ (n bad-cut), not-false _ (n wrong-tray))
 
 -- the book and the service at the start
@@ -66,7 +66,7 @@ module _ (o : Told) (lent : Tables) (s : State) (own : ℕ → List ℕ) (P : Op
         cover = λ x h. absurd (omega (arith, P .fresh .sofar κ));
         seen = λ b m hb i h0 hm. absurd (List·Memᴰ·not-nil i);
         rows = λ b m i hb j h0 hm hi. absurd (List·Memᴰ·not-nil j);
-        linked = record { one = λ x y hx hy. absurd (omega (arith, P .fresh .sofar κ)) };
+        linked = record { one = λ x y hx hy. absurd (omega (arith, P .fresh .sofar κ)); sound = λ x h. absurd (omega (arith, P .fresh .sofar κ)) };
       }
 
   started : Inv o own (begun o) s

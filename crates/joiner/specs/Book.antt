@@ -1,12 +1,12 @@
 -- The day book (document 01): "fed what the opening and the calls bring, never job or tables". It judges each call by itself.
 -- Assumes nothing.
 use mathlib.Core.Bool.{Bool, true, false, not, cond, _&&_, _||_}
-use mathlib.Core.List.{List, [], _∷_}
+use mathlib.Core.List.{List, [], _∷_, _++_}
 use Prim.Native.Nat.{ℕ, _+_}
 use lib.Dec.{eqb}
 use lib.ListN.{getD, length}
 use Rattle.lists.specs.Lists.{tabulate, keep, isIn}
-use Rattle.refusals.specs.Refusals.{Refusal, off-size, bad-cut, wrong-stage, no-such-place, done-already, wrong-tray, blank-voxel, stray-label, layers-differ, table-full, bad-record, lowest}
+use Rattle.refusals.specs.Refusals.{wrong-stage, no-such-place, done-already, wrong-tray, layers-differ, table-full, Case, _if_, given}
 use Rattle.closure.specs.Joined.{edge}
 use Rattle.cells.specs.Box.{Triple, volume, index}
 use Rattle.cells.specs.Codes.{blank}
@@ -53,43 +53,30 @@ bookAdds B (point b m) Point =
 bookAdds B (look b m c) κ = 0
 bookAdds B (reading κ′ n) κ = 0
 
--- "3, 4, 5 and 9 as listed below, by cutting, stage, ticks and maps brought (too large is above the uncut count); 6 if a map's length is not
--- its block's cells; 10 .. if faces or curves so far plus the map's largest number of that order pass the table's entries, at a point step if
--- points so far plus the block's points active in the uncut volume do."
-unfoldable pub bookDeclines : Book → Call → Refusal → Bool
-bookDeclines B c off-size = false
-bookDeclines B c bad-cut = false
-bookDeclines B c wrong-stage = not (sameStage (B .stage) (stageOf c))
-bookDeclines B c no-such-place = not (placed (B .told .cutting) (uncutCount B) c)
-bookDeclines B c done-already = repeated (B .told .cutting) (isIn (B .done)) c
-bookDeclines B c wrong-tray = not (mapsFit (B .told .cutting) c)
-bookDeclines B c blank-voxel = false
-bookDeclines B c stray-label = false
-bookDeclines B c layers-differ = layersDiffer (B .told .cutting) c
-bookDeclines B c table-full = full (B .told .entries) (B .sofar) (bookAdds B c)
-bookDeclines B c bad-record = false
+-- "3, 4, 5 .. as listed below, by cutting, stage, ticks and maps brought (too large is above the uncut count); 6 if a map's length is not its
+-- block's cells": these "still go by the book", whatever map is brought.
+abbrev pub earlyCases : Book → Call → List Case
+earlyCases B c =
+    wrong-stage if not (sameStage (B .stage) (stageOf c)) ∷
+    no-such-place if not (placed (B .told .cutting) (uncutCount B) c) ∷
+    done-already if repeated (B .told .cutting) (isIn (B .done)) c ∷
+    wrong-tray if not (mapsFit (B .told .cutting) c) ∷
+    []
+
+-- .. "and 9 ..; 10 .. if faces or curves so far plus the map's largest number of that order pass the table's entries, at a point step if points so
+-- far plus the block's points active in the uncut volume do."
+unfoldable pub bookDeclines : Book → Call → List Case
+bookDeclines B c =
+    earlyCases B c ++
+    (layers-differ if layersDiffer (B .told .cutting) c ∷ table-full if full (B .told .entries) (B .sofar) (bookAdds B c) ∷ [])
 
 -- "The lowest case that stands refuses a call."
 unfoldable pub bookRefusal : Book → Call → ℕ
-bookRefusal B c = lowest (bookDeclines B c)
+bookRefusal B c = given (bookDeclines B c)
 
--- "3 to 6 still go by the book", whatever map is brought.
-unfoldable pub isEarly : Refusal → Bool
-isEarly off-size = false
-isEarly bad-cut = false
-isEarly wrong-stage = true
-isEarly no-such-place = true
-isEarly done-already = true
-isEarly wrong-tray = true
-isEarly blank-voxel = false
-isEarly stray-label = false
-isEarly layers-differ = false
-isEarly table-full = false
-isEarly bad-record = false
-
--- The lowest of these that stands, 0 for none.
+-- The lowest of 3 to 6 that stands, 0 for none.
 unfoldable pub bookEarly : Book → Call → ℕ
-bookEarly B c = lowest (λ r. isEarly r && bookDeclines B c r)
+bookEarly B c = given (earlyCases B c)
 
 -- A map that a labelling of a block of e voxels leaves: that of the codes at its voxels, none of which is 0.
 unfoldable pub voxelCodes : Triple → List ℕ → List ℕ

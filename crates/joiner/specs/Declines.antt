@@ -3,18 +3,19 @@
 use mathlib.Core.Bool.{Bool, true, false, not, cond, _&&_, _||_}
 use mathlib.Core.List.{List, [], _∷_, _++_, map}
 use Prim.Native.Nat.{ℕ, _+_, _*_}
-use lib.Dec.{eqb, leb}
+use lib.Dec.{eqb, leb, ltb}
 use lib.ListN.{getD, length}
 use Rattle.lists.specs.Lists.{consecutive, keep, allOf}
-use Rattle.refusals.specs.Refusals.{Refusal, off-size, bad-cut, wrong-stage, no-such-place, done-already, wrong-tray, blank-voxel, stray-label, layers-differ, table-full, bad-record, lowest}
+use Rattle.refusals.specs.Refusals.{off-size, bad-cut, wrong-stage, no-such-place, done-already, wrong-tray, stray-label, layers-differ, table-full, Case, _if_, given}
+use Rattle.union_find.specs.Links.{soundBelow, soundWays}
 use Rattle.cells.specs.Box.{Triple}
 use Rattle.cells.specs.Extents.{offSize}
-use Rattle.cells.specs.Grid.{up}
+use Rattle.cells.specs.Grid.{order, up}
 use Rattle.cells.specs.Row.{rowOf, occupied}
 use Rattle.labels.specs.Components.{ofOrder, largest}
 use Rattle.cutting.specs.Cutting.{Cutting, blockExtents, goodCut}
 use Rattle.joiner.specs.Job.{Kind, Face, Curve, Point, orderOf, Crossing, sameStage, Told, Job, Tables, State, Tray, ticked, countOf, fromOf, node, fits, blockTrays, linkTrays, foundTrays, numberTrays, firstTrays, listedTrays, kindTrays}
-use Rattle.joiner.specs.Stages.{crossingStep, finished}
+use Rattle.joiner.specs.Stages.{local, crossingStep, finished}
 use Rattle.joiner.specs.Calls.{Call, enrol, join, cross, point, look, reading, stageOf, repeated, placed, mapsFit, layersDiffer, full}
 
 -- ---- 6: the tables that a call is lent
@@ -30,9 +31,9 @@ lentTo o t (reading κ n) = listedTrays o t Face ++ listedTrays o t Curve ++ lis
 
 -- ---- 8: stray labels, tallies and entries
 
--- "A tally in the job is above its table's entries", or more is numbered than enrolled or found.
+-- "A tally in the job is above its table's entries": what is enrolled or found of a kind, and what is numbered.
 unfoldable pub tallyFits : Job → Kind → Bool
-tallyFits j κ = leb (j .sofar κ) (j .told .entries κ) && leb (j .numbered κ) (j .sofar κ)
+tallyFits j κ = leb (j .sofar κ) (j .told .entries κ) && leb (j .numbered κ) (j .told .entries κ)
 
 -- .. for no kind.
 unfoldable pub talliesFit : Job → Bool
@@ -46,30 +47,64 @@ filled e m = allOf (λ p. not (eqb (getD m p 0) 0)) (ofOrder e 3)
 unfoldable pub counted : Tables → Triple → ℕ → List ℕ → Kind → Bool
 counted t e b m κ = leb (largest e m (orderOf κ)) (countOf t κ b)
 
--- "An entry read points outside its table": the block's faces and curves stand among the enrolled ones.
+-- "An entry read points outside its table": the block's faces and curves, first place and count, stay within their table's entries.
 unfoldable pub standing : State → ℕ → Kind → Bool
-standing s b κ = leb (fromOf (s .tables) κ b + countOf (s .tables) κ b) (s .job .sofar κ)
+standing s b κ = leb (fromOf (s .tables) κ b + countOf (s .tables) κ b) (s .job .told .entries κ)
 
 -- .. all of this for the map m of block b, of e voxels.
 unfoldable pub mapStands : State → Triple → ℕ → List ℕ → Bool
 mapStands s e b m =
     filled e m && (counted (s .tables) e b m Face && (counted (s .tables) e b m Curve && (counted (s .tables) e b m Point && (standing s b Face && standing s b Curve))))
 
--- .. and, at the last crossing, which numbers all: the faces in the rows of curves are enrolled ones.
+-- "An enrolled component is joined in its table to a later one or to none": a link is a distance back, so it leads to none where it is longer than
+-- its place. Looked at is every link on the way from each of the block's faces or curves to its first one.
+unfoldable pub waysStand : State → ℕ → Kind → Bool
+waysStand s b κ = soundWays (s .tables .links κ) (fromOf (s .tables) κ b) (countOf (s .tables) κ b)
+
+-- .. of both kinds.
+unfoldable pub linksStand : State → ℕ → Bool
+linksStand s b = waysStand s b Face && waysStand s b Curve
+
+-- .. and, at the last crossing, which reads them all, every link of an enrolled one.
+unfoldable pub allLinksStand : State → Bool
+allLinksStand s = soundBelow (s .tables .links Face) (s .job .sofar Face) && soundBelow (s .tables .links Curve) (s .job .sofar Curve)
+
+-- "An entry read points outside its table", at the last crossing: a face in the row of an enrolled curve, as place + 1.
 unfoldable pub rowsStand : State → Bool
-rowsStand s = allOf (λ i. leb (getD (s .tables .rows Curve) i 0) (s .job .sofar Face)) (consecutive 0 (4 * s .job .sofar Curve))
+rowsStand s = allOf (λ i. leb (getD (s .tables .rows Curve) i 0) (s .job .told .entries Face)) (consecutive 0 (4 * s .job .sofar Curve))
 
 -- With the crossing of block b all are done.
 unfoldable pub lastCrossing : State → ℕ → Bool
 lastCrossing s b = finished (s .job .told .cutting) (λ i. eqb (crossingStep b) i || ticked (s .tables) i) Crossing
 
+-- The final number at place x of a kind is one of the closed table's: 1 to the numbered count.
+unfoldable pub numberStands : State → Kind → ℕ → Bool
+numberStands s κ x = ltb 0 (getD (s .tables .numbers κ) x 0) && leb (getD (s .tables .numbers κ) x 0) (s .job .numbered κ)
+
+-- "An entry read points outside its table", at a point step: a final number of the block's curves.
+unfoldable pub curvesStand : State → ℕ → Bool
+curvesStand s b = allOf (numberStands s Curve) (consecutive (fromOf (s .tables) Curve b) (countOf (s .tables) Curve b))
+
+-- .. and at a lookup: the final number that it hands out, where the map has number n for its cell.
+unfoldable pub handedStands : State → ℕ → Kind → ℕ → Bool
+handedStands s b κ n = eqb n 0 || numberStands s κ (node (s .tables) κ b n)
+
+-- .. which is that of a face or a curve. A voxel hands out its code, and a point is found by its position.
+unfoldable pub lookStands : State → ℕ → List ℕ → ℕ → Bool
+lookStands s b m p =
+    cond (eqb (order (blockExtents (s .job .told .cutting) b) p) 2) (handedStands s b Face (getD m p 0))
+    (cond (eqb (order (blockExtents (s .job .told .cutting) b) p) 1) (handedStands s b Curve (getD m p 0)) true)
+
 -- The maps and entries that a call reads are no stray ones.
 abbrev pub standsFor : State → Call → Bool
 standsFor s (enrol b m) = filled (blockExtents (s .job .told .cutting) b) m
-standsFor s (join b c m n) = mapStands s (blockExtents (s .job .told .cutting) b) b m && mapStands s (blockExtents (s .job .told .cutting) c) c n
-standsFor s (cross b m) = mapStands s (blockExtents (s .job .told .cutting) b) b m && cond (lastCrossing s b) (rowsStand s) true
-standsFor s (point b m) = mapStands s (blockExtents (s .job .told .cutting) b) b m
-standsFor s (look b m c) = mapStands s (blockExtents (s .job .told .cutting) b) b m
+standsFor s (join b c m n) =
+    mapStands s (blockExtents (s .job .told .cutting) b) b m &&
+    (mapStands s (blockExtents (s .job .told .cutting) c) c n && (linksStand s b && linksStand s c))
+standsFor s (cross b m) =
+    mapStands s (blockExtents (s .job .told .cutting) b) b m && (linksStand s b && cond (lastCrossing s b) (rowsStand s && allLinksStand s) true)
+standsFor s (point b m) = mapStands s (blockExtents (s .job .told .cutting) b) b m && curvesStand s b
+standsFor s (look b m c) = mapStands s (blockExtents (s .job .told .cutting) b) b m && lookStands s b m (local (s .job .told .cutting) b c)
 standsFor s (reading κ n) = true
 
 -- 8: a tally, a map or an entry read is a stray one.
@@ -114,20 +149,20 @@ cutFor s (point b m) = goodCut (s .job .told .cutting)
 cutFor s (look b m c) = goodCut (s .job .told .cutting)
 cutFor s (reading κ n) = true
 
--- When each refusal applies. Numbers 7 and 11 are none of the joiner's.
-unfoldable pub declines : State → Call → Refusal → Bool
-declines s c off-size = offSize 1024 (s .job .told .cutting .extents)
-declines s c bad-cut = not (cutFor s c)
-declines s c wrong-stage = not (sameStage (s .job .stage) (stageOf c))
-declines s c no-such-place = not (placed (s .job .told .cutting) (s .job .numbered) c)
-declines s c done-already = repeated (s .job .told .cutting) (ticked (s .tables)) c
-declines s c wrong-tray = not (mapsFit (s .job .told .cutting) c && fits (lentTo (s .job .told) (s .tables) c))
-declines s c blank-voxel = false
-declines s c stray-label = stray s c
-declines s c layers-differ = layersDiffer (s .job .told .cutting) c
-declines s c table-full = full (s .job .told .entries) (s .job .sofar) (adds s c)
-declines s c bad-record = false
+-- The cases of a step or a reading. Of these a call gives 5 only if it is a step, 9 only if it is a seam's, and 10 only if it adds components.
+unfoldable pub declines : State → Call → List Case
+declines s c =
+    off-size if offSize 1024 (s .job .told .cutting .extents) ∷
+    bad-cut if not (cutFor s c) ∷
+    wrong-stage if not (sameStage (s .job .stage) (stageOf c)) ∷
+    no-such-place if not (placed (s .job .told .cutting) (s .job .numbered) c) ∷
+    done-already if repeated (s .job .told .cutting) (ticked (s .tables)) c ∷
+    wrong-tray if not (mapsFit (s .job .told .cutting) c && fits (lentTo (s .job .told) (s .tables) c)) ∷
+    stray-label if stray s c ∷
+    layers-differ if layersDiffer (s .job .told .cutting) c ∷
+    table-full if full (s .job .told .entries) (s .job .sofar) (adds s c) ∷
+    []
 
 -- The number with which a call is refused, 0 where it is accepted.
 unfoldable pub refusal : State → Call → ℕ
-refusal s c = lowest (declines s c)
+refusal s c = given (declines s c)

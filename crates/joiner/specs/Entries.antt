@@ -3,15 +3,15 @@
 -- Assumes nothing.
 use mathlib.Core.Path.{_≡_}
 use mathlib.Core.Logic.{_↔_, _≢_}
-use mathlib.Core.Bool.{Bool, false, not, cond, _&&_, _||_}
+use mathlib.Core.Bool.{Bool, true, false, not, cond, _&&_, _||_}
 use mathlib.Core.List.{List, [], _∷_, _++_, map, List·Memᴰ}
 use Prim.Native.Nat.{ℕ, zero, suc, _+_, _-_, _*_, _/_, _%_}
 use lib.Dec.{eqb, leb, ltb}
 use lib.ListN.{getD, length, set, take, drop}
 use Rattle.lists.specs.Lists.{consecutive, tabulate, keep, zeros, allOf, overlay}
-use Rattle.refusals.specs.Refusals.{Refusal, off-size, bad-cut, wrong-stage, no-such-place, done-already, wrong-tray, blank-voxel, stray-label, layers-differ, table-full, bad-record, lowest}
+use Rattle.refusals.specs.Refusals.{off-size, bad-cut, wrong-tray, Case, _if_, given}
 use Rattle.closure.specs.Joined.{Edge, edge}
-use Rattle.union_find.specs.Links.{root, Rooted}
+use Rattle.union_find.specs.Links.{root, soundAt, Rooted}
 use Rattle.cells.specs.Box.{Triple, triple, index}
 use Rattle.cells.specs.Extents.{offSize}
 use Rattle.cells.specs.Grid.{sides, order, up}
@@ -30,22 +30,12 @@ unfoldable pub allTrays : Told → Tables → List Tray
 allTrays o t = blockTrays o t ++ linkTrays o t ++ kindTrays o t Face ++ kindTrays o t Curve ++ kindTrays o t Point
 
 -- "1 off size", "2 bad cut", "6 wrong tray".
-unfoldable pub openDeclines : Told → Tables → Refusal → Bool
-openDeclines o t off-size = offSize 1024 (o .cutting .extents)
-openDeclines o t bad-cut = not (goodCut (o .cutting))
-openDeclines o t wrong-stage = false
-openDeclines o t no-such-place = false
-openDeclines o t done-already = false
-openDeclines o t wrong-tray = not (fits (allTrays o t))
-openDeclines o t blank-voxel = false
-openDeclines o t stray-label = false
-openDeclines o t layers-differ = false
-openDeclines o t table-full = false
-openDeclines o t bad-record = false
+unfoldable pub openDeclines : Told → Tables → List Case
+openDeclines o t = off-size if offSize 1024 (o .cutting .extents) ∷ bad-cut if not (goodCut (o .cutting)) ∷ wrong-tray if not (fits (allTrays o t)) ∷ []
 
--- The lowest that stands, 0 for none.
+-- What is given, 0 for none.
 unfoldable pub openRefusal : Told → Tables → ℕ
-openRefusal o t = lowest (openDeclines o t)
+openRefusal o t = given (openDeclines o t)
 
 -- The tables that an opening leaves: no step is ticked, and all else may hold another job's numbers.
 pub record Cleared (lent t : Tables) : Type 0 where
@@ -97,10 +87,11 @@ pub data Together (f : ℕ → ℕ) (R : ℕ → ℕ → Type 0) : ℕ → ℕ �
   back : {x y : ℕ} → Together f R x y → Together f R y x
   via : {x y z : ℕ} → Together f R x y → Together f R y z → Together f R x z
 
--- The links afterwards: what was one stays one, what R relates becomes one, and nothing else.
+-- The links afterwards: what was one stays one, what R relates becomes one, and nothing else. None is made longer than its place.
 pub record Merged (before after : List ℕ) (R : ℕ → ℕ → Type 0) : Type 0 where
   pub size : length after ≡ length before
   pub one : (x y : ℕ) → (root after x ≡ root after y) ↔ Together (root before) R x y
+  pub sound : (x : ℕ) → soundAt before x ≡ true → soundAt after x ≡ true
 
 -- "Numbers of one active face or curve cell seen from both blocks become the same component."
 pub record AtSeam (k : Cutting) (t : Tables) (κ : Kind) (b c : ℕ) (m n : List ℕ) (x y : ℕ) : Type 0 where

@@ -61,9 +61,13 @@ pub record Uncut (B : Book) (s : State) (κ : Kind) : Type 0 where
   pub rows : take (width κ * s .job .numbered κ) (s .tables .listed κ)
       ≡ tabulate (width κ * s .job .numbered κ) (λ i. getD (componentRow (B .told .cutting .extents) (uncut B) (orderOf κ) (suc (i / width κ))) (i % width κ) 0)
 
--- "Compared with it are each call's refusal, each reading's answer, whether the job is closed, and a closed job's tables."
-pub record Agrees (B : Book) (e : Entry) : Type 0 where
-  -- a call with its blocks' maps is refused exactly as the book says: never with 8
+-- "Compared with it are each call's refusal, each reading's answer, whether the job is closed, and a closed job's tables." The maps `own` are
+-- those of the list's labellings.
+pub record Agrees (own : ℕ → List ℕ) (B : Book) (e : Entry) : Type 0 where
+  -- "a call with such maps is never refused with 8, and gets any other refusal exactly when the day book gives it"
+  pub no-stray : Brings own (e .call) → e .answer .refusal ≢ 8
+  pub brought : Brings own (e .call) → e .answer .refusal ≡ bookRefusal B (e .call)
+  -- .. and so does one with maps that the book takes for its blocks'
   pub refused : bringsOwn B (e .call) ≡ true → e .answer .refusal ≡ bookRefusal B (e .call)
   -- with any map, 1 to 6 go by the book, whose numbers are 3 to 6
   pub early : bookEarly B (e .call) ≢ 0 → e .answer .refusal ≡ bookEarly B (e .call)
@@ -75,9 +79,9 @@ pub record Agrees (B : Book) (e : Entry) : Type 0 where
   pub tables : e .after .job .stage ≡ Closed → (κ : Kind) → Uncut (turned B (e .call)) (e .after) κ
 
 -- The whole list against the book, which turns by the calls alone.
-pub data Measured : Book → List Entry → Type 0 where
-  none : {B : Book} → Measured B []
-  next : {B : Book} {e : Entry} {es : List Entry} → Agrees B e → Measured (turned B (e .call)) es → Measured B (e ∷ es)
+pub data Measured (own : ℕ → List ℕ) : Book → List Entry → Type 0 where
+  none : {B : Book} → Measured own B []
+  next : {B : Book} {e : Entry} {es : List Entry} → Agrees own B e → Measured own (turned B (e .call)) es → Measured own B (e ∷ es)
 
 -- For every accepted opening with any allowed cutting and any tables, every list of calls after it, refused ones included: if the accepted
 -- ones brought the map that one labelling of each block left, the same for all calls, then the list is what the book says.
@@ -88,4 +92,4 @@ Statement3 =
     → ((b : ℕ) → b < blocks (o .cutting) → Labelling (blockExtents (o .cutting) b) (own b))
     → Run s es
     → Fair own es
-    → Measured (begun o) es
+    → Measured own (begun o) es

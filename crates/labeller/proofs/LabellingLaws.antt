@@ -12,8 +12,8 @@ use lib.Seq.{drop-cons}
 use borrow.Author.Tests.{eqb-true, eq-eqb, ne-eqb, not-false}
 use Rattle.lists.specs.Lists.{tabulate, zeros}
 use Rattle.lists.proofs.Cases.{and-left, and-right}
-use Rattle.refusals.specs.Refusals.{off-size, wrong-tray, number, table, first, lowest}
-use Rattle.refusals.proofs.RefusalLaws.{lowest-none}
+use Rattle.refusals.specs.Refusals.{off-size, wrong-tray, number, table, first, givenBy, standsIn}
+use Rattle.refusals.proofs.RefusalLaws.{given-none}
 use Rattle.closure.specs.Joined.{Edge, joins, rep}
 use Rattle.closure.proofs.Rooted.{joins-ext}
 use Rattle.union_find.specs.Links.{root, Rooted}
@@ -34,7 +34,7 @@ use Rattle.labeller.specs.Labelling.{wrongTray, declines, refusalOf, Rea
 -- the refusal as a ladder of tests
 pub refusal-is : (e : Triple) (codes : List ℕ) (n m : ℕ)
     → refusalOf e codes n m ≡ cond (offSize 64 e) 1 (cond (wrongTray e (length codes) n m) 6 (cond (blank codes) 7 0))
-unfolding refusalOf lowest first table number declines
+unfolding refusalOf givenBy first table number standsIn declines
 refusal-is e codes n m = refl
 
 -- t is the value of the code's test, b the test of the definition
@@ -47,9 +47,9 @@ module _ {A : Type 0} (t b : Bool) (r x y : A) where
 
 -- what is right where nothing is refused
 pub ready-of : (e : Triple) (codes : List ℕ) (n m : ℕ) → refusalOf e codes n m ≡ 0 → Ready e (length codes) n m
-unfolding refusalOf wrongTray declines
+unfolding refusalOf wrongTray declines standsIn number
 ready-of e codes n m h =
-    let none = lowest-none (declines e codes n m) .0 h in
+    let none = given-none (standsIn (declines e codes n m)) .0 h in
     let a = not-false (eqb (length codes) (volume e) && (eqb n (cells e) && eqb m (cells e))) (none wrong-tray) in
     let b = and-right (eqb (length codes) (volume e)) (eqb n (cells e) && eqb m (cells e)) a in
     record {

@@ -7,7 +7,7 @@ use Prim.Native.Nat.{ℕ}
 use lib.Dec.{eqb}
 use lib.ListN.{length}
 use Rattle.lists.specs.Lists.{zeros}
-use Rattle.refusals.specs.Refusals.{Refusal, off-size, bad-cut, wrong-stage, no-such-place, done-already, wrong-tray, blank-voxel, stray-label, layers-differ, table-full, bad-record, lowest}
+use Rattle.refusals.specs.Refusals.{off-size, wrong-tray, blank-voxel, Case, _if_, given}
 use Rattle.cells.specs.Box.{Triple, volume}
 use Rattle.cells.specs.Grid.{cells}
 use Rattle.cells.specs.Codes.{blank}
@@ -20,23 +20,13 @@ use Rattle.labeller.specs.declared.Labelled.{Labelled}
 unfoldable pub wrongTray : Triple → ℕ → ℕ → ℕ → Bool
 wrongTray e codes map work = not (eqb codes (volume e) && (eqb map (cells e) && eqb work (cells e)))
 
--- When each refusal applies. The trays go in by their lengths.
-unfoldable pub declines : Triple → List ℕ → ℕ → ℕ → Refusal → Bool
-declines e codes map work off-size = offSize 64 e
-declines e codes map work bad-cut = false
-declines e codes map work wrong-stage = false
-declines e codes map work no-such-place = false
-declines e codes map work done-already = false
-declines e codes map work wrong-tray = wrongTray e (length codes) map work
-declines e codes map work blank-voxel = blank codes
-declines e codes map work stray-label = false
-declines e codes map work layers-differ = false
-declines e codes map work table-full = false
-declines e codes map work bad-record = false
+-- The cases of `label`. The trays go in by their lengths.
+unfoldable pub declines : Triple → List ℕ → ℕ → ℕ → List Case
+declines e codes map work = off-size if offSize 64 e ∷ wrong-tray if wrongTray e (length codes) map work ∷ blank-voxel if blank codes ∷ []
 
 -- The refusal of a call, 0 for none.
 unfoldable pub refusalOf : Triple → List ℕ → ℕ → ℕ → ℕ
-refusalOf e codes map work = lowest (declines e codes map work)
+refusalOf e codes map work = given (declines e codes map work)
 
 -- The answer, and what the map tray and the working tray hold.
 pub record Outcome : Type 0 where

@@ -1,9 +1,10 @@
 -- The tests by lengths are the joiner's, and an accepted lookup answers what the joiner asks for.
 -- Assumes nothing.
 use mathlib.Core.Path.{_≡_, refl, sym, ap, _∙_}
-use mathlib.Core.Bool.{Bool, true, false, not, _&&_}
+use mathlib.Core.Bool.{Bool, true, false, not, cond, _&&_}
 use mathlib.Core.List.{List, [], _++_}
 use Prim.Native.Nat.{ℕ, _<_}
+use native.Mathlib.Omega.{arith}
 use lib.Dec.{eqb, ltb}
 use borrow.Author.Tests.{eqb-true, ltb-true, not-true, not-false}
 use Rattle.lists.proofs.Cases.{and-left, and-right}
@@ -12,11 +13,10 @@ use Rattle.cells.specs.Extents.{Sized}
 use Rattle.cells.specs.Grid.{cells}
 use Rattle.cutting.specs.Cutting.{Cutting, blocks, blockExtents, goodCut}
 use Rattle.joiner.specs.Job.{Kind, Face, Curve, Point, Closed, State, fits, blockTrays, numberTrays, firstTrays}
-use Rattle.joiner.specs.Stages.{hasCell}
+use Rattle.joiner.specs.Stages.{hasCell, local}
 use Rattle.joiner.specs.Calls.{Call, look, answer, mapsFit}
-use Rattle.joiner.specs.Declines.{adds, lentTo, refusal, standsFor, talliesFit}
-use Rattle.joiner.specs.Entries.{Step, lookedUp}
-use Rattle.model.proofs.Facts.{Facts, facts}
+use Rattle.joiner.specs.Declines.{adds, lentTo, lookStands, refusal, standsFor, talliesFit}
+use Rattle.joiner.specs.Entries.{Step}
 use Rattle.blocks.specs.Blocks.{anyExtents, sizeOf, Tells, hasIn}
 use Rattle.blocks.specs.declared.Block.{Block}
 use Rattle.blocks.proofs.BlockLaws.{has-told}
@@ -24,11 +24,28 @@ use Rattle.job.specs.declared.Job.{Job}
 use Rattle.job.specs.Jobs.{anyCuts, jobOf, toldOf, stateOf}
 use Rattle.job.proofs.JobLaws.{fits-append}
 use Rattle.steps.specs.declared.Entry.{Entry}
-use Rattle.steps.specs.Steps.{openedOf, entryOf, placedOf, lateOf, mapStandsIn}
-use Rattle.steps.proofs.StepLaws.{Passed, opened-passed, or-first, or-then, or-none, refusal-opened, late-none, block-sized, stands-is, step-refused, step-accepted}
+use Rattle.steps.specs.Steps.{orElse, openedOf, entryOf, placedOf, lateOf, mapStandsIn}
+use Rattle.steps.proofs.StepLaws.{Passed, opened-passed, or-first, or-then, or-none, or-else-assoc, refusal-opened, late-none, block-sized, stands-is, step-refused, step-accepted}
+use Rattle.lookup.specs.declared.Looked.{Looked}
 use Rattle.lookup.specs.declared.Sizes.{Sizes}
-use Rattle.lookup.specs.Inner.{lent, sizesOf, traysFit, standIn, restOf, refusalOf, Ready, HasPlace}
+use Rattle.lookup.specs.Inner.{lent, sizesOf, traysFit, standIn, restOf, refusalOf, Ready, HasPlace, Looks}
 use Rattle.lookup.proofs.NumberLaws.{place-there}
+
+and-two : (a b c : Bool) → (a && (b && c)) ≡ ((a && b) && c)
+and-two true b c = refl
+and-two false b c = refl
+
+four-none : (a : Bool) (x : ℕ) → _≡_ {A = ℕ} (cond (not a) 4 x) 0 → a ≡ true
+four-none true x h = refl
+four-none false x h = absurd (omega arith)
+
+-- 8 decided in two steps, the second after all others
+last-decided : (place trays a b : Bool) → _≡_ {A = ℕ} (cond (not place) 4 (cond (not trays) 6 (cond (not (a && b)) 8 0))) (orElse (cond (not place) 4 (cond (not trays) 6 (cond (not a) 8 0))) (cond (not b) 8 0))
+unfolding orElse
+last-decided true true true b = refl
+last-decided true true false b = refl
+last-decided true false a b = refl
+last-decided false trays a b = refl
 
 -- ---- the ways of `has_place`
 
@@ -44,13 +61,13 @@ module _ (cx cy cz : List ℕ) (b : ℕ) (c : Triple) (t : Bool) (h : anyExtents
 
 module _ (j : Job) (e : Triple) (d : Entry) (m : List ℕ) (t : Bool) (h : anyCuts (λ cx cy cz. t ≡ talliesFit (jobOf j cx cy cz))) where
   abbrev Stands : Bool → Type 0
-  Stands u = anyCuts (λ cx cy cz. u ≡ standIn (talliesFit (jobOf j cx cy cz)) e d (j .faces) (j .curves) m)
+  Stands u = anyCuts (λ cx cy cz. u ≡ standIn (talliesFit (jobOf j cx cy cz)) e d (j .«face_entries») (j .«curve_entries») m)
 
   pub stands-none : not t ≡ true → Stands false
   unfolding standIn
   stands-none p cx cy cz = rw (sym (h cx cy cz) ∙ not-true t p)
 
-  pub stands-map : not t ≡ false → (u : Bool) → u ≡ mapStandsIn e d (j .faces) (j .curves) m → Stands u
+  pub stands-map : not t ≡ false → (u : Bool) → u ≡ mapStandsIn e d (j .«face_entries») (j .«curve_entries») m → Stands u
   unfolding standIn
   stands-map p u q cx cy cz = rw (sym (h cx cy cz) ∙ not-false t p) q
 
@@ -123,34 +140,47 @@ module _ (j : Job) (cx cy cz ticks table faces curves points : List ℕ) (b : �
       ap (λ (x : Bool). mapsFit k call && x)
       (fits-append B (F ++ C ++ P) ∙ ap (λ (x : Bool). fits B && x) (fits-append F (C ++ P) ∙ ap (λ (x : Bool). fits F && x) (fits-append C P)))
 
-  stands-told : (talliesFit (before .job) && standsFor before call)
-      ≡ standIn (talliesFit (jobOf j cx cy cz)) (blockExtents k b) (entryOf table b) (j .faces) (j .curves) m
+  abbrev trays : Bool
+  trays = traysFit (blocks k) (blockExtents k b) (j .«face_entries») (j .«curve_entries») (j .«point_entries») (sizesOf ticks table faces curves points m)
+
+  abbrev first-part : Bool
+  first-part = standIn (talliesFit (jobOf j cx cy cz)) (blockExtents k b) (entryOf table b) (j .«face_entries») (j .«curve_entries») m
+
+  abbrev last-part : Bool
+  last-part = lookStands before b m (local k b c)
+
+  stands-told : (talliesFit (before .job) && standsFor before call) ≡ (first-part && last-part)
   unfolding standIn
-  stands-told = rw (stands-is before (blockExtents k b) b m)
+  stands-told = rw (stands-is before (blockExtents k b) b m) (and-two (talliesFit (before .job)) _ last-part)
 
   none : (κ : Kind) → adds before call κ ≡ 0
   unfolding adds
   none κ = refl
 
-  pub refusal-is : refusal before call ≡ refusalOf j cx cy cz (sizesOf ticks table faces curves points m) table b m c
+  -- the final number that is handed out is tested last
+  pub refusal-is : refusal before call ≡ orElse (refusalOf j cx cy cz (sizesOf ticks table faces curves points m) table b m c) (cond (not last-part) 8 0)
   unfolding refusalOf restOf placedOf lateOf
-  refusal-is = refusal-opened before call refl ∙ rw (← trays-is, ← stands-told, ← late-none before call none false)
+  refusal-is =
+      refusal-opened before call refl
+      ∙ rw (trays-is, late-none before call none false, stands-told)
+      (ap (orElse (openedOf (jobOf j cx cy cz) Closed)) (last-decided (ltb b (blocks k) && hasCell k b c) trays first-part last-part) ∙ or-else-assoc (openedOf (jobOf j cx cy cz) Closed) _ _)
 
   -- ---- an accepted lookup
 
   module _ (acc : Ready j cx cy cz ticks table faces curves points b m c) where
-    F : Facts before call
-    F = facts before call (refusal-is ∙ acc .none)
-
     passed : Passed (jobOf j cx cy cz) Closed
     unfolding refusalOf
     passed = opened-passed (jobOf j cx cy cz) Closed (or-none (openedOf (jobOf j cx cy cz) Closed) _ (acc .none) .0)
 
+    there : (ltb b (blocks k) && hasCell k b c) ≡ true
+    unfolding refusalOf
+    there = four-none (ltb b (blocks k) && hasCell k b c) _ (or-none (openedOf (jobOf j cx cy cz) Closed) _ (acc .none) .1)
+
     block-there : b < blocks k
-    block-there = ltb-true b (blocks k) (and-left (ltb b (blocks k)) (hasCell k b c) (F .at))
+    block-there = ltb-true b (blocks k) (and-left (ltb b (blocks k)) (hasCell k b c) there)
 
     pub cell-there : (r : Block) → Tells k b r → hasIn r c ≡ true
-    cell-there r T = has-told k b r T c ∙ and-right (ltb b (blocks k)) (hasCell k b c) (F .at)
+    cell-there r T = has-told k b r T c ∙ and-right (ltb b (blocks k)) (hasCell k b c) there
 
     pub cell-local : (r : Block) → Tells k b r → (hasIn r c ≡ true) × Sized 64 (sizeOf r)
     cell-local r T = (cell-there r T, block-sized k (passed .good) b block-there r T)
@@ -161,14 +191,18 @@ module _ (j : Job) (cx cy cz ticks table faces curves points : List ℕ) (b : �
   -- ---- the entry
 
   module _ (number′ : ℕ) (e : number′ ≡ refusalOf j cx cy cz (sizesOf ticks table faces curves points m) table b m c) where
-    told-number : number′ ≡ refusal before call
-    told-number = e ∙ sym refusal-is
-
     pub look-refused : (number′ ≡ 0 → ⊥) → Step before call (answer number′ 0 []) before
-    look-refused = step-refused before call number′ told-number
+    look-refused n = step-refused before call number′ (rw (refusal-is, ← e) (or-first number′ _ n)) n
 
     pub ready : number′ ≡ 0 → Ready j cx cy cz ticks table faces curves points b m c
     ready z = record { none = sym e ∙ z }
 
-    pub look-accepted : number′ ≡ 0 → (v : ℕ) → v ≡ lookedUp before b m c → Step before call (answer 0 v []) before
-    look-accepted z v q = step-accepted before call number′ told-number z (answer 0 v []) before refl (ap (λ (x : ℕ). answer 0 x []) q, refl)
+    module _ (z : number′ ≡ 0) (r : Looked) (L : Looks before b m c r) where
+      handed : (number : ℕ) → number ≡ cond (not (r .stands)) 8 0 → number ≡ refusal before call
+      handed number q = rw (refusal-is, ← e) (or-then number′ _ number z (q ∙ ap (λ (t : Bool). cond (not t) 8 0) (L .stands)))
+
+      pub look-stray : not (r .stands) ≡ true → Step before call (answer 8 0 []) before
+      look-stray p = step-refused before call 8 (handed 8 (rw p)) (λ h. omega (arith, h))
+
+      pub look-accepted : not (r .stands) ≡ false → Step before call (answer 0 (r .number) []) before
+      look-accepted p = step-accepted before call 0 (handed 0 (rw p)) refl (answer 0 (r .number) []) before refl (ap (λ (x : ℕ). answer 0 x []) (L .number), refl)

@@ -1,7 +1,7 @@
 -- The number by order and position is the joiner's `lookedUp`.
 -- Assumes nothing.
 use mathlib.Core.Path.{_≡_, sym, ap, _∙_}
-use mathlib.Core.Bool.{true}
+use mathlib.Core.Bool.{Bool, true}
 use mathlib.Core.List.{List}
 use Prim.Native.Nat.{ℕ, _+_, _-_, _*_, _%_, _≤_, _<_}
 use native.Mathlib.Omega.{arith}
@@ -15,7 +15,7 @@ use Rattle.cells.proofs.GridLaws.{odd-at}
 use Rattle.cutting.specs.Cutting.{Cutting, blocks, blockExtents, goodCut}
 use Rattle.joiner.specs.Job.{fromOf, node}
 use Rattle.joiner.specs.Stages.{local}
-use Rattle.joiner.specs.Declines.{finalOf}
+use Rattle.joiner.specs.Declines.{finalOf, handedStands, lookStands, numberStands}
 use Rattle.joiner.specs.Entries.{pointNumber, cellNumber, lookedUp}
 use Rattle.blocks.specs.Blocks.{originOf, sizeOf, Tells, hasIn, localIn, shiftIn, embedIn}
 use Rattle.blocks.specs.declared.Block.{Block}
@@ -23,8 +23,8 @@ use Rattle.blocks.proofs.BlockLaws.{in-low, in-high, local-told, shift-inside-t
 use Rattle.job.specs.declared.Job.{Job}
 use Rattle.job.specs.Jobs.{toldOf, stateOf}
 use Rattle.steps.specs.declared.Entry.{Entry}
-use Rattle.steps.specs.Steps.{entryOf}
-use Rattle.lookup.specs.Inner.{lent, finalIn, orderAt, HasPlace, numberIn}
+use Rattle.steps.specs.Steps.{entryOf, numberStandsIn}
+use Rattle.lookup.specs.Inner.{lent, finalIn, orderAt, HasPlace, numberIn, handedIn, lookIn}
 
 -- ---- the ways of `final_of`
 
@@ -108,6 +108,34 @@ module _ (j : Job) (d : Entry) (faces curves points : List ℕ) (n : ℕ) (c : T
       unfolding numberIn
       number-point h v p q = rw (← e, ne-eqb o 3 a, ne-eqb o 2 b, ne-eqb o 1 h, ← p) q
 
+-- ---- the ways of `handed_stands` and `number_handed`
+
+module _ (numbers : List ℕ) (most from n : ℕ) where
+  pub handed-none : n ≡ 0 → true ≡ handedIn numbers most from n
+  unfolding handedIn
+  handed-none e = rw (eq-eqb n 0 e)
+
+  pub handed-some : (n ≡ 0 → ⊥) → (r : Bool) → r ≡ numberStandsIn numbers most (from + (n - 1)) → r ≡ handedIn numbers most from n
+  unfolding handedIn
+  handed-some o r e = rw (ne-eqb n 0 o) e
+
+module _ (j : Job) (d : Entry) (faces curves : List ℕ) (n : ℕ) (c : Triple) (o : ℕ) (e : o ≡ orderAt c) where
+  abbrev Hands : Bool → Type 0
+  Hands r = r ≡ lookIn j d faces curves n c
+
+  pub hands-face : o ≡ 2 → (r : Bool) → r ≡ handedIn faces (j .«numbered_faces») (d .«face_from») n → Hands r
+  unfolding lookIn
+  hands-face h r q = rw (← e, eq-eqb o 2 h) q
+
+  module _ (b : o ≡ 2 → ⊥) where
+    pub hands-curve : o ≡ 1 → (r : Bool) → r ≡ handedIn curves (j .«numbered_curves») (d .«curve_from») n → Hands r
+    unfolding lookIn
+    hands-curve h r q = rw (← e, ne-eqb o 2 b, eq-eqb o 1 h) q
+
+    pub hands-none : (o ≡ 1 → ⊥) → Hands true
+    unfolding lookIn
+    hands-none h = rw (← e, ne-eqb o 2 b, ne-eqb o 1 h)
+
 -- ---- the joiner's number
 
 module _ (j : Job) (cx cy cz ticks table faces curves points : List ℕ) (b : ℕ) (m : List ℕ) (c : Triple) where
@@ -121,6 +149,14 @@ module _ (j : Job) (cx cy cz ticks table faces curves points : List ℕ) (b : �
     number-is : lookedUp (stateOf j cx cy cz (lent ticks table faces curves points)) b m c ≡ numberIn j (entryOf table b) faces curves points (getD m (local k b c) 0) c
     unfolding lookedUp cellNumber numberIn finalOf node fromOf finalIn entryOf
     number-is = rw order-told
+
+    hands-is : lookStands (stateOf j cx cy cz (lent ticks table faces curves points)) b m (local k b c) ≡ lookIn j (entryOf table b) faces curves (getD m (local k b c) 0) c
+    unfolding lookStands handedStands numberStands node fromOf lookIn handedIn numberStandsIn entryOf
+    hands-is = rw order-told
+
+    pub looked-stands : (p n : ℕ) (d : Entry) (v : Bool) → p ≡ localIn r c → d ≡ entryOf table b → n ≡ getD m p 0 → v ≡ lookIn j d faces curves n c
+        → v ≡ lookStands (stateOf j cx cy cz (lent ticks table faces curves points)) b m (local k b c)
+    looked-stands p n d v e f g h = h ∙ rw (f, g, e, local-told k b r T c) (sym hands-is)
 
     -- What `look_up` puts together.
     pub looked-up : (p n : ℕ) (d : Entry) (v : ℕ) → p ≡ localIn r c → d ≡ entryOf table b → n ≡ getD m p 0 → v ≡ numberIn j d faces curves points n c

@@ -1,7 +1,7 @@
 -- The tests of a lookup by lengths and by the entries of the block table, and the number by what they tell.
 -- Assumes nothing.
 use mathlib.Core.Path.{_≡_}
-use mathlib.Core.Bool.{Bool, true, not, cond, _&&_}
+use mathlib.Core.Bool.{Bool, true, not, cond, _&&_, _||_}
 use mathlib.Core.List.{List, [], _∷_}
 use Prim.Native.Nat.{ℕ, _+_, _-_, _/_, _%_, _<_}
 use lib.Dec.{eqb, ltb}
@@ -10,16 +10,17 @@ use Rattle.cells.specs.Box.{Triple, Axis, triple, coord, index}
 use Rattle.cells.specs.Extents.{Sized}
 use Rattle.cells.specs.Grid.{cells, sides}
 use Rattle.cutting.specs.Cutting.{Cutting, blocks, blockExtents}
-use Rattle.joiner.specs.Job.{Closed, Tables, tray, fits}
-use Rattle.joiner.specs.Stages.{hasCell}
-use Rattle.joiner.specs.Declines.{talliesFit}
-use Rattle.joiner.specs.Entries.{pointNumber}
+use Rattle.joiner.specs.Job.{Closed, State, Tables, tray, fits}
+use Rattle.joiner.specs.Stages.{hasCell, local}
+use Rattle.joiner.specs.Declines.{lookStands, talliesFit}
+use Rattle.joiner.specs.Entries.{lookedUp, pointNumber}
 use Rattle.blocks.specs.Blocks.{hasIn}
 use Rattle.blocks.specs.declared.Block.{Block}
 use Rattle.job.specs.declared.Job.{Job}
 use Rattle.job.specs.Jobs.{blockLengths, tablesOf, toldOf, jobOf}
 use Rattle.steps.specs.declared.Entry.{Entry}
-use Rattle.steps.specs.Steps.{orElse, openedOf, entryOf, mapStandsIn}
+use Rattle.steps.specs.Steps.{orElse, openedOf, entryOf, mapStandsIn, numberStandsIn}
+use Rattle.lookup.specs.declared.Looked.{Looked}
 use Rattle.lookup.specs.declared.Sizes.{Sizes}
 use Rattle.lookup.specs.declared.Span.{Span}
 
@@ -57,15 +58,15 @@ unfoldable pub restOf : Job → List ℕ → List ℕ → List ℕ → Sizes →
 restOf j cx cy cz z table b m =
     let k : Cutting = toldOf j cx cy cz .cutting in
     cond (not (traysFit (blocks k) (blockExtents k b) (j .«face_entries») (j .«curve_entries») (j .«point_entries») z)) 6
-    (cond (not (standIn (talliesFit (jobOf j cx cy cz)) (blockExtents k b) (entryOf table b) (j .faces) (j .curves) m)) 8 0)
+    (cond (not (standIn (talliesFit (jobOf j cx cy cz)) (blockExtents k b) (entryOf table b) (j .«face_entries») (j .«curve_entries») m)) 8 0)
 
--- The refusal, 0 for none: the joiner's `refusal`.
+-- The refusal, 0 for none: the joiner's `refusal` but for the final number that is handed out.
 unfoldable pub refusalOf : Job → List ℕ → List ℕ → List ℕ → Sizes → List ℕ → ℕ → List ℕ → Triple → ℕ
 refusalOf j cx cy cz z table b m c =
     let k : Cutting = toldOf j cx cy cz .cutting in
     orElse (openedOf (jobOf j cx cy cz) Closed) (cond (not (ltb b (blocks k) && hasCell k b c)) 4 (restOf j cx cy cz z table b m))
 
--- The call is not refused.
+-- The call is not refused before the cell is read.
 pub record Ready (j : Job) (cx cy cz ticks table faces curves points : List ℕ) (b : ℕ) (m : List ℕ) (c : Triple) : Type 0 where
   pub none : refusalOf j cx cy cz (sizesOf ticks table faces curves points m) table b m c ≡ 0
 
@@ -98,3 +99,18 @@ numberIn j d faces curves points n c =
     (cond (eqb (orderAt c) 2) (finalIn faces (d .«face_from») n)
     (cond (eqb (orderAt c) 1) (finalIn curves (d .«curve_from») n)
     (pointNumber points (j .«numbered_points») (index (sides (triple (j .nx) (j .ny) (j .nz))) c))))
+
+-- The joiner's `handedStands`, by the place of the block's first component.
+unfoldable pub handedIn : List ℕ → ℕ → ℕ → ℕ → Bool
+handedIn numbers most from n = eqb n 0 || numberStandsIn numbers most (from + (n - 1))
+
+-- The joiner's `lookStands`, of a cell that has number n in the map.
+unfoldable pub lookIn : Job → Entry → List ℕ → List ℕ → ℕ → Triple → Bool
+lookIn j d faces curves n c =
+    cond (eqb (orderAt c) 2) (handedIn faces (j .«numbered_faces») (d .«face_from») n)
+    (cond (eqb (orderAt c) 1) (handedIn curves (j .«numbered_curves») (d .«curve_from») n) true)
+
+-- What is read of a cell: whether its final number is one of the closed table's, and the number.
+pub record Looks (s : State) (b : ℕ) (m : List ℕ) (c : Triple) (r : Looked) : Type 0 where
+  pub stands : r .stands ≡ lookStands s b m (local (s .job .told .cutting) b c)
+  pub number : r .number ≡ lookedUp s b m c

@@ -19,6 +19,7 @@ use steps::at;
 use steps::entry_of;
 use steps::map_fits;
 use steps::map_stands;
+use steps::number_stands;
 use steps::opened;
 ghost use mathlib.Core.Path.{_≡_};
 ghost use mathlib.Core.Bool.{true, _&&_};
@@ -33,10 +34,10 @@ ghost use Rattle.cutting.specs.Cutting.{goodCut, blocks};
 ghost use Rattle.joiner.specs.Stages.{hasCell};
 ghost use Rattle.joiner.specs.Calls.{look, answer};
 ghost use Rattle.joiner.specs.Declines.{talliesFit};
-ghost use Rattle.joiner.specs.Entries.{Step, bisect, pointNumber, lookedUp};
+ghost use Rattle.joiner.specs.Entries.{Step, bisect, pointNumber};
 ghost use Rattle.blocks.specs.Blocks.{anyExtents, cutOf, sizeOf};
 ghost use Rattle.job.specs.Jobs.{anyCuts, jobOf, stateOf};
-ghost use Rattle.lookup.specs.Inner.{lent, traysFit, standIn, restOf, refusalOf, Ready, halvedOf, finalIn, orderAt, HasPlace, numberIn};
+ghost use Rattle.lookup.specs.Inner.{lent, traysFit, standIn, restOf, refusalOf, Ready, halvedOf, finalIn, orderAt, HasPlace, numberIn, handedIn, lookIn, Looks};
 
 // What a lookup answers: the number of its refusal, 0 for none, and the final number of the cell.
 pub struct Found {
@@ -90,12 +91,12 @@ fn trays_fit(blocks: usize, block: Block, job: Job, sizes: Sizes) -> bool
 // Whether the tallies fit, and the map keeps to its block's entry.
 fn stands(job: Job, block: Block, d: Entry, m: &[u32]) -> bool
     requires { ⌜ Sized 64 (sizeOf block) × (length (now m) ≡ cells (sizeOf block)) ⌝ }
-    ensures { λ r. ⌜ anyCuts (λ cx cy cz. r ≡ standIn (talliesFit (jobOf job cx cy cz)) (sizeOf block) d (job .faces) (job .curves) (now (m .entry))) ⌝ }
+    ensures { λ r. ⌜ anyCuts (λ cx cy cz. r ≡ standIn (talliesFit (jobOf job cx cy cz)) (sizeOf block) d (job .«face_entries») (job .«curve_entries») (now (m .entry))) ⌝ }
 {
     if !tallies_fit(job) {
         return false;
     }
-    map_stands(m, block, d, job.faces, job.curves)
+    map_stands(m, block, d, job.face_entries, job.curve_entries)
 }
 
 // The refusal of a call that names a cell of a block.
@@ -123,7 +124,7 @@ fn rest(
     0
 }
 
-// The number of the refusal, the lowest that applies, and 0 for none.
+// The number of the refusal, the lowest that applies, and 0 for none; but for the final number that is handed out.
 fn refusal(
     job: Job,
     cx: &[u32],
@@ -275,7 +276,46 @@ fn number_of(
     point_number(point_firsts, job.numbered_points, v)
 }
 
-// The final number of the cell, where the call is not refused.
+// Whether the final number of number n of a block is one of the closed table's. 0 has none.
+fn handed_stands(numbers: &[u32], most: u32, from: u32, n: u32) -> bool
+    ensures { λ r. ⌜ r ≡ handedIn (now (numbers .entry)) most from n ⌝ }
+{
+    if n == 0 {
+        return true;
+    }
+    number_stands(numbers, most, from as usize + (n as usize - 1))
+}
+
+// Whether the final number that a cell of the block hands out is one of the closed table's. Voxels and points hand out none.
+fn number_handed(
+    job: Job,
+    d: Entry,
+    face_numbers: &[u32],
+    curve_numbers: &[u32],
+    n: u32,
+    x: u32,
+    y: u32,
+    z: u32,
+) -> bool
+    ensures { λ r. ⌜ r ≡ lookIn job d (now («face_numbers» .entry)) (now («curve_numbers» .entry)) n (triple x y z) ⌝ }
+{
+    let order = order_at(x, y, z);
+    if order == 2 {
+        return handed_stands(face_numbers, job.numbered_faces, d.face_from, n);
+    }
+    if order == 1 {
+        return handed_stands(curve_numbers, job.numbered_curves, d.curve_from, n);
+    }
+    true
+}
+
+// What is read of a cell: whether its final number is one of the closed table's, and the number.
+struct Looked {
+    stands: bool,
+    number: u32,
+}
+
+// What is read of the cell, where the call is not refused before.
 fn look_up(
     job: Job,
     cx: &[u32],
@@ -291,28 +331,32 @@ fn look_up(
     x: u32,
     y: u32,
     z: u32,
-) -> u32
+) -> Looked
     requires { ⌜ Ready job (now cx) (now cy) (now cz) (now ticks) (now table) (now «face_numbers») (now «curve_numbers») (now «point_firsts») b (now m) (triple x y z) ⌝ }
-    ensures { λ r. ⌜ r ≡ lookedUp
+    ensures { λ r. ⌜ Looks
         (stateOf job (now (cx .entry)) (now (cy .entry)) (now (cz .entry))
         (lent (now (ticks .entry)) (now (table .entry)) (now («face_numbers» .entry)) (now («curve_numbers» .entry)) (now («point_firsts» .entry))))
-        b (now (m .entry)) (triple x y z) ⌝ }
+        b (now (m .entry)) (triple x y z) r ⌝ }
 {
     let block = block_at(cx, cy, cz, b as usize);
     let p = local(block, x as u64, y as u64, z as u64);
     let d = entry_of(table, b);
-    number_of(
-        job,
-        block,
-        d,
-        face_numbers,
-        curve_numbers,
-        point_firsts,
-        at(m, p),
-        x,
-        y,
-        z,
-    )
+    let n = at(m, p);
+    Looked {
+        stands: number_handed(job, d, face_numbers, curve_numbers, n, x, y, z),
+        number: number_of(
+            job,
+            block,
+            d,
+            face_numbers,
+            curve_numbers,
+            point_firsts,
+            n,
+            x,
+            y,
+            z,
+        ),
+    }
 }
 
 // The final number of the cell at place (x,y,z) of the volume, one of the block's: the code at a voxel, 0 where the cell is inactive in the
@@ -355,7 +399,7 @@ pub fn lookup(
             number: 0,
         };
     }
-    let number = look_up(
+    let looked = look_up(
         job,
         cx,
         cy,
@@ -371,8 +415,14 @@ pub fn lookup(
         y,
         z,
     );
+    if !looked.stands {
+        return Found {
+            refusal: STRAY_LABEL,
+            number: 0,
+        };
+    }
     Found {
         refusal: 0,
-        number: number,
+        number: looked.number,
     }
 }

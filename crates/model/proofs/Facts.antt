@@ -9,7 +9,7 @@ use native.Mathlib.Omega.{arith}
 use lib.Dec.{eqb, leb, ltb}
 use lib.ListN.{getD}
 use borrow.Author.Tests.{eqb-true, leb-true, ltb-false, not-false}
-use Rattle.refusals.specs.Refusals.{Refusal, bad-cut, stray-label, table-full, wrong-tray, no-such-place}
+use Rattle.refusals.specs.Refusals.{Refusal, bad-cut, stray-label, table-full, wrong-tray, no-such-place, number, standsIn}
 use Rattle.cells.specs.Box.{Triple}
 use Rattle.cells.specs.Grid.{cells, order}
 use Rattle.labels.specs.Components.{largest}
@@ -17,7 +17,7 @@ use Rattle.joiner.specs.Job.{Kind, Face, Curve, Point, orderOf, Job, State, Tra
 use Rattle.joiner.specs.Calls.{Call, full, mapsFit, overfull, placed}
 use Rattle.joiner.specs.Declines.{adds, counted, cutFor, declines, filled, lentTo, mapStands, refusal, standing, standsFor, stray, talliesFit, tallyFits}
 use Rattle.lists.proofs.Cases.{and-left, and-right, neither}
-use Rattle.refusals.proofs.RefusalLaws.{lowest-none}
+use Rattle.refusals.proofs.RefusalLaws.{given-none}
 use Rattle.labels.proofs.CountLaws.{largest-bound}
 
 pub record Facts (s : State) (c : Call) : Type 0 where
@@ -29,9 +29,9 @@ pub record Facts (s : State) (c : Call) : Type 0 where
   pub room : full (s .job .told .entries) (s .job .sofar) (adds s c) ≡ false
 
 pub facts : (s : State) (c : Call) → refusal s c ≡ 0 → Facts s c
-unfolding refusal declines stray
+unfolding refusal declines standsIn number stray
 facts s c e =
-    let n : (r : Refusal) → declines s c r ≡ false = lowest-none (declines s c) .0 e in
+    let n : (r : Refusal) → standsIn (declines s c) r ≡ false = given-none (standsIn (declines s c)) .0 e in
     let w : (talliesFit (s .job) && standsFor s c) ≡ true = not-false _ (n stray-label) in
     record {
       cut = not-false _ (n bad-cut);
@@ -55,7 +55,7 @@ fits-at (t ∷ ts) (suc i) e = fits-at ts i (and-right (eqb (t .has) (t .states)
 
 pub tally-fits : (j : Job) → talliesFit j ≡ true → (κ : Kind) → j .sofar κ ≤ j .told .entries κ
 unfolding talliesFit tallyFits
-tally-fits j e κ = leb-true _ _ (and-left (leb (j .sofar κ) (j .told .entries κ)) (leb (j .numbered κ) (j .sofar κ)) (go κ))
+tally-fits j e κ = leb-true _ _ (and-left (leb (j .sofar κ) (j .told .entries κ)) (leb (j .numbered κ) (j .told .entries κ)) (go κ))
   where
     go : (κ : Kind) → tallyFits j κ ≡ true
     go Face = and-left (tallyFits j Face) (tallyFits j Curve && tallyFits j Point) e
@@ -72,10 +72,10 @@ points-room entries sofar more e =
 
 -- ---- places
 
--- Block b's components of a kind, as a map numbers them, have places among the enrolled.
+-- Block b's components of a kind, as a map numbers them, have places in their table.
 pub record Standing (s : State) (e : Triple) (b : ℕ) (m : List ℕ) (κ : Kind) : Type 0 where
   pub most : largest e m (orderOf κ) ≤ countOf (s .tables) κ b
-  pub behind : fromOf (s .tables) κ b + countOf (s .tables) κ b ≤ s .job .sofar κ
+  pub behind : fromOf (s .tables) κ b + countOf (s .tables) κ b ≤ s .job .told .entries κ
 
 pub faces-stand : (s : State) (e : Triple) (b : ℕ) (m : List ℕ) → mapStands s e b m ≡ true → Standing s e b m Face
 unfolding mapStands counted standing
@@ -96,6 +96,6 @@ curves-stand s e b m h =
     record { most = leb-true _ _ (and-left (counted (s .tables) e b m Curve) _ h2); behind = leb-true _ _ (and-right (standing s b Face) (standing s b Curve) h4) }
 
 pub node-in : (s : State) (e : Triple) (b : ℕ) (m : List ℕ) (κ : Kind) → Standing s e b m κ → (p : ℕ) → p < cells e → order e p ≡ orderOf κ → getD m p 0 ≢ 0
-    → node (s .tables) κ b (getD m p 0) < s .job .sofar κ
+    → node (s .tables) κ b (getD m p 0) < s .job .told .entries κ
 unfolding node
 node-in s e b m κ S p h o n = omega (arith, largest-bound e m p h, ap (largest e m) o, S .most, S .behind, n)

@@ -24,7 +24,7 @@ model-run s (c ∷ cs) = Run.next (model-step s c) (model-run (after s c) cs)
 -- Statement 3 of the model.
 pub model-measured : (o : Told) (lent : Tables) (own : ℕ → List ℕ) (cs : List Call) → openRefusal o lent ≡ 0
     → ((b : ℕ) → b < blocks (o .cutting) → Labelling (blockExtents (o .cutting) b) (own b)) → Fair own (written (openedState o lent) cs)
-    → Measured (begun o) (written (openedState o lent) cs)
+    → Measured own (begun o) (written (openedState o lent) cs)
 model-measured o lent own cs e lab fair =
     statement3 o lent (openedState o lent) own (written (openedState o lent) cs) (model-opens o lent .opened e) lab (model-run (openedState o lent) cs) fair
 
@@ -75,6 +75,6 @@ module _ (own : ℕ → List ℕ) where
 
 -- Any cutting of any volume, step by step.
 pub model-volume : (o : Told) (lent : Tables) (own : ℕ → List ℕ) → openRefusal o lent ≡ 0
-    → ((b : ℕ) → b < blocks (o .cutting) → Labelling (blockExtents (o .cutting) b) (own b)) → Measured (begun o) (written (openedState o lent) (steps (o .cutting) own))
+    → ((b : ℕ) → b < blocks (o .cutting) → Labelling (blockExtents (o .cutting) b) (own b)) → Measured own (begun o) (written (openedState o lent) (steps (o .cutting) own))
 model-volume o lent own e lab =
     model-measured o lent own (steps (o .cutting) own) e lab (fair-written own (openedState o lent) (steps (o .cutting) own) (steps-bring own (o .cutting)))

@@ -50,7 +50,7 @@ module _ (s : State) (b c : ℕ) (m n : List ℕ) (F : Facts s (join b c m n)) w
   k₁ = s .job .told .cutting
 
   -- the places that a seam joins are in their table
-  pub seam-inside : (κ : Kind) → Standing s (blockExtents k₁ b) b m κ → Standing s (blockExtents k₁ c) c n κ → s .job .sofar κ ≤ length (s .tables .links κ)
+  pub seam-inside : (κ : Kind) → Standing s (blockExtents k₁ b) b m κ → Standing s (blockExtents k₁ c) c n κ → s .job .told .entries κ ≤ length (s .tables .links κ)
       → (x y : ℕ) → AtSeam k₁ (s .tables) κ b c m n x y → (x < length (s .tables .links κ)) × (y < length (s .tables .links κ))
   seam-inside κ S T l x y r =
       let h = shared-out k₁ b c (r .both) in
@@ -61,7 +61,7 @@ module _ (s : State) (b c : ℕ) (m n : List ℕ) (F : Facts s (join b c m n)) w
         omega (arith, r .y-is, node-in s (blockExtents k₁ c) c n κ T (r .cell .to) (h .q-in) o (r .two), l),
       )
 
-  seam-merged : (κ : Kind) → Standing s (blockExtents k₁ b) b m κ → Standing s (blockExtents k₁ c) c n κ → s .job .sofar κ ≤ length (s .tables .links κ)
+  seam-merged : (κ : Kind) → Standing s (blockExtents k₁ b) b m κ → Standing s (blockExtents k₁ c) c n κ → s .job .told .entries κ ≤ length (s .tables .links κ)
       → Merged (s .tables .links κ) (relinked (s .tables .links κ) (seamEdges k₁ (s .tables) κ b c m n)) (AtSeam k₁ (s .tables) κ b c m n)
   seam-merged κ S T l =
       relinked-merged (s .tables .links κ) (seamEdges k₁ (s .tables) κ b c m n)
@@ -79,8 +79,8 @@ module _ (s : State) (b c : ℕ) (m n : List ℕ) (F : Facts s (join b c m n)) w
   seam-done : SeamDone s b c m n (left s (join b c m n))
   unfolding left moved seamTables
   seam-done =
-      let h : mapStands s (blockExtents k₁ b) b m ≡ true = and-left (mapStands s (blockExtents k₁ b) b m) (mapStands s (blockExtents k₁ c) c n) (F .stands) in
-      let i : mapStands s (blockExtents k₁ c) c n ≡ true = and-right (mapStands s (blockExtents k₁ b) b m) (mapStands s (blockExtents k₁ c) c n) (F .stands) in
+      let h : mapStands s (blockExtents k₁ b) b m ≡ true = and-left (mapStands s (blockExtents k₁ b) b m) _ (F .stands) in
+      let i : mapStands s (blockExtents k₁ c) c n ≡ true = and-left (mapStands s (blockExtents k₁ c) c n) _ (and-right (mapStands s (blockExtents k₁ b) b m) _ (F .stands)) in
       record {
         step = record { told = refl; ticks = refl; stage = refl; sofar = λ κ. refl };
         blocks = refl;
@@ -130,7 +130,7 @@ module _ (s : State) (b : ℕ) (m : List ℕ) (F : Facts s (cross b m)) where
       let o = of-order-out (blockExtents k₂ b) 0 (r .cell) in
       let u = upper (blockExtents k₂ b) (r .at) (o .0) (r .up-p) in
       let v = upper (blockExtents k₂ b) (r .at) (o .0) (r .up-q) in
-      let l : s .job .sofar Curve ≤ length (s .tables .links Curve) = omega (arith, cross-sizes .curve-links, tally-fits (s .job) (F .tallies) Curve) in (
+      let l : s .job .told .entries Curve ≤ length (s .tables .links Curve) = omega (arith, cross-sizes .curve-links) in (
         omega (arith, r .x-is, node-in s (blockExtents k₂ b) b m Curve cross-stands (r .p) (u .within) (u .higher ∙ ap suc (o .1)) (r .one), l),
         omega (arith, r .y-is, node-in s (blockExtents k₂ b) b m Curve cross-stands (r .q) (v .within) (v .higher ∙ ap suc (o .1)) (r .two), l),
       )

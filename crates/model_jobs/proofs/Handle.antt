@@ -10,8 +10,8 @@ use Rattle.lists.specs.Lists.{consecutive, tabulate, zeros, overlay, keep}
 use Rattle.closure.specs.Joined.{merge, join as join-roots, joins, rep}
 use Rattle.closure.specs.Numbered.{countBelow, leader, numberBy, label}
 use Rattle.closure.specs.Trees.{climb, rootOf}
-use Rattle.union_find.specs.Links.{parent, root}
-use Rattle.refusals.specs.Refusals.{number as refusal-number, table, first, lowest}
+use Rattle.union_find.specs.Links.{parent, root, soundAt, soundWay, soundFrom, soundBelow, soundRange, stepsWithin, depth, depths, soundWays}
+use Rattle.refusals.specs.Refusals.{number as refusal-number, table, first, givenBy, standsIn}
 use Rattle.cells.specs.Box.{stride, volume, index, place}
 use Rattle.cells.specs.Extents.{isExtent, offSize}
 use Rattle.cells.specs.Grid.{sides, cells, odd, order, voxel, along, up}
@@ -22,7 +22,7 @@ use Rattle.cutting.specs.Cutting.{ascends, cutList, intervals, low, high, block
 use Rattle.joiner.specs.Job.{stageNumber, sameStage, ticked, countOf, fromOf, node, keyOf, firstAt, fits, blockTrays, linkTrays, foundTrays, numberTrays, firstTrays, listedTrays, kindTrays, Seam, Crossing, Points, Closed}
 use Rattle.joiner.specs.Stages.{hasOn, hasCell, products, shared, seams, enrolStep, seamAxis, seamStep, crossingStep, pointStep, stepsOf, nextStage, finished, nextAfter}
 use Rattle.joiner.specs.Calls.{differs, overfull, full, Call, enrol, join, cross, point}
-use Rattle.joiner.specs.Declines.{tallyFits, talliesFit, filled, counted, standing, mapStands, rowsStand, lastCrossing, stray, finalOf, finalRow, pointCells, adds, declines, refusal}
+use Rattle.joiner.specs.Declines.{tallyFits, talliesFit, filled, counted, standing, mapStands, waysStand, linksStand, allLinksStand, rowsStand, numberStands, curvesStand, handedStands, lookStands, lastCrossing, stray, finalOf, finalRow, pointCells, adds, declines, refusal}
 use Rattle.joiner.specs.Entries.{allTrays, openDeclines, openRefusal, nothing, through, joinedRow, firstOf, enrolledKey, shifted, enrolledRow, blockEntry, notAfter, classOf, isOne, leads, heads, rank, headOf, rowAt, finalFace, rowFinal}
 use Rattle.model_jobs.specs.Large.{handle}
 use Rattle.model.specs.Model.{relinked, atSeam, seamEdge, seamEdges, atCrossing, crossEdge, crossEdgesAt, crossEdges, instead, numberKind, moved, enrolTables, seamTables, crossTables, crossLast, crossed, pointTables, pointLast, pointed, left, after, freshJob, cleared, openedState}
@@ -145,11 +145,11 @@ closed = record {
 }
 
 enrols : runImage (handle .told) (imageOf (openedState (handle .told) (used (handle .told)))) (enrol 0 map₀ ∷ enrol 1 map₁ ∷ []) ≡ enrolled
-unfolding handle map₀ map₁ enrolled consecutive tabulate zeros overlay merge join-roots joins climb rootOf parent root refusal-number table first lowest stride volume index place isExtent offSize sides cells odd order along up rowOf row occupied ofOrder largest component rowAtFirst componentRow ascends cutList intervals low high blockSides blocks goodCut interval origin blockExtents embed follows level seam stageNumber sameStage ticked countOf fromOf node keyOf firstAt fits blockTrays linkTrays foundTrays numberTrays firstTrays listedTrays kindTrays hasOn hasCell products shared seams enrolStep seamAxis seamStep crossingStep pointStep stepsOf nextStage finished nextAfter differs overfull full tallyFits talliesFit filled counted standing mapStands rowsStand lastCrossing stray finalOf finalRow pointCells adds declines refusal allTrays openDeclines openRefusal nothing through joinedRow firstOf enrolledKey shifted enrolledRow blockEntry notAfter classOf isOne leads heads rank headOf rowAt finalFace rowFinal relinked atSeam seamEdge seamEdges atCrossing crossEdge crossEdgesAt crossEdges instead numberKind moved enrolTables seamTables crossTables crossLast crossed pointTables pointLast pointed left after freshJob cleared openedState used three imageOf stateOf runImage
+unfolding handle map₀ map₁ enrolled consecutive tabulate zeros overlay merge join-roots joins climb rootOf parent root refusal-number table first givenBy standsIn stride volume index place isExtent offSize sides cells odd order along up rowOf row occupied ofOrder largest component rowAtFirst componentRow ascends cutList intervals low high blockSides blocks goodCut interval origin blockExtents embed follows level seam stageNumber sameStage ticked countOf fromOf node keyOf firstAt fits blockTrays linkTrays foundTrays numberTrays firstTrays listedTrays kindTrays hasOn hasCell products shared seams enrolStep seamAxis seamStep crossingStep pointStep stepsOf nextStage finished nextAfter differs overfull full tallyFits talliesFit filled counted standing mapStands waysStand linksStand allLinksStand soundAt soundWay soundFrom soundBelow soundRange stepsWithin depth depths soundWays rowsStand numberStands curvesStand handedStands lookStands lastCrossing stray finalOf finalRow pointCells adds declines refusal allTrays openDeclines openRefusal nothing through joinedRow firstOf enrolledKey shifted enrolledRow blockEntry notAfter classOf isOne leads heads rank headOf rowAt finalFace rowFinal relinked atSeam seamEdge seamEdges atCrossing crossEdge crossEdgesAt crossEdges instead numberKind moved enrolTables seamTables crossTables crossLast crossed pointTables pointLast pointed left after freshJob cleared openedState used three imageOf stateOf runImage
 enrols = refl
 
 seam-accepted : refusal (stateOf (handle .told) enrolled) (join 0 1 map₀ map₁) ≡ 0
-unfolding handle map₀ map₁ enrolled consecutive refusal-number table first lowest stride volume index place isExtent offSize sides cells odd order along up rowOf occupied ofOrder largest ascends cutList intervals low high blockSides blocks goodCut interval origin blockExtents embed follows level seam stageNumber sameStage ticked countOf fromOf node fits blockTrays linkTrays foundTrays numberTrays firstTrays listedTrays kindTrays hasOn hasCell products shared seams enrolStep seamAxis seamStep crossingStep pointStep stepsOf finished differs overfull full tallyFits talliesFit filled counted standing mapStands rowsStand lastCrossing stray finalOf finalRow pointCells adds declines refusal stateOf
+unfolding handle map₀ map₁ enrolled consecutive refusal-number table first givenBy standsIn stride volume index place isExtent offSize sides cells odd order along up rowOf occupied ofOrder largest ascends cutList intervals low high blockSides blocks goodCut interval origin blockExtents embed follows level seam stageNumber sameStage ticked countOf fromOf node fits blockTrays linkTrays foundTrays numberTrays firstTrays listedTrays kindTrays hasOn hasCell products shared seams enrolStep seamAxis seamStep crossingStep pointStep stepsOf finished differs overfull full tallyFits talliesFit filled counted standing mapStands waysStand linksStand allLinksStand soundAt soundWay soundFrom soundBelow soundRange stepsWithin depth depths soundWays rowsStand numberStands curvesStand handedStands lookStands lastCrossing stray finalOf finalRow pointCells adds declines refusal stateOf parent
 seam-accepted = refl
 
 seam-left : imageOf (left (stateOf (handle .told) enrolled) (join 0 1 map₀ map₁)) ≡ seamed
@@ -157,7 +157,7 @@ unfolding handle map₀ map₁ enrolled seamed consecutive tabulate overlay merg
 seam-left = refl
 
 crosses : runImage (handle .told) seamed (cross 0 map₀ ∷ cross 1 map₁ ∷ []) ≡ crossed-over
-unfolding handle map₀ map₁ seamed crossed-over consecutive tabulate overlay merge join-roots joins climb rootOf parent root refusal-number table first lowest stride volume index place isExtent offSize sides cells odd order along up rowOf row occupied ofOrder largest component rowAtFirst componentRow ascends cutList intervals low high blockSides blocks goodCut interval origin blockExtents embed follows level seam stageNumber sameStage ticked countOf fromOf node keyOf firstAt fits blockTrays linkTrays foundTrays numberTrays firstTrays listedTrays kindTrays hasOn hasCell products shared seams enrolStep seamAxis seamStep crossingStep pointStep stepsOf nextStage finished nextAfter differs overfull full tallyFits talliesFit filled counted standing mapStands rowsStand lastCrossing stray finalOf finalRow pointCells adds declines refusal through joinedRow firstOf enrolledKey shifted enrolledRow blockEntry notAfter classOf isOne leads heads rank headOf rowAt finalFace rowFinal relinked atSeam seamEdge seamEdges atCrossing crossEdge crossEdgesAt crossEdges instead numberKind moved enrolTables seamTables crossTables crossLast crossed pointTables pointLast pointed left after three imageOf stateOf runImage
+unfolding handle map₀ map₁ seamed crossed-over consecutive tabulate overlay merge join-roots joins climb rootOf parent root refusal-number table first givenBy standsIn stride volume index place isExtent offSize sides cells odd order along up rowOf row occupied ofOrder largest component rowAtFirst componentRow ascends cutList intervals low high blockSides blocks goodCut interval origin blockExtents embed follows level seam stageNumber sameStage ticked countOf fromOf node keyOf firstAt fits blockTrays linkTrays foundTrays numberTrays firstTrays listedTrays kindTrays hasOn hasCell products shared seams enrolStep seamAxis seamStep crossingStep pointStep stepsOf nextStage finished nextAfter differs overfull full tallyFits talliesFit filled counted standing mapStands waysStand linksStand allLinksStand soundAt soundWay soundFrom soundBelow soundRange stepsWithin depth depths soundWays rowsStand numberStands curvesStand handedStands lookStands lastCrossing stray finalOf finalRow pointCells adds declines refusal through joinedRow firstOf enrolledKey shifted enrolledRow blockEntry notAfter classOf isOne leads heads rank headOf rowAt finalFace rowFinal relinked atSeam seamEdge seamEdges atCrossing crossEdge crossEdgesAt crossEdges instead numberKind moved enrolTables seamTables crossTables crossLast crossed pointTables pointLast pointed left after three imageOf stateOf runImage
 crosses = refl
 
 -- "Keeping only active points for the crossing pass" would join nothing.
@@ -168,13 +168,13 @@ unfolding handle map₁ seamed consecutive tabulate merge join-roots joins climb
 active-only = refl
 
 points : runImage (handle .told) crossed-over (point 0 map₀ ∷ point 1 map₁ ∷ []) ≡ closed
-unfolding handle map₀ map₁ crossed-over closed consecutive tabulate overlay merge join-roots joins climb rootOf parent root refusal-number table first lowest stride volume index place isExtent offSize sides cells odd order along up rowOf row occupied ofOrder largest component rowAtFirst componentRow ascends cutList intervals low high blockSides blocks goodCut interval origin blockExtents embed follows level seam stageNumber sameStage ticked countOf fromOf node keyOf firstAt fits blockTrays linkTrays foundTrays numberTrays firstTrays listedTrays kindTrays hasOn hasCell products shared seams enrolStep seamAxis seamStep crossingStep pointStep stepsOf nextStage finished nextAfter differs overfull full tallyFits talliesFit filled counted standing mapStands rowsStand lastCrossing stray finalOf finalRow pointCells adds declines refusal through joinedRow firstOf enrolledKey shifted enrolledRow blockEntry notAfter classOf isOne leads heads rank headOf rowAt finalFace rowFinal relinked atSeam seamEdge seamEdges atCrossing crossEdge crossEdgesAt crossEdges instead numberKind moved enrolTables seamTables crossTables crossLast crossed pointTables pointLast pointed left after three imageOf stateOf runImage
+unfolding handle map₀ map₁ crossed-over closed consecutive tabulate overlay merge join-roots joins climb rootOf parent root refusal-number table first givenBy standsIn stride volume index place isExtent offSize sides cells odd order along up rowOf row occupied ofOrder largest component rowAtFirst componentRow ascends cutList intervals low high blockSides blocks goodCut interval origin blockExtents embed follows level seam stageNumber sameStage ticked countOf fromOf node keyOf firstAt fits blockTrays linkTrays foundTrays numberTrays firstTrays listedTrays kindTrays hasOn hasCell products shared seams enrolStep seamAxis seamStep crossingStep pointStep stepsOf nextStage finished nextAfter differs overfull full tallyFits talliesFit filled counted standing mapStands waysStand linksStand allLinksStand soundAt soundWay soundFrom soundBelow soundRange stepsWithin depth depths soundWays rowsStand numberStands curvesStand handedStands lookStands lastCrossing stray finalOf finalRow pointCells adds declines refusal through joinedRow firstOf enrolledKey shifted enrolledRow blockEntry notAfter classOf isOne leads heads rank headOf rowAt finalFace rowFinal relinked atSeam seamEdge seamEdges atCrossing crossEdge crossEdgesAt crossEdges instead numberKind moved enrolTables seamTables crossTables crossLast crossed pointTables pointLast pointed left after three imageOf stateOf runImage
 points = refl
 
 -- ---- the whole
 
 opened-told : openedState (handle .told) (used (handle .told)) .job .told ≡ handle .told
-unfolding handle consecutive tabulate zeros refusal-number table first lowest volume isExtent offSize ascends cutList intervals blockSides blocks goodCut fits blockTrays linkTrays foundTrays numberTrays firstTrays listedTrays kindTrays allTrays openDeclines openRefusal nothing freshJob cleared openedState used
+unfolding handle consecutive tabulate zeros refusal-number table first givenBy standsIn volume isExtent offSize ascends cutList intervals blockSides blocks goodCut fits blockTrays linkTrays foundTrays numberTrays firstTrays listedTrays kindTrays allTrays openDeclines openRefusal nothing freshJob cleared openedState used
 opened-told = refl
 
 runs : runImage (handle .told) (imageOf (openedState (handle .told) (used (handle .told)))) calls ≡ closed

@@ -7,7 +7,7 @@ use Prim.Native.Nat.{ℕ, _*_, _≤_}
 use lib.ListN.{length}
 use borrow.Author.Tests.{not-false}
 use Rattle.lists.specs.Lists.{zeros}
-use Rattle.refusals.specs.Refusals.{number, table, first, lowest}
+use Rattle.refusals.specs.Refusals.{number, table, first, givenBy, standsIn}
 use Rattle.cutting.specs.Cutting.{Cutting, intervals, blocks, goodCut}
 use Rattle.joiner.specs.Job.{Face, Curve, Point, Told, Tables, fits, blockTrays, linkTrays, foundTrays, numberTrays, firstTrays, listedTrays, kindTrays}
 use Rattle.joiner.specs.Entries.{allTrays, openDeclines, openRefusal, Opening}
@@ -59,7 +59,7 @@ module _ (o : Told) (t : Tables) where
       ap (λ (b : Bool). fits (linkTrays o t) && b) (fits-append faces (curves ++ points) ∙ ap (λ (b : Bool). fits faces && b) (fits-append curves points)))
 
   pub refusal-is : openRefusal o t ≡ refusalOf o (sizesOf t)
-  unfolding openRefusal openDeclines lowest first table number refusalOf
+  unfolding openRefusal openDeclines givenBy first table number standsIn refusalOf
   refusal-is = rw fitting-is
 
 -- ---- the ladder of refusals

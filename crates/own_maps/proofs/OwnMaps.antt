@@ -10,8 +10,8 @@ use lib.Dec.{eqb}
 use lib.ListN.{length, getD}
 use borrow.Author.Tests.{eqb-true, eqb-false, not-false}
 use Rattle.lists.proofs.Cases.{and-left, neither}
-use Rattle.refusals.specs.Refusals.{Refusal, wrong-tray, blank-voxel}
-use Rattle.refusals.proofs.RefusalLaws.{lowest-none}
+use Rattle.refusals.specs.Refusals.{Refusal, wrong-tray, blank-voxel, number, standsIn}
+use Rattle.refusals.proofs.RefusalLaws.{given-none}
 use Rattle.cells.specs.Box.{Triple, volume}
 use Rattle.cells.specs.Grid.{cells}
 use Rattle.cells.specs.Codes.{blank}
@@ -27,10 +27,10 @@ coded-at (x ∷ xs) h zero l = eqb-false x 0 (neither (eqb x 0) (blank xs) h .0)
 coded-at (x ∷ xs) h (suc i) l = coded-at xs (neither (eqb x 0) (blank xs) h .1) i (omega arith)
 
 pub label-labelling : (e : Triple) (codes m w : List ℕ) (r : Labelled) (m′ w′ : List ℕ) → outcome r m′ w′ ≡ labelling e codes m w → r .refusal ≡ 0 → Labelling e m′
-unfolding refusalOf declines wrongTray
+unfolding refusalOf declines standsIn number wrongTray
 label-labelling e codes m w r m′ w′ promise fine =
-    let n : (d : Refusal) → declines e codes (length m) (length w) d ≡ false =
-    lowest-none (declines e codes (length m) (length w)) .0 (sym (label-refusal e codes m w r m′ w′ promise) ∙ fine) in
+    let n : (d : Refusal) → standsIn (declines e codes (length m) (length w)) d ≡ false =
+    given-none (standsIn (declines e codes (length m) (length w))) .0 (sym (label-refusal e codes m w r m′ w′ promise) ∙ fine) in
     let many : length codes ≡ volume e =
     eqb-true _ _ (and-left (eqb (length codes) (volume e)) (eqb (length m) (cells e) && eqb (length w) (cells e)) (not-false _ (n wrong-tray))) in
     record {

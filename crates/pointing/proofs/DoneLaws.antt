@@ -15,11 +15,11 @@ use Rattle.lists.proofs.Overlay.{length-overlay}
 use Rattle.cells.specs.Box.{triple}
 use Rattle.cells.specs.Grid.{cells}
 use Rattle.cutting.specs.Cutting.{Cutting, intervals, blocks, blockExtents}
-use Rattle.joiner.specs.Job.{Kind, Face, Curve, Point, Points, Closed, State, sameStage, stageNumber, keyOf, fromOf, fits, ticked, blockTrays, numberTrays, foundTrays, firstTrays, listedTrays, kindTrays}
+use Rattle.joiner.specs.Job.{Kind, Face, Curve, Point, Points, Closed, State, sameStage, stageNumber, keyOf, countOf, fromOf, fits, ticked, blockTrays, numberTrays, foundTrays, firstTrays, listedTrays, kindTrays}
 use Rattle.joiner.specs.Job as joiner
 use Rattle.joiner.specs.Stages.{pointStep}
 use Rattle.joiner.specs.Calls.{point, answer, mapsFit, full, overfull}
-use Rattle.joiner.specs.Declines.{adds, lentTo, mapStands, pointCells, refusal, stray, talliesFit}
+use Rattle.joiner.specs.Declines.{adds, curvesStand, lentTo, mapStands, numberStands, pointCells, refusal, stray, talliesFit}
 use Rattle.joiner.specs.Entries.{PointDone, Step, Ticked, rowFinal}
 use Rattle.joiner.proofs.Accepted.{stage-same}
 use Rattle.model.proofs.Facts.{Facts, facts, fits-at, tally-fits, points-room}
@@ -37,11 +37,11 @@ use Rattle.job.specs.Jobs.{byKind, stageOf, toldOf, jobOf, stateOf}
 use Rattle.job.proofs.JobLaws.{fits-append}
 use Rattle.staging.specs.Staging.{tickedIn}
 use Rattle.steps.specs.declared.Entry.{Entry}
-use Rattle.steps.specs.Steps.{reachedOf, entryOf, Advanced}
+use Rattle.steps.specs.Steps.{reachedOf, entryOf, numberStandsIn, Advanced}
 use Rattle.steps.specs.Steps as steps
 use Rattle.steps.proofs.StepLaws.{or-none, or-six, six-none, refusal-reached, reached-passed, Passed, few-of, count-few, stands-is, ticked-by, numbered-kept, step-refused, step-accepted}
 use Rattle.pointing.specs.declared.Plan.{Plan}
-use Rattle.pointing.specs.Inner.{lent, sizesOf, traysFit, foundBy, lateOf, foundOf, refusalOf, Plans, Ready, withNumbered, Closes}
+use Rattle.pointing.specs.Inner.{lent, sizesOf, traysFit, curvesIn, standIn, foundBy, lateOf, foundOf, refusalOf, Plans, Ready, withNumbered, Closes}
 
 -- ---- the ways of `close`
 
@@ -105,13 +105,17 @@ module _ (j : Job) (cx cy cz ticks table curves keys rows numbers firsts listed 
   unfolding foundOf foundBy adds
   found-is = ap length (found-cells k (before .tables) b m refl refl place-is)
 
+  curves-is : curvesStand before b ≡ curvesIn curves (before .job .numbered Curve) (entryOf table b .«curve_from») (entryOf table b .curves)
+  unfolding curvesStand curvesIn numberStands numberStandsIn fromOf countOf entryOf
+  curves-is = refl
+
   late-is : _≡_ {A = ℕ} (cond (stray before (point b m)) 8 (cond (full (before .job .told .entries) (before .job .sofar) (adds before (point b m))) 10 0))
-      (lateOf (before .job) (blockExtents k b) (entryOf table b) m (foundOf k table curves b m))
-  unfolding stray lateOf
+      (lateOf (before .job) (blockExtents k b) (entryOf table b) curves m (foundOf k table curves b m))
+  unfolding stray lateOf standIn
   late-is =
-      rw (← stands-is before (blockExtents k b) b m, found-is)
-      (by-test (talliesFit (before .job) && mapStands before (blockExtents k b) b m)
-      (λ t. rw (t, full-points before b m (and-left (talliesFit (before .job)) (mapStands before (blockExtents k b) b m) t)))
+      rw (← stands-is before (blockExtents k b) b m, ← curves-is, found-is)
+      (by-test (talliesFit (before .job) && (mapStands before (blockExtents k b) b m && curvesStand before b))
+      (λ t. rw (t, full-points before b m (and-left (talliesFit (before .job)) (mapStands before (blockExtents k b) b m && curvesStand before b) t)))
       (λ t. rw t))
 
   pub refusal-is : refusal before (point b m) ≡ refusalOf j cx cy cz ticks (sizesOf ticks table curves keys rows numbers firsts listed) table curves b m
@@ -130,7 +134,7 @@ module _ (j : Job) (cx cy cz ticks table curves keys rows numbers firsts listed 
     rungs : (reachedOf (jobOf j cx cy cz) Points ticks b (6 * b + 5) ≡ 0) × (trays ≡ true)
     unfolding refusalOf
     rungs =
-        let n = or-none (reachedOf (jobOf j cx cy cz) Points ticks b (6 * b + 5)) (cond (not trays) 6 (lateOf (jobOf j cx cy cz) (blockExtents k b) (entryOf table b) m (foundOf k table curves b m))) (sym refusal-is ∙ R .none) in
+        let n = or-none (reachedOf (jobOf j cx cy cz) Points ticks b (6 * b + 5)) (cond (not trays) 6 (lateOf (jobOf j cx cy cz) (blockExtents k b) (entryOf table b) curves m (foundOf k table curves b m))) (sym refusal-is ∙ R .none) in
         (n .0, six-passed trays _ (n .1))
 
     passed : Passed (jobOf j cx cy cz) Points × (b < blocks k)

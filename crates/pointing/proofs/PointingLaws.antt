@@ -21,11 +21,11 @@ use Rattle.findings.specs.Findings.{foundCells}
 use Rattle.job.specs.declared.Job.{Job}
 use Rattle.job.specs.Jobs.{anyCuts, jobOf, toldOf}
 use Rattle.steps.specs.declared.Entry.{Entry}
-use Rattle.steps.specs.Steps.{reachedOf, entryOf, mapStandsIn}
+use Rattle.steps.specs.Steps.{reachedOf, entryOf}
 use Rattle.steps.proofs.StepLaws.{or-first, or-then, or-none, reached-passed, few-of, count-few, block-sized}
 use Rattle.pointing.specs.declared.Plan.{Plan}
 use Rattle.pointing.specs.declared.Sizes.{Sizes}
-use Rattle.pointing.specs.Inner.{traysFit, foundBy, lateOf, foundOf, refusalOf, Plans}
+use Rattle.pointing.specs.Inner.{traysFit, standIn, foundBy, lateOf, foundOf, refusalOf, Plans}
 
 -- a plan that refuses
 refuses : (n number found : ℕ) (r : Plan) → (n ≡ 0 → ⊥) → r .refusal ≡ n → n ≡ number → Plans number found r
@@ -35,13 +35,13 @@ refuses n number found r z e q = record { told = e ∙ q; counted = λ h. absurd
 
 module _ (j : Job) (e : Triple) (d : Entry) (curves m : List ℕ) (t : Bool) (h : anyCuts (λ cx cy cz. t ≡ talliesFit (jobOf j cx cy cz))) where
   abbrev Late : Plan → Type 0
-  Late r = anyCuts (λ cx cy cz. Plans (lateOf (jobOf j cx cy cz) e d m (foundBy e d curves m)) (foundBy e d curves m) r)
+  Late r = anyCuts (λ cx cy cz. Plans (lateOf (jobOf j cx cy cz) e d curves m (foundBy e d curves m)) (foundBy e d curves m) r)
 
   pub late-tallies : not t ≡ true → (r : Plan) → r .refusal ≡ 8 → Late r
   unfolding lateOf
   late-tallies q r x cx cy cz = refuses 8 _ _ r (λ z. omega (arith, z)) x (rw (sym (h cx cy cz) ∙ not-true t q))
 
-  module _ (q : not t ≡ false) (u : Bool) (i : u ≡ mapStandsIn e d (j .faces) (j .curves) m) where
+  module _ (q : not t ≡ false) (u : Bool) (i : u ≡ standIn e d (j .«face_entries») (j .«curve_entries») (j .«numbered_curves») curves m) where
     pub late-stray : not u ≡ true → (r : Plan) → r .refusal ≡ 8 → Late r
     unfolding lateOf
     late-stray p r x cx cy cz = refuses 8 _ _ r (λ z. omega (arith, z)) x (rw (sym (h cx cy cz) ∙ not-false t q, sym i ∙ not-true u p))
@@ -107,7 +107,7 @@ module _ (j : Job) (cx cy cz ticks : List ℕ) (z : Sizes) (table curves : List 
     judge-6 w p x = refuses 6 _ _ p (λ y. omega (arith, y)) x (rw (← e, sym trays-told ∙ not-true t w) (or-then n _ 6 q refl))
 
     pub judge-late : not t ≡ false → (d : Entry) → d ≡ entryOf table b → (p : Plan)
-        → anyCuts (λ cx cy cz. Plans (lateOf (jobOf j cx cy cz) (sizeOf r) d m (foundBy (sizeOf r) d curves m)) (foundBy (sizeOf r) d curves m) p) → Judges p
+        → anyCuts (λ cx cy cz. Plans (lateOf (jobOf j cx cy cz) (sizeOf r) d curves m (foundBy (sizeOf r) d curves m)) (foundBy (sizeOf r) d curves m) p) → Judges p
     unfolding refusalOf foundOf
     judge-late w d f p L =
         let l = rw (f, size-is) at (L cx cy cz) in

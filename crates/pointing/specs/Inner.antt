@@ -6,6 +6,7 @@ use mathlib.Core.List.{List, [], _∷_}
 use Prim.Native.Nat.{ℕ, _+_, _*_}
 use lib.Dec.{eqb, ltb}
 use lib.ListN.{length}
+use Rattle.lists.specs.Lists.{consecutive, allOf}
 use Rattle.cells.specs.Box.{Triple}
 use Rattle.cells.specs.Grid.{cells}
 use Rattle.cutting.specs.Cutting.{Cutting, blocks, blockExtents}
@@ -18,7 +19,7 @@ use Rattle.kind_numbers.specs.Numbered.{Numbered}
 use Rattle.job.specs.declared.Job.{Job}
 use Rattle.job.specs.Jobs.{blockLengths, kindLengths, stageOf, tablesOf, toldOf, jobOf, stateOf}
 use Rattle.steps.specs.declared.Entry.{Entry}
-use Rattle.steps.specs.Steps.{orElse, reachedOf, entryOf, mapStandsIn}
+use Rattle.steps.specs.Steps.{orElse, reachedOf, entryOf, mapStandsIn, numberStandsIn}
 use Rattle.pointing.specs.declared.Plan.{Plan}
 use Rattle.pointing.specs.declared.Sizes.{Sizes}
 
@@ -53,10 +54,19 @@ traysFit count e curves points z n =
 unfoldable pub foundBy : Triple → Entry → List ℕ → List ℕ → ℕ
 foundBy e d curves m = length (foundCells e curves (d .«curve_from») m)
 
+-- The final numbers of so many curves, from a place on, are 1 to `most`: the joiner's `curvesStand`.
+unfoldable pub curvesIn : List ℕ → ℕ → ℕ → ℕ → Bool
+curvesIn curves most from count = allOf (numberStandsIn curves most) (consecutive from count)
+
+-- 8 denies it: the map keeps to its block's entry, and the block's curves have final numbers.
+unfoldable pub standIn : Triple → Entry → ℕ → ℕ → ℕ → List ℕ → List ℕ → Bool
+standIn e d all-faces all-curves most curves m = mapStandsIn e d all-faces all-curves m && curvesIn curves most (d .«curve_from») (d .curves)
+
 -- The refusals from 8 on, of a map with so many points.
-unfoldable pub lateOf : joiner.Job → Triple → Entry → List ℕ → ℕ → ℕ
-lateOf j e d m found =
-    cond (not (talliesFit j && mapStandsIn e d (j .sofar Face) (j .sofar Curve) m)) 8 (cond (ltb (j .told .entries Point) (j .sofar Point + found)) 10 0)
+unfoldable pub lateOf : joiner.Job → Triple → Entry → List ℕ → List ℕ → ℕ → ℕ
+lateOf j e d curves m found =
+    cond (not (talliesFit j && standIn e d (j .told .entries Face) (j .told .entries Curve) (j .numbered Curve) curves m)) 8
+    (cond (ltb (j .told .entries Point) (j .sofar Point + found)) 10 0)
 
 -- The points of block b.
 unfoldable pub foundOf : Cutting → List ℕ → List ℕ → ℕ → List ℕ → ℕ
@@ -68,7 +78,7 @@ refusalOf j cx cy cz ticks z table curves b m =
     let k : Cutting = toldOf j cx cy cz .cutting in
     orElse (reachedOf (jobOf j cx cy cz) Points ticks b (6 * b + 5))
     (cond (not (traysFit (blocks k) (blockExtents k b) (j .«curve_entries») (j .«point_entries») z (length m))) 6
-    (lateOf (jobOf j cx cy cz) (blockExtents k b) (entryOf table b) m (foundOf k table curves b m)))
+    (lateOf (jobOf j cx cy cz) (blockExtents k b) (entryOf table b) curves m (foundOf k table curves b m)))
 
 -- A plan tells the refusal, and where it is 0 the points.
 pub record Plans (number found : ℕ) (r : Plan) : Type 0 where

@@ -20,6 +20,7 @@ use steps::advance;
 use steps::entry_of;
 use steps::map_fits;
 use steps::map_stands;
+use steps::number_stands;
 use steps::reached;
 ghost use mathlib.Core.Path.{_≡_};
 ghost use mathlib.Core.List.{[]};
@@ -31,7 +32,7 @@ ghost use Rattle.joiner.specs.Calls.{point, answer};
 ghost use Rattle.joiner.specs.Entries.{PointDone, Step};
 ghost use Rattle.blocks.specs.Blocks.{sizeOf};
 ghost use Rattle.job.specs.Jobs.{anyCuts, jobOf, toldOf, stateOf};
-ghost use Rattle.pointing.specs.Inner.{lent, traysFit, foundBy, lateOf, foundOf, refusalOf, Plans, Ready, Closes};
+ghost use Rattle.pointing.specs.Inner.{lent, traysFit, curvesIn, standIn, foundBy, lateOf, foundOf, refusalOf, Plans, Ready, Closes};
 
 // What a point step answers: the number of its refusal, 0 for none, and the job.
 pub struct Pointed {
@@ -94,16 +95,43 @@ fn refused(number: u32) -> Plan
     }
 }
 
-// The plan by the tallies and the map. The points are counted before anything is stored.
+// Whether the final number of each of the block's curves is one of the closed table's.
+fn numbers_stand(curves: &[u32], most: u32, from: u32, count: u32) -> bool
+    ensures { λ r. ⌜ r ≡ curvesIn (now (curves .entry)) most from count ⌝ }
+{
+    let start = from as usize;
+    let n = count as usize;
+    let mut i: usize = 0;
+    while i < n {
+        if !number_stands(curves, most, start + i) {
+            return false;
+        }
+        i += 1;
+    }
+    true
+}
+
+// Whether the map keeps to its block's entry, and the block's curves have final numbers.
+fn stand(job: Job, block: Block, entry: Entry, curves: &[u32], m: &[u32]) -> bool
+    requires { ⌜ Sized 64 (sizeOf block) × (length (now m) ≡ cells (sizeOf block)) ⌝ }
+    ensures { λ r. ⌜ r ≡ standIn (sizeOf block) entry (job .«face_entries») (job .«curve_entries») (job .«numbered_curves») (now (curves .entry)) (now (m .entry)) ⌝ }
+{
+    if !map_stands(m, block, entry, job.face_entries, job.curve_entries) {
+        return false;
+    }
+    numbers_stand(curves, job.numbered_curves, entry.curve_from, entry.curves)
+}
+
+// The plan by the tallies, the map and the curves' final numbers. The points are counted before anything is stored.
 fn late(job: Job, block: Block, entry: Entry, curves: &[u32], m: &[u32]) -> Plan
     requires { ⌜ Sized 64 (sizeOf block) × (length (now m) ≡ cells (sizeOf block)) ⌝ }
-    ensures { λ r. ⌜ anyCuts (λ cx cy cz. Plans (lateOf (jobOf job cx cy cz) (sizeOf block) entry (now (m .entry)) (foundBy (sizeOf block) entry (now (curves .entry)) (now (m .entry))))
+    ensures { λ r. ⌜ anyCuts (λ cx cy cz. Plans (lateOf (jobOf job cx cy cz) (sizeOf block) entry (now (curves .entry)) (now (m .entry)) (foundBy (sizeOf block) entry (now (curves .entry)) (now (m .entry))))
         (foundBy (sizeOf block) entry (now (curves .entry)) (now (m .entry))) r) ⌝ }
 {
     if !tallies_fit(job) {
         return refused(STRAY_LABEL);
     }
-    if !map_stands(m, block, entry, job.faces, job.curves) {
+    if !stand(job, block, entry, curves, m) {
         return refused(STRAY_LABEL);
     }
     let points = count_points(m, block.nx, block.ny, block.nz, curves, entry.curve_from);

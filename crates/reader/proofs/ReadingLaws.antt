@@ -16,8 +16,8 @@ use Rattle.lists.proofs.Cases.{neither}
 use Rattle.lists.specs.Lists.{consecutive, keep, tabulate}
 use Rattle.lists.proofs.Lists.{keep-append, tabulate-snoc}
 use Rattle.closure.specs.Numbered.{countBelow}
-use Rattle.refusals.specs.Refusals.{off-size, wrong-tray, bad-record, number, table, first, lowest}
-use Rattle.refusals.proofs.RefusalLaws.{lowest-none}
+use Rattle.refusals.specs.Refusals.{off-size, wrong-tray, bad-record, number, table, first, givenBy, standsIn}
+use Rattle.refusals.proofs.RefusalLaws.{given-none}
 use Rattle.cells.specs.Box.{Triple, triple}
 use Rattle.cells.specs.Extents.{offPlace}
 use Rattle.cells.specs.Grid.{sides, cells, order}
@@ -155,7 +155,7 @@ head-is r a b c x y z i j k l m n = rw (i, j, k, l, m, n)
 -- A block that has its place has its size.
 module _ (r : List ℕ) (tray : ℕ) where
   pub refusal-short : length r < 12 → 11 ≡ refusalOf r tray
-  unfolding refusalOf lowest first table number declines headed
+  unfolding refusalOf givenBy first table number standsIn declines headed
   refusal-short h = rw (lt-leb _ _ h)
 
   -- The tests of a whole head, in the order of the code.
@@ -167,7 +167,7 @@ module _ (r : List ℕ) (tray : ℕ) where
     o = triple (h .ox) (h .oy) (h .oz)
 
     ladder : refusalOf r tray ≡ cond (offPlace e o) 1 (cond (not (eqb tray (cells e))) 6 (cond (damaged e r) 11 0))
-    unfolding refusalOf lowest first table number declines headed
+    unfolding refusalOf givenBy first table number standsIn declines headed
     ladder = rw (i, le-leb _ _ w)
 
     pub refusal-size : offPlace e o ≡ true → 1 ≡ refusalOf r tray
@@ -187,10 +187,10 @@ pub record Readable (r : List ℕ) (tray : ℕ) : Type 0 where
   pub whole : length r ≡ lengthOf tray r
 
 pub readable : (r : List ℕ) (tray : ℕ) → refusalOf r tray ≡ 0 → Readable r tray
-unfolding refusalOf declines headed
+unfolding refusalOf declines standsIn number headed
 readable r tray z =
     let e = extentsOf r in
-    let no = lowest-none (declines r tray) .0 z in
+    let no = given-none (standsIn (declines r tray)) .0 z in
     let bad = neither _ _ (no bad-record) in
     let t : leb 12 (length r) ≡ true = not-false _ (bad .0) in
     let on-place : offPlace e (originOf r) ≡ false = rw t at (no off-size) in

@@ -1,11 +1,11 @@
 -- What `read_record` answers and leaves in the map tray, for every input (document 01, "Block record" and "What the service declines").
 -- Assumes nothing.
 use mathlib.Core.Bool.{Bool, false, cond, not, _&&_, _||_}
-use mathlib.Core.List.{List}
+use mathlib.Core.List.{List, [], _∷_}
 use Prim.Native.Nat.{ℕ}
 use lib.Dec.{eqb, leb}
 use lib.ListN.{length}
-use Rattle.refusals.specs.Refusals.{Refusal, off-size, bad-cut, wrong-stage, no-such-place, done-already, wrong-tray, blank-voxel, stray-label, layers-differ, table-full, bad-record, lowest}
+use Rattle.refusals.specs.Refusals.{off-size, wrong-tray, bad-record, Case, _if_, given}
 use Rattle.cells.specs.Box.{Triple}
 use Rattle.cells.specs.Extents.{offPlace}
 use Rattle.cells.specs.Grid.{cells}
@@ -16,22 +16,17 @@ use Rattle.reader.specs.declared.Head.{Head}
 unfoldable pub headed : List ℕ → Bool
 headed r = leb 12 (length r)
 
--- When each refusal applies. "For the reader, 1 and 6 apply only when all 12 head bytes are there." The tray goes in by its length.
-unfoldable pub declines : List ℕ → ℕ → Refusal → Bool
-declines r tray off-size = headed r && offPlace (extentsOf r) (originOf r)
-declines r tray bad-cut = false
-declines r tray wrong-stage = false
-declines r tray no-such-place = false
-declines r tray done-already = false
-declines r tray wrong-tray = headed r && not (eqb tray (cells (extentsOf r)))
-declines r tray blank-voxel = false
-declines r tray stray-label = false
-declines r tray layers-differ = false
-declines r tray table-full = false
-declines r tray bad-record = not (headed r) || damaged (extentsOf r) r
+-- The cases of `read_record`. "For the reader, 1 and 6 apply only when all 12 head bytes are there." The tray goes in by its length.
+unfoldable pub declines : List ℕ → ℕ → List Case
+declines r tray =
+    off-size if (headed r && offPlace (extentsOf r) (originOf r)) ∷
+    wrong-tray if (headed r && not (eqb tray (cells (extentsOf r)))) ∷
+    bad-record if (not (headed r) || damaged (extentsOf r) r) ∷
+    []
 
+-- The refusal of a call, 0 for none.
 unfoldable pub refusalOf : List ℕ → ℕ → ℕ
-refusalOf r tray = lowest (declines r tray)
+refusalOf r tray = given (declines r tray)
 
 -- The answer, and what the map tray holds.
 pub record Outcome : Type 0 where

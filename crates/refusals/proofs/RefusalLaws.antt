@@ -1,17 +1,18 @@
--- The refusal given is the lowest whose case stands, and none is given exactly where no case stands.
+-- The refusal given is the first of the table whose case stands, which is the lowest of 1 to 11, and none is given exactly where no case stands.
 -- Assumes nothing.
 use mathlib.Core.Path.{_≡_, refl, sym, ap, _∙_}
 use mathlib.Core.Logic.{_⊎_, inl, inr, _↔_}
 use mathlib.Core.Bool.{Bool, true, false, true≢false}
-use mathlib.Core.List.{List, [], _∷_, map, List·Memᴰ, List·Memᴰ·head as here, List·Memᴰ·tail as later, List·Memᴰ·not-nil, List·Memᴰ·cases-cons, Memᴰ·map}
+use mathlib.Core.List.{List, [], _∷_, _++_, map, List·Memᴰ, List·Memᴰ·head as here, List·Memᴰ·tail as later, List·Memᴰ·not-nil, List·Memᴰ·cases-cons, Memᴰ·map}
 use Prim.Native.Nat.{ℕ, suc, _<_, _≤_}
 use native.Mathlib.Omega.{arith}
-use Rattle.lists.specs.Lists.{consecutive}
+use Rattle.lists.specs.Lists.{consecutive, allOf}
+use Rattle.lists.proofs.Tests.{all-out}
 use Rattle.lists.proofs.Cases.{by-test}
 use lib.Dec.{ltb}
 use borrow.Author.Tests.{ltb-true, ltb-false}
 use Rattle.lists.proofs.Lists.{Ascends, ascends-le, ascends-consecutive}
-use Rattle.refusals.specs.Refusals.{Refusal, off-size, bad-cut, wrong-stage, no-such-place, done-already, wrong-tray, blank-voxel, stray-label, layers-differ, table-full, bad-record, number, table, first, lowest}
+use Rattle.refusals.specs.Refusals.{Refusal, off-size, bad-cut, wrong-stage, no-such-place, done-already, wrong-tray, blank-voxel, stray-label, layers-differ, table-full, bad-record, number, table, first, givenBy}
 
 -- The numbers are 1 to 11, in the order of the table.
 pub table-numbers : map number table ≡ consecutive 1 11
@@ -40,6 +41,14 @@ pub record Given (stands : Refusal → Bool) (rs : List Refusal) (n : ℕ) : Typ
   pub case : stands refusal ≡ true
   pub is : n ≡ number refusal
 
+-- No refusal is 0.
+all-positive : allOf (λ r. ltb 0 (number r)) table ≡ true
+unfolding number table
+all-positive = refl
+
+positive : (r : Refusal) → 0 < number r
+positive r = ltb-true 0 (number r) (all-out (λ q. ltb 0 (number q)) table all-positive (table-whole r))
+
 ascending : Ascends 1 (map number table)
 ascending = rw table-numbers (ascends-consecutive 1 11)
 
@@ -66,19 +75,45 @@ module _ (stands : Refusal → Bool) where
           (λ u. rw u (ih k))
 
   -- What is given has its case, and no lower refusal has.
-  pub lowest-given : 0 < lowest stands → Given stands table (lowest stands)
-  unfolding lowest
-  lowest-given h = first-given table h
+  pub given-case : 0 < givenBy stands → Given stands table (givenBy stands)
+  unfolding givenBy
+  given-case h = first-given table h
 
-  pub lowest-least : (r : Refusal) → stands r ≡ true → (0 < lowest stands) × (lowest stands ≤ number r)
-  unfolding lowest
-  lowest-least r t = first-lowest 0 table ascending (table-whole r) t
+  pub given-least : (r : Refusal) → stands r ≡ true → (0 < givenBy stands) × (givenBy stands ≤ number r)
+  unfolding givenBy
+  given-least r t = first-lowest 0 table ascending (table-whole r) t
+
+  -- What is given is a case that stands, or one of a row before it.
+  first-before : (before after : List Refusal) {r : Refusal} → stands r ≡ true → Given stands (before ++ r ∷ []) (first stands (before ++ r ∷ after))
+  unfolding first
+  first-before [] after {r} t = rw t (record { refusal = r; listed = here refl; case = t; is = refl })
+  first-before (q ∷ before) after {r} t =
+      by-test (stands q)
+      (λ u. rw u (record { refusal = q; listed = here refl; case = u; is = refl }))
+      (λ u. rw u (let g = first-before before after t in record { refusal = g .refusal; listed = later (g .listed); case = g .case; is = g .is }))
+
+  pub given-before : (before after : List Refusal) {r : Refusal} → table ≡ before ++ r ∷ after → stands r ≡ true → Given stands (before ++ r ∷ []) (givenBy stands)
+  unfolding givenBy
+  given-before before after {r} e t = rw e (first-before before after t)
+
+  first-none : (rs : List Refusal) → first stands rs ≡ 0 → {q : Refusal} → List·Memᴰ q rs → stands q ≡ false
+  unfolding first
+  first-none [] z m = absurd (List·Memᴰ·not-nil m)
+  first-none (r ∷ rs) z {q} m =
+      by-test (stands r)
+      (λ t. absurd (omega (arith, rw t at z, positive r)))
+      (λ t. go t (List·Memᴰ·cases-cons m) (λ k. first-none rs (rw t at z) k))
+    where
+      go : stands r ≡ false → (q ≡ r) ⊎ List·Memᴰ q rs → (List·Memᴰ q rs → stands q ≡ false) → stands q ≡ false
+      go t (inl e) ih = ap stands e ∙ t
+      go t (inr k) ih = ih k
 
   -- None is given exactly where no case stands.
-  pub lowest-none : (lowest stands ≡ 0) ↔ ((r : Refusal) → stands r ≡ false)
-  lowest-none = (
-    λ z r. by-test (stands r) (λ t. let l = lowest-least r t in absurd (omega arith)) (λ f. f),
-    λ n. by-test (ltb 0 (lowest stands))
-        (λ t. let g = lowest-given (ltb-true 0 (lowest stands) t) in absurd (true≢false (sym (g .case) ∙ n (g .refusal))))
-        (λ f. omega (arith, ltb-false 0 (lowest stands) f)),
+  pub given-none : (givenBy stands ≡ 0) ↔ ((r : Refusal) → stands r ≡ false)
+  unfolding givenBy
+  given-none = (
+    λ z r. first-none table z (table-whole r),
+    λ n. by-test (ltb 0 (givenBy stands))
+        (λ t. let g = given-case (ltb-true 0 (givenBy stands) t) in absurd (true≢false (sym (g .case) ∙ n (g .refusal))))
+        (λ f. omega (arith, ltb-false 0 (givenBy stands) f)),
   )

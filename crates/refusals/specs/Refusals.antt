@@ -1,8 +1,9 @@
--- What the service declines (document 01): eleven refusals by name and number.
+-- What the service declines (document 01): the refusals by name and number. An entry lists its own cases; which of them is given, one table decides.
 -- Assumes nothing.
-use mathlib.Core.Bool.{Bool, cond}
-use mathlib.Core.List.{List, [], _∷_}
+use mathlib.Core.Bool.{Bool, false, cond}
+use mathlib.Core.List.{List, [], _∷_, map}
 use Prim.Native.Nat.{ℕ}
+use lib.Dec.{eqb}
 
 -- The column "Called" of the table.
 pub data Refusal : Type 0 where
@@ -22,7 +23,7 @@ number layers-differ = 9
 number table-full = 10
 number bad-record = 11
 
--- The rows of the table.
+-- The rows of the table, in the order in which refusals are given.
 unfoldable pub table : List Refusal
 table =
     off-size ∷ bad-cut ∷ wrong-stage ∷ no-such-place ∷ done-already ∷ wrong-tray ∷ blank-voxel ∷ stray-label ∷ layers-differ ∷ table-full ∷ bad-record ∷ []
@@ -32,6 +33,29 @@ unfoldable pub first : (Refusal → Bool) → List Refusal → ℕ
 first stands [] = 0
 first stands (r ∷ rs) = cond (stands r) (number r) (first stands rs)
 
--- "Where several apply, the lowest number is given": the answer of an entry, of which `stands` says when each refusal applies.
-unfoldable pub lowest : (Refusal → Bool) → ℕ
-lowest stands = first stands table
+-- "Where several apply, the lowest number is given": the first row of the table whose case stands.
+unfoldable pub givenBy : (Refusal → Bool) → ℕ
+givenBy stands = first stands table
+
+-- A line of an entry's own table: a refusal, and whether its case stands.
+pub record Case : Type 0 where
+  pub refusal : Refusal
+  pub stands : Bool
+
+-- Such a line by its parts.
+infixl 70 _if_
+abbrev pub _if_ : Refusal → Bool → Case
+r if b = record { refusal = r; stands = b }
+
+-- Whether the case of a refusal stands. One that an entry does not list never does.
+unfoldable pub standsIn : List Case → Refusal → Bool
+standsIn [] r = false
+standsIn (c ∷ cs) r = cond (eqb (number (c .refusal)) (number r)) (c .stands) (standsIn cs r)
+
+-- What an entry with these cases gives, 0 for none.
+abbrev pub given : List Case → ℕ
+given cs = givenBy (standsIn cs)
+
+-- The numbers that an entry lists.
+unfoldable pub listedNumbers : List Case → List ℕ
+listedNumbers cs = map (λ c. number (c .refusal)) cs

@@ -10,8 +10,8 @@ use lib.ListN.{length, take, drop}
 use lib.Seq.{take-at}
 use borrow.Author.Tests.{eqb-true, eq-eqb, le-leb, le-ltb, leb-true, ltb-false, not-false}
 use Rattle.lists.proofs.Cases.{by-test, neither}
-use Rattle.refusals.specs.Refusals.{Refusal, off-size, bad-cut, wrong-stage, no-such-place, done-already, wrong-tray, blank-voxel, stray-label, layers-differ, table-full, bad-record}
-use Rattle.refusals.proofs.RefusalLaws.{lowest-none}
+use Rattle.refusals.specs.Refusals.{off-size, wrong-tray, stray-label, bad-record, number, table, first, givenBy, standsIn}
+use Rattle.refusals.proofs.RefusalLaws.{given-none}
 use Rattle.cells.specs.Box.{Triple, Axis, coord}
 use Rattle.cells.specs.Extents.{offPlace}
 use Rattle.cells.specs.Grid.{cells}
@@ -35,9 +35,9 @@ record Writable (e o : Triple) (m : List ℕ) (tray : ℕ) : Type 0 where
 
 module _ (e o : Triple) (m : List ℕ) (tray : ℕ) where
   writable : w.refusalOf e o m tray ≡ 0 → Writable e o m tray
-  unfolding w.refusalOf w.declines
+  unfolding w.refusalOf w.declines standsIn number
   writable z =
-      let n = lowest-none (w.declines e o m tray) .0 z in
+      let n = given-none (standsIn (w.declines e o m tray)) .0 z in
       let t = neither (not (eqb (length m) (cells e))) (ltb tray (length (encode e o m))) (n wrong-tray) in
       record {
         placed = n off-size;
@@ -47,21 +47,8 @@ module _ (e o : Triple) (m : List ℕ) (tray : ℕ) where
       }
 
   unrefused : Writable e o m tray → w.refusalOf e o m tray ≡ 0
-  unfolding w.refusalOf w.declines
-  unrefused k = lowest-none (w.declines e o m tray) .1 none
-    where
-      none : (q : Refusal) → w.declines e o m tray q ≡ false
-      none off-size = k .placed
-      none bad-cut = refl
-      none wrong-stage = refl
-      none no-such-place = refl
-      none done-already = refl
-      none wrong-tray = rw (eq-eqb (length m) (cells e) (k .whole), le-ltb tray (length (encode e o m)) (k .room))
-      none blank-voxel = refl
-      none stray-label = k .voxels
-      none layers-differ = refl
-      none table-full = refl
-      none bad-record = refl
+  unfolding w.refusalOf w.declines givenBy first table number standsIn
+  unrefused k = rw (k .placed, eq-eqb (length m) (cells e) (k .whole), le-ltb tray (length (encode e o m)) (k .room), k .voxels)
 
 module _ (e o : Triple) (m t : List ℕ) where
   accepted-writing : w.refusalOf e o m (length t) ≡ 0 → w.writing e o m t ≡ w.accepted e o m t
@@ -87,9 +74,9 @@ record Readable (r : List ℕ) (tray : ℕ) : Type 0 where
 
 module _ (b : List ℕ) (tray : ℕ) where
   readable : r.refusalOf b tray ≡ 0 → Readable b tray
-  unfolding r.refusalOf r.declines r.headed
+  unfolding r.refusalOf r.declines r.headed standsIn number
   readable z =
-      let n = lowest-none (r.declines b tray) .0 z in
+      let n = given-none (standsIn (r.declines b tray)) .0 z in
       let d = neither (not (leb 12 (length b))) (damaged (extentsOf b) b) (n bad-record) in
       let h = not-false _ (d .0) in
       record {
@@ -100,24 +87,8 @@ module _ (b : List ℕ) (tray : ℕ) where
       }
 
   undeclined : Readable b tray → r.refusalOf b tray ≡ 0
-  unfolding r.refusalOf r.declines r.headed
-  undeclined k = lowest-none (r.declines b tray) .1 none
-    where
-      h : leb 12 (length b) ≡ true
-      h = le-leb 12 (length b) (k .headed)
-
-      none : (q : Refusal) → r.declines b tray q ≡ false
-      none off-size = rw h (k .placed)
-      none bad-cut = refl
-      none wrong-stage = refl
-      none no-such-place = refl
-      none done-already = refl
-      none wrong-tray = rw (h, eq-eqb tray (cells (extentsOf b)) (k .room))
-      none blank-voxel = refl
-      none stray-label = refl
-      none layers-differ = refl
-      none table-full = refl
-      none bad-record = rw h (k .sound)
+  unfolding r.refusalOf r.declines r.headed givenBy first table number standsIn
+  undeclined k = rw (le-leb 12 (length b) (k .headed), k .placed, eq-eqb tray (cells (extentsOf b)) (k .room), k .sound)
 
 module _ (b t : List ℕ) where
   accepted-reading : r.refusalOf b (length t) ≡ 0 → r.reading b t ≡ r.accepted b

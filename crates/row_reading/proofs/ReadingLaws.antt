@@ -10,7 +10,7 @@ use lib.Dec.{leb, ltb}
 use lib.ListN.{length, take, drop}
 use borrow.Author.Tests.{leb-true, ltb-true, lt-ltb, le-ltb}
 use Rattle.lists.proofs.Cases.{and-left, and-right}
-use Rattle.refusals.specs.Refusals.{number, table, first, lowest}
+use Rattle.refusals.specs.Refusals.{number, table, first, givenBy, standsIn}
 use Rattle.joiner.specs.Job.{Face, Curve, Point, State, width, fits, listedTrays}
 use Rattle.joiner.specs.Job as joiner
 use Rattle.joiner.specs.Calls.{Call, reading, answer}
@@ -103,7 +103,7 @@ module _ (j : Job) (kind : Kind) (n : ℕ) (faces curves points : List ℕ) (cx 
 
   -- The refusal is the joiner's.
   pub refusal-is : refusal before call ≡ refusalOf j kind n (sizesOf faces curves points)
-  unfolding refusal declines lowest first table number refusalOf
+  unfolding refusal declines givenBy first table number standsIn refusalOf
   refusal-is = rw (← trays-is, ← stands-is, ← late-none before call none false)
 
   -- ---- an accepted reading

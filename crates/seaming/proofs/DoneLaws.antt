@@ -4,11 +4,12 @@ use mathlib.Core.Path.{_≡_, refl, sym, ap, _∙_, subst}
 use mathlib.Core.Bool.{Bool, true, false, not, cond, _&&_}
 use mathlib.Core.List.{List, []}
 use Prim.Native.Nat.{ℕ, _+_, _-_, _*_, _≤_, _<_}
+use native.Mathlib.Nat.{le-refl}
 use native.Mathlib.Omega.{arith}
 use lib.ListN.{length, set}
 use borrow.Author.Tests.{le-ltb}
 use Rattle.lists.proofs.Cases.{by-test, and-left, and-right}
-use Rattle.refusals.specs.Refusals.{number, table, first, lowest}
+use Rattle.refusals.specs.Refusals.{number, table, first, givenBy, standsIn}
 use Rattle.closure.specs.Joined.{joins}
 use Rattle.union_find.specs.Links.{root, Rooted}
 use Rattle.cells.specs.Box.{Triple}
@@ -34,7 +35,7 @@ use Rattle.job.proofs.JobLaws.{fits-append}
 use Rattle.staging.specs.Staging.{tickedIn}
 use Rattle.steps.specs.declared.Entry.{Entry}
 use Rattle.steps.specs.Steps.{entryOf, placedOf, lateOf, Advanced}
-use Rattle.steps.proofs.StepLaws.{refusal-opened, late-none, few-of, block-sized, stands-is, ticked-by, numbered-kept, step-refused, step-accepted}
+use Rattle.steps.proofs.StepLaws.{refusal-opened, late-none, few-of, block-sized, stands-is, links-is, ticked-by, numbered-kept, step-refused, step-accepted}
 use Rattle.seaming.specs.declared.Joined.{Joined}
 use Rattle.seaming.specs.declared.Shared.{Shared}
 use Rattle.seaming.specs.Inner.{lent, sizesOf, mapsFitIn, traysFit, standIn, restOf, refusalOf, Ready, SharedBy, Linked}
@@ -54,9 +55,9 @@ module _ (j : Job) (cx cy cz ticks blocks′ faces curves : List ℕ) (b c : ℕ
   trays-is = ap (λ (x : Bool). mapsFit k (join b c m n) && x) (fits-append (blockTrays (before .job .told) (before .tables)) (linkTrays (before .job .told) (before .tables)))
 
   stands-both : (talliesFit (before .job) && standsFor before (join b c m n))
-      ≡ standIn (talliesFit (jobOf j cx cy cz)) (blockExtents k b) (blockExtents k c) (entryOf blocks′ b) (entryOf blocks′ c) (j .faces) (j .curves) m n
+      ≡ standIn (talliesFit (jobOf j cx cy cz)) (blockExtents k b) (blockExtents k c) (entryOf blocks′ b) (entryOf blocks′ c) (j .«face_entries») (j .«curve_entries») m n faces curves
   unfolding standIn
-  stands-both = rw (stands-is before (blockExtents k b) b m, stands-is before (blockExtents k c) c n)
+  stands-both = rw (stands-is before (blockExtents k b) b m, stands-is before (blockExtents k c) c n, links-is before b, links-is before c)
 
   none : (κ : Kind) → adds before (join b c m n) κ ≡ 0
   unfolding adds
@@ -68,7 +69,7 @@ module _ (j : Job) (cx cy cz ticks blocks′ faces curves : List ℕ) (b c : ℕ
   adds-none Curve = refl
   adds-none Point = refl
 
-  pub refusal-is : refusal before (join b c m n) ≡ refusalOf j cx cy cz ticks (sizesOf ticks blocks′ faces curves m n) blocks′ b c m n
+  pub refusal-is : refusal before (join b c m n) ≡ refusalOf j cx cy cz ticks (sizesOf ticks blocks′ faces curves m n) blocks′ faces curves b c m n
   unfolding refusalOf restOf placedOf lateOf ticked tickedIn seamStep
   refusal-is = refusal-opened before (join b c m n) refl ∙ rw (← trays-is, ← stands-both, ← late-none before (join b c m n) none (layersDiffer k (join b c m n)))
 
@@ -105,15 +106,15 @@ module _ (j : Job) (cx cy cz ticks blocks′ faces curves : List ℕ) (b c : ℕ
     curve-length = fits-at (lentTo (before .job .told) (before .tables) (join b c m n)) 3 (F .lent)
 
     lower-stands : mapStands before (blockExtents k b) b m ≡ true
-    lower-stands = and-left (mapStands before (blockExtents k b) b m) (mapStands before (blockExtents k c) c n) (F .stands)
+    lower-stands = and-left (mapStands before (blockExtents k b) b m) _ (F .stands)
 
     upper-stands : mapStands before (blockExtents k c) c n ≡ true
-    upper-stands = and-right (mapStands before (blockExtents k b) b m) (mapStands before (blockExtents k c) c n) (F .stands)
+    upper-stands = and-left (mapStands before (blockExtents k c) c n) _ (and-right (mapStands before (blockExtents k b) b m) _ (F .stands))
 
     -- ---- what it leaves
 
     module _ (axis : ℕ) (low high : Block) (sh : Shared) (number-is : axis ≡ seamAxis k b c) (A : Tells k b low) (B : Tells k c high) (S : SharedBy low high axis sh) where
-      merged : (κ : Kind) (odd size : ℕ) → odd ≡ 3 - orderOf κ → Standing before (blockExtents k b) b m κ → Standing before (blockExtents k c) c n κ → before .job .sofar κ ≤ size
+      merged : (κ : Kind) (odd size : ℕ) → odd ≡ 3 - orderOf κ → Standing before (blockExtents k b) b m κ → Standing before (blockExtents k c) c n κ → before .job .told .entries κ ≤ size
           → (xs ys : List ℕ)
           → Rooted xs ys (joins (root xs) (layerEdges m (sh .lower) n (sh .upper) odd (fromOf (before .tables) κ b) (fromOf (before .tables) κ c) size (sh .columns) (sh .rows)))
           → Merged xs ys (AtSeam k (before .tables) κ b c m n)
@@ -130,13 +131,13 @@ module _ (j : Job) (cx cy cz ticks blocks′ faces curves : List ℕ) (b c : ℕ
         unfolding fromOf entryOf
         faces-merged =
             merged Face 1 (j .«face_entries») refl (faces-stand before (blockExtents k b) b m lower-stands) (faces-stand before (blockExtents k c) c n upper-stands)
-            (tally-fits (before .job) (F .tallies) Face) faces faces′ (K .of-faces)
+            (le-refl (j .«face_entries»)) faces faces′ (K .of-faces)
 
         curves-merged : Merged curves curves′ (AtSeam k (before .tables) Curve b c m n)
         unfolding fromOf entryOf
         curves-merged =
             merged Curve 2 (j .«curve_entries») refl (curves-stand before (blockExtents k b) b m lower-stands) (curves-stand before (blockExtents k c) c n upper-stands)
-            (tally-fits (before .job) (F .tallies) Curve) curves curves′ (K .of-curves)
+            (le-refl (j .«curve_entries»)) curves curves′ (K .of-curves)
 
       pub seam-done : (d g : Entry) → d ≡ entryOf blocks′ b → g ≡ entryOf blocks′ c → (step : ℕ) → step ≡ 6 * b + axis → (next : Job) (ticks′ faces′ curves′ : List ℕ)
           → Advanced j cx cy cz ticks ticks′ step 0 0 0 next → Linked faces faces′ curves curves′ sh d g (j .«face_entries») (j .«curve_entries») m n
@@ -156,7 +157,7 @@ module _ (j : Job) (cx cy cz ticks blocks′ faces curves : List ℕ) (b c : ℕ
 
   -- ---- the entry
 
-  module _ (number′ : ℕ) (e : number′ ≡ refusalOf j cx cy cz ticks (sizesOf ticks blocks′ faces curves m n) blocks′ b c m n) where
+  module _ (number′ : ℕ) (e : number′ ≡ refusalOf j cx cy cz ticks (sizesOf ticks blocks′ faces curves m n) blocks′ faces curves b c m n) where
     told-number : number′ ≡ refusal before (join b c m n)
     told-number = e ∙ sym refusal-is
 

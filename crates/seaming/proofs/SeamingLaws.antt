@@ -23,7 +23,7 @@ use Rattle.job.specs.declared.Job.{Job}
 use Rattle.job.specs.Jobs.{jobOf, toldOf}
 use Rattle.staging.specs.Staging.{tickedIn}
 use Rattle.steps.specs.declared.Entry.{Entry}
-use Rattle.steps.specs.Steps.{openedOf, entryOf, mapStandsIn}
+use Rattle.steps.specs.Steps.{openedOf, entryOf, mapStandsIn, linksStandIn}
 use Rattle.steps.proofs.StepLaws.{or-first, or-then, opened-passed, block-sized}
 use Rattle.seaming.specs.declared.Shared.{Shared}
 use Rattle.seaming.specs.declared.Sizes.{Sizes}
@@ -31,19 +31,29 @@ use Rattle.seaming.specs.Inner.{standIn, traysFit, mapsFitIn, restOf, re
 
 -- ---- the tests of the maps
 
-module _ (e f : Triple) (d g : Entry) (faces curves : ℕ) (m n : List ℕ) (t u : Bool) (h : t ≡ u) where
-  pub stand-none : not t ≡ true → false ≡ standIn u e f d g faces curves m n
+module _ (e f : Triple) (d g : Entry) (faces curves : ℕ) (m n fs cs : List ℕ) (t u : Bool) (h : t ≡ u) where
+  pub stand-none : not t ≡ true → false ≡ standIn u e f d g faces curves m n fs cs
   unfolding standIn
   stand-none p = rw (sym h ∙ not-true t p)
 
   module _ (q : not t ≡ false) (v : Bool) (i : v ≡ mapStandsIn e d faces curves m) where
-    pub stand-one : not v ≡ true → false ≡ standIn u e f d g faces curves m n
+    pub stand-one : not v ≡ true → false ≡ standIn u e f d g faces curves m n fs cs
     unfolding standIn
     stand-one p = rw (sym h ∙ not-false t q, sym i ∙ not-true v p)
 
-    pub stand-both : not v ≡ false → (w : Bool) → w ≡ mapStandsIn f g faces curves n → w ≡ standIn u e f d g faces curves m n
-    unfolding standIn
-    stand-both p w j = rw (sym h ∙ not-false t q, sym i ∙ not-false v p) j
+    module _ (p : not v ≡ false) (w : Bool) (j : w ≡ mapStandsIn f g faces curves n) where
+      pub stand-two : not w ≡ true → false ≡ standIn u e f d g faces curves m n fs cs
+      unfolding standIn
+      stand-two o = rw (sym h ∙ not-false t q, sym i ∙ not-false v p, sym j ∙ not-true w o)
+
+      module _ (o : not w ≡ false) (x : Bool) (k : x ≡ linksStandIn d fs cs) where
+        pub stand-three : not x ≡ true → false ≡ standIn u e f d g faces curves m n fs cs
+        unfolding standIn
+        stand-three l = rw (sym h ∙ not-false t q, sym i ∙ not-false v p, sym j ∙ not-false w o, sym k ∙ not-true x l)
+
+        pub stand-all : not x ≡ false → (y : Bool) → y ≡ linksStandIn g fs cs → y ≡ standIn u e f d g faces curves m n fs cs
+        unfolding standIn
+        stand-all l y z = rw (sym h ∙ not-false t q, sym i ∙ not-false v p, sym j ∙ not-false w o, sym k ∙ not-false x l) z
 
 -- ---- the layer
 
@@ -68,10 +78,10 @@ module _ (k : Cutting) (b c : ℕ) (low high : Block) (A : Tells k b low) (B : T
       → u ≡ traysFit (blocks k) (blockExtents k b) (blockExtents k c) faces curves z
   trays-told count faces curves z u e h = rw (← e, ← A .size, ← B .size) h
 
-  pub stand-told : (t : Bool) (table : List ℕ) (d g : Entry) (faces curves : ℕ) (m n : List ℕ) (u : Bool) → d ≡ entryOf table b → g ≡ entryOf table c
-      → u ≡ standIn t (sizeOf low) (sizeOf high) d g faces curves m n
-      → u ≡ standIn t (blockExtents k b) (blockExtents k c) (entryOf table b) (entryOf table c) faces curves m n
-  stand-told t table d g faces curves m n u e f h = rw (← e, ← f, ← A .size, ← B .size) h
+  pub stand-told : (t : Bool) (table : List ℕ) (d g : Entry) (faces curves : ℕ) (m n fs cs : List ℕ) (u : Bool) → d ≡ entryOf table b → g ≡ entryOf table c
+      → u ≡ standIn t (sizeOf low) (sizeOf high) d g faces curves m n fs cs
+      → u ≡ standIn t (blockExtents k b) (blockExtents k c) (entryOf table b) (entryOf table c) faces curves m n fs cs
+  stand-told t table d g faces curves m n fs cs u e f h = rw (← e, ← f, ← A .size, ← B .size) h
 
 module _ (e f : Triple) (count faces curves : ℕ) (z : Sizes) (u : Bool) (h : u ≡ traysFit count e f faces curves z) (p : not u ≡ false) where
   both-fit : mapsFitIn e f z ≡ true
@@ -94,9 +104,9 @@ pub kept : (s t : Bool) → s ≡ t → not s ≡ false → t ≡ true
 kept s t e p = sym e ∙ not-false s p
 
 -- the rungs of `refusal`
-module _ (j : Job) (cx cy cz ticks : List ℕ) (z : Sizes) (table : List ℕ) (b c : ℕ) (m n : List ℕ) (r : ℕ) (e : r ≡ openedOf (jobOf j cx cy cz) Seam) where
+module _ (j : Job) (cx cy cz ticks : List ℕ) (z : Sizes) (table fs cs : List ℕ) (b c : ℕ) (m n : List ℕ) (r : ℕ) (e : r ≡ openedOf (jobOf j cx cy cz) Seam) where
   abbrev Refuses : ℕ → Type 0
-  Refuses x = x ≡ refusalOf j cx cy cz ticks z table b c m n
+  Refuses x = x ≡ refusalOf j cx cy cz ticks z table fs cs b c m n
 
   pub seam-first : (r ≡ 0 → ⊥) → Refuses r
   unfolding refusalOf
@@ -115,7 +125,7 @@ module _ (j : Job) (cx cy cz ticks : List ℕ) (z : Sizes) (table : List ℕ) (b
       unfolding refusalOf
       seam-5 w = rw (← e, sym is-seam ∙ not-false t p, sym i ∙ w) (or-then r _ 5 q refl)
 
-      pub seam-rest : u ≡ false → (x : ℕ) → x ≡ restOf j cx cy cz z table b c m n → Refuses x
+      pub seam-rest : u ≡ false → (x : ℕ) → x ≡ restOf j cx cy cz z table fs cs b c m n → Refuses x
       unfolding refusalOf
       seam-rest w x f = rw (← e, sym is-seam ∙ not-false t p, sym i ∙ w) (or-then r _ x q f)
 

@@ -23,7 +23,7 @@ use Rattle.job.specs.declared.Job.{Job}
 use Rattle.job.specs.Jobs.{blockLengths, linkLengths, tablesOf, toldOf, jobOf}
 use Rattle.staging.specs.Staging.{tickedIn}
 use Rattle.steps.specs.declared.Entry.{Entry}
-use Rattle.steps.specs.Steps.{orElse, openedOf, entryOf, mapStandsIn}
+use Rattle.steps.specs.Steps.{orElse, openedOf, entryOf, mapStandsIn, linksStandIn}
 use Rattle.seaming.specs.declared.Shared.{Shared}
 use Rattle.seaming.specs.declared.Sizes.{Sizes}
 
@@ -51,30 +51,31 @@ unfoldable pub traysFit : ℕ → Triple → Triple → ℕ → ℕ → Sizes �
 traysFit count e f faces curves z =
     mapsFitIn e f z && (fits (blockLengths count (z .ticks) (z .blocks)) && fits (linkLengths faces curves (z .«face_links») (z .«curve_links»)))
 
--- 8 denies it: both maps keep to their entries, and the tallies fit.
-unfoldable pub standIn : Bool → Triple → Triple → Entry → Entry → ℕ → ℕ → List ℕ → List ℕ → Bool
-standIn tallies e f d g all-faces all-curves m n = tallies && (mapStandsIn e d all-faces all-curves m && mapStandsIn f g all-faces all-curves n)
+-- 8 denies it: the tallies fit, both maps keep to their entries, and the links of both blocks may be followed.
+unfoldable pub standIn : Bool → Triple → Triple → Entry → Entry → ℕ → ℕ → List ℕ → List ℕ → List ℕ → List ℕ → Bool
+standIn tallies e f d g all-faces all-curves m n faces curves =
+    tallies && (mapStandsIn e d all-faces all-curves m && (mapStandsIn f g all-faces all-curves n && (linksStandIn d faces curves && linksStandIn g faces curves)))
 
 -- The refusal of a call that brings a seam: 6, 8, 9 or none. 10 cannot stand, since nothing is added.
-unfoldable pub restOf : Job → List ℕ → List ℕ → List ℕ → Sizes → List ℕ → ℕ → ℕ → List ℕ → List ℕ → ℕ
-restOf j cx cy cz z table b c m n =
+unfoldable pub restOf : Job → List ℕ → List ℕ → List ℕ → Sizes → List ℕ → List ℕ → List ℕ → ℕ → ℕ → List ℕ → List ℕ → ℕ
+restOf j cx cy cz z table faces curves b c m n =
     let k : Cutting = toldOf j cx cy cz .cutting in
     cond (not (traysFit (blocks k) (blockExtents k b) (blockExtents k c) (j .«face_entries») (j .«curve_entries») z)) 6
-    (cond (not (standIn (talliesFit (jobOf j cx cy cz)) (blockExtents k b) (blockExtents k c) (entryOf table b) (entryOf table c) (j .faces) (j .curves) m n)) 8
+    (cond (not (standIn (talliesFit (jobOf j cx cy cz)) (blockExtents k b) (blockExtents k c) (entryOf table b) (entryOf table c) (j .«face_entries») (j .«curve_entries») m n faces curves)) 8
     (cond (layersDiffer k (join b c m n)) 9 0))
 
 -- The refusal, 0 for none: the joiner's `refusal`.
-unfoldable pub refusalOf : Job → List ℕ → List ℕ → List ℕ → List ℕ → Sizes → List ℕ → ℕ → ℕ → List ℕ → List ℕ → ℕ
-refusalOf j cx cy cz ticks z table b c m n =
+unfoldable pub refusalOf : Job → List ℕ → List ℕ → List ℕ → List ℕ → Sizes → List ℕ → List ℕ → List ℕ → ℕ → ℕ → List ℕ → List ℕ → ℕ
+refusalOf j cx cy cz ticks z table faces curves b c m n =
     let k : Cutting = toldOf j cx cy cz .cutting in
     orElse (openedOf (jobOf j cx cy cz) Seam)
-    (cond (not (seam k b c)) 4 (cond (tickedIn ticks (6 * b + seamAxis k b c)) 5 (restOf j cx cy cz z table b c m n)))
+    (cond (not (seam k b c)) 4 (cond (tickedIn ticks (6 * b + seamAxis k b c)) 5 (restOf j cx cy cz z table faces curves b c m n)))
 
 -- ---- the act
 
 -- The step is not refused.
 pub record Ready (j : Job) (cx cy cz ticks table faces curves : List ℕ) (b c : ℕ) (m n : List ℕ) : Type 0 where
-  pub none : refusalOf j cx cy cz ticks (sizesOf ticks table faces curves m n) table b c m n ≡ 0
+  pub none : refusalOf j cx cy cz ticks (sizesOf ticks table faces curves m n) table faces curves b c m n ≡ 0
 
 -- The blocks, and the axis by number, are those of seam b, c.
 pub record SeamOf (k : Cutting) (b c axis : ℕ) (low high : Block) : Type 0 where

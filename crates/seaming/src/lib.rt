@@ -24,6 +24,7 @@ use staging::is_ticked;
 use steps::Entry;
 use steps::advance;
 use steps::entry_of;
+use steps::links_stand;
 use steps::map_fits;
 use steps::map_stands;
 use steps::opened;
@@ -107,19 +108,35 @@ fn trays_fit(blocks: usize, low: Block, high: Block, job: Job, sizes: Sizes) -> 
     )
 }
 
-// Whether both maps keep to their entries, and the tallies fit.
-fn maps_stand(job: Job, low: Block, high: Block, d: Entry, g: Entry, m: &[u32], n: &[u32]) -> bool
+// Whether the tallies fit, both maps keep to their entries, and the links of both blocks may be followed.
+fn maps_stand(
+    job: Job,
+    low: Block,
+    high: Block,
+    d: Entry,
+    g: Entry,
+    m: &[u32],
+    n: &[u32],
+    face_links: &[u32],
+    curve_links: &[u32],
+) -> bool
     requires { ⌜ Sized 64 (sizeOf low) × (length (now m) ≡ cells (sizeOf low)) ⌝ }
     requires { ⌜ Sized 64 (sizeOf high) × (length (now n) ≡ cells (sizeOf high)) ⌝ }
-    ensures { λ r. ⌜ anyCuts (λ cx cy cz. r ≡ standIn (talliesFit (jobOf job cx cy cz)) (sizeOf low) (sizeOf high) d g (job .faces) (job .curves) (now (m .entry)) (now (n .entry))) ⌝ }
+    ensures { λ r. ⌜ anyCuts (λ cx cy cz. r ≡ standIn (talliesFit (jobOf job cx cy cz)) (sizeOf low) (sizeOf high) d g (job .«face_entries») (job .«curve_entries») (now (m .entry)) (now (n .entry)) (now («face_links» .entry)) (now («curve_links» .entry))) ⌝ }
 {
     if !tallies_fit(job) {
         return false;
     }
-    if !map_stands(m, low, d, job.faces, job.curves) {
+    if !map_stands(m, low, d, job.face_entries, job.curve_entries) {
         return false;
     }
-    map_stands(n, high, g, job.faces, job.curves)
+    if !map_stands(n, high, g, job.face_entries, job.curve_entries) {
+        return false;
+    }
+    if !links_stand(face_links, curve_links, d) {
+        return false;
+    }
+    links_stand(face_links, curve_links, g)
 }
 
 // The layer that two blocks share across an axis.
@@ -153,6 +170,8 @@ fn rest(
     axis: u32,
     sizes: Sizes,
     table: &[u32],
+    face_links: &[u32],
+    curve_links: &[u32],
     lower: u32,
     upper: u32,
     m: &[u32],
@@ -162,7 +181,7 @@ fn rest(
         × (seam (cutOf (job .nx) (job .ny) (job .nz) (now cx) (now cy) (now cz)) lower upper ≡ true)
         × (axis ≡ seamAxis (cutOf (job .nx) (job .ny) (job .nz) (now cx) (now cy) (now cz)) lower upper) ⌝ }
     requires { ⌜ (sizes .lower ≡ length (now m)) × (sizes .upper ≡ length (now n)) ⌝ }
-    ensures { λ r. ⌜ r ≡ restOf job (now (cx .entry)) (now (cy .entry)) (now (cz .entry)) sizes (now (table .entry)) lower upper (now (m .entry)) (now (n .entry)) ⌝ }
+    ensures { λ r. ⌜ r ≡ restOf job (now (cx .entry)) (now (cy .entry)) (now (cz .entry)) sizes (now (table .entry)) (now («face_links» .entry)) (now («curve_links» .entry)) lower upper (now (m .entry)) (now (n .entry)) ⌝ }
 {
     let low = block_at(cx, cy, cz, lower as usize);
     let high = block_at(cx, cy, cz, upper as usize);
@@ -177,6 +196,8 @@ fn rest(
         entry_of(table, upper),
         m,
         n,
+        face_links,
+        curve_links,
     ) {
         return STRAY_LABEL;
     }
@@ -195,13 +216,15 @@ fn refusal(
     ticks: &[u32],
     sizes: Sizes,
     table: &[u32],
+    face_links: &[u32],
+    curve_links: &[u32],
     lower: u32,
     upper: u32,
     m: &[u32],
     n: &[u32],
 ) -> u32
     requires { ⌜ (sizes .lower ≡ length (now m)) × (sizes .upper ≡ length (now n)) ⌝ }
-    ensures { λ r. ⌜ r ≡ refusalOf job (now (cx .entry)) (now (cy .entry)) (now (cz .entry)) (now (ticks .entry)) sizes (now (table .entry)) lower upper (now (m .entry)) (now (n .entry)) ⌝ }
+    ensures { λ r. ⌜ r ≡ refusalOf job (now (cx .entry)) (now (cy .entry)) (now (cz .entry)) (now (ticks .entry)) sizes (now (table .entry)) (now («face_links» .entry)) (now («curve_links» .entry)) lower upper (now (m .entry)) (now (n .entry)) ⌝ }
 {
     let number = opened(job, cx, cy, cz, Stage::Seam);
     if number != 0 {
@@ -214,7 +237,21 @@ fn refusal(
     if is_ticked(ticks, step_of(lower, axis)) {
         return DONE_ALREADY;
     }
-    rest(job, cx, cy, cz, axis, sizes, table, lower, upper, m, n)
+    rest(
+        job,
+        cx,
+        cy,
+        cz,
+        axis,
+        sizes,
+        table,
+        face_links,
+        curve_links,
+        lower,
+        upper,
+        m,
+        n,
+    )
 }
 
 // Joins the components of one kind that both blocks have in the layer.
@@ -347,7 +384,21 @@ pub fn seam(
         lower: m.len(),
         upper: n.len(),
     };
-    let number = refusal(job, cx, cy, cz, ticks, sizes, blocks, lower, upper, m, n);
+    let number = refusal(
+        job,
+        cx,
+        cy,
+        cz,
+        ticks,
+        sizes,
+        blocks,
+        face_links,
+        curve_links,
+        lower,
+        upper,
+        m,
+        n,
+    );
     if number != 0 {
         return Joined {
             refusal: number,

@@ -51,6 +51,7 @@ module _ {before after : List ℕ} {es : List Edge} {R : ℕ → ℕ → Type 0}
           (sym (J .roots x) ∙ e ∙ J .roots y),
       λ p. J .roots x ∙ together-one f p ∙ sym (J .roots y),
     );
+    sound = J .sound;
   }
 
 -- ---- the order of a layer's cell

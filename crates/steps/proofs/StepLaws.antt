@@ -8,9 +8,9 @@ use Prim.Native.Nat.{ℕ, _+_, _*_, _≤_, _<_}
 use native.Mathlib.Omega.{arith}
 use lib.Dec.{eqb, leb, ltb}
 use lib.ListN.{getD, length, set, List·getD-eq-default}
-use borrow.Author.Tests.{eqb-true, eqb-false, ne-eqb, eq-eqb, le-ltb, ltb-true, not-true, not-false}
+use borrow.Author.Tests.{eqb-true, eqb-false, ne-eqb, eq-eqb, le-ltb, lt-ltb, ltb-true, not-true, not-false}
 use Rattle.lists.proofs.Cases.{by-test, and-left}
-use Rattle.refusals.specs.Refusals.{number, table, first, lowest}
+use Rattle.refusals.specs.Refusals.{number, table, first, givenBy, standsIn}
 use Rattle.cells.specs.Box.{Triple}
 use Rattle.cells.specs.Extents.{Sized, offSize}
 use Rattle.cells.specs.Grid.{cells}
@@ -21,7 +21,7 @@ use Rattle.joiner.specs.Job.{Kind, Face, Curve, Point, Tables, State, sameStage
 use Rattle.joiner.specs.Job as joiner
 use Rattle.joiner.specs.Stages.{nextAfter}
 use Rattle.joiner.specs.Calls.{Call, Answer, answer, stageOf, placed, repeated, layersDiffer, full, overfull}
-use Rattle.joiner.specs.Declines.{adds, counted, cutFor, declines, filled, mapStands, refusal, standing, standsFor, stray, talliesFit}
+use Rattle.joiner.specs.Declines.{adds, counted, cutFor, declines, filled, linksStand, mapStands, numberStands, refusal, standing, standsFor, stray, talliesFit, waysStand}
 use Rattle.joiner.specs.Entries.{Done, Step, Ticked}
 use Rattle.model.proofs.Facts.{tally-fits}
 use Rattle.blocks.specs.Blocks.{anyExtents, cutOf, sizeOf, Tells}
@@ -36,7 +36,7 @@ use Rattle.job.specs.Jobs as job
 use Rattle.staging.specs.Staging.{tickedIn}
 use Rattle.staging.proofs.StagingLaws.{next-told}
 use Rattle.steps.specs.declared.Entry.{Entry}
-use Rattle.steps.specs.Steps.{orElse, openedOf, reachedOf, lateOf, placedOf, entryOf, standsBy, mapStandsIn, movedOn, Advanced}
+use Rattle.steps.specs.Steps.{orElse, openedOf, reachedOf, lateOf, placedOf, entryOf, standsBy, mapStandsIn, linksStandIn, numberStandsIn, movedOn, Advanced}
 
 -- ---- one refusal or else another
 
@@ -84,7 +84,7 @@ five false false x = refl
 
 module _ (s : State) (c : Call) (cut : cutFor s c ≡ goodCut (s .job .told .cutting)) where
   pub refusal-opened : refusal s c ≡ orElse (openedOf (s .job) (stageOf c)) (placedOf s c)
-  unfolding refusal declines lowest first table number openedOf placedOf lateOf
+  unfolding refusal declines givenBy first table number standsIn openedOf placedOf lateOf
   refusal-opened =
       rw cut (three (offSize 1024 (s .job .told .cutting .extents)) (not (goodCut (s .job .told .cutting))) (not (sameStage (s .job .stage) (stageOf c))) (placedOf s c))
 
@@ -224,9 +224,29 @@ unfolding mapStandsIn
 map-stands-by e m d faces curves s r f a b c h = rw (← f, ← a, ← b, ← c) h
 
 -- The joiner's test of a map, by the block table.
-pub stands-is : (s : State) (e : Triple) (b : ℕ) (m : List ℕ) → mapStands s e b m ≡ mapStandsIn e (entryOf (s .tables .blocks) b) (s .job .sofar Face) (s .job .sofar Curve) m
+pub stands-is : (s : State) (e : Triple) (b : ℕ) (m : List ℕ) → mapStands s e b m ≡ mapStandsIn e (entryOf (s .tables .blocks) b) (s .job .told .entries Face) (s .job .told .entries Curve) m
 unfolding mapStands counted standing countOf fromOf mapStandsIn standsBy entryOf
 stands-is s e b m = rw (let q : 5 * b + 0 ≡ 5 * b = omega arith in q)
+
+-- .. and of its links.
+pub links-is : (s : State) (b : ℕ) → linksStand s b ≡ linksStandIn (entryOf (s .tables .blocks) b) (s .tables .links Face) (s .tables .links Curve)
+unfolding linksStand waysStand countOf fromOf linksStandIn entryOf
+links-is s b = rw (let q : 5 * b + 0 ≡ 5 * b = omega arith in q)
+
+-- .. and of a final number.
+pub number-is : (s : State) (κ : Kind) (x : ℕ) → numberStands s κ x ≡ numberStandsIn (s .tables .numbers κ) (s .job .numbered κ) x
+unfolding numberStands numberStandsIn
+number-is s κ x = refl
+
+-- t is the code's test
+module _ (numbers : List ℕ) (most x n : ℕ) (e : n ≡ getD numbers x 0) where
+  pub number-none : n ≡ 0 → false ≡ numberStandsIn numbers most x
+  unfolding numberStandsIn
+  number-none z = rw (← e, z)
+
+  pub number-some : (n ≡ 0 → ⊥) → (t : Bool) → t ≡ leb n most → t ≡ numberStandsIn numbers most x
+  unfolding numberStandsIn
+  number-some z t h = rw (← e, lt-ltb 0 n (omega arith)) h
 
 -- ---- the tick
 

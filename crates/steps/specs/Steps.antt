@@ -6,6 +6,7 @@ use mathlib.Core.List.{List}
 use Prim.Native.Nat.{ℕ, _+_, _*_}
 use lib.Dec.{eqb, leb, ltb}
 use lib.ListN.{getD, set}
+use Rattle.union_find.specs.Links.{soundWays}
 use Rattle.cells.specs.Box.{Triple}
 use Rattle.cells.specs.Extents.{offSize}
 use Rattle.labels.specs.Components.{largest}
@@ -71,6 +72,14 @@ standsBy filled faces curves points d all-faces all-curves =
 -- .. of a map: the joiner's `mapStands`.
 unfoldable pub mapStandsIn : Triple → Entry → ℕ → ℕ → List ℕ → Bool
 mapStandsIn e d all-faces all-curves m = standsBy (filled e m) (largest e m 2) (largest e m 1) (largest e m 0) d all-faces all-curves
+
+-- .. of the links of a block's faces and curves: the joiner's `linksStand`.
+unfoldable pub linksStandIn : Entry → List ℕ → List ℕ → Bool
+linksStandIn d faces curves = soundWays faces (d .«face_from») (d .faces) && soundWays curves (d .«curve_from») (d .curves)
+
+-- .. of the final number at a place: the joiner's `numberStands`.
+unfoldable pub numberStandsIn : List ℕ → ℕ → ℕ → Bool
+numberStandsIn numbers most x = ltb 0 (getD numbers x 0) && leb (getD numbers x 0) most
 
 -- ---- the tick
 

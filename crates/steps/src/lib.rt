@@ -15,6 +15,7 @@ use staging::is_ticked;
 use staging::next_stage;
 use surveys::Survey;
 use surveys::survey_map;
+use union_find::sound_ways;
 ghost use mathlib.Core.Path.{_≡_};
 ghost use Prim.Native.Nat.{_+_, _*_, _≤_, _<_};
 ghost use lib.Dec.{eqb, leb};
@@ -24,7 +25,7 @@ ghost use Rattle.cells.specs.Grid.{cells};
 ghost use Rattle.cutting.specs.Cutting.{intervals};
 ghost use Rattle.blocks.specs.Blocks.{sizeOf};
 ghost use Rattle.job.specs.Jobs.{stageOf, jobOf};
-ghost use Rattle.steps.specs.Steps.{openedOf, reachedOf, entryOf, standsBy, mapStandsIn, Advanced};
+ghost use Rattle.steps.specs.Steps.{openedOf, reachedOf, entryOf, standsBy, mapStandsIn, linksStandIn, numberStandsIn, Advanced};
 
 // What the block table tells of a block: its largest numbers, and the places of its first face and first curve.
 pub struct Entry {
@@ -123,14 +124,14 @@ fn within(n: u32, most: u32) -> bool
     n <= most
 }
 
-// Whether so many components from a place on stand among the enrolled ones.
-fn behind(from: u32, count: u32, tally: u32) -> bool
-    ensures { λ r. ⌜ r ≡ leb (from + count) tally ⌝ }
+// Whether so many components from a place on stand in a table of so many entries.
+fn inside(from: u32, count: u32, entries: u32) -> bool
+    ensures { λ r. ⌜ r ≡ leb (from + count) entries ⌝ }
 {
-    from as u64 + count as u64 <= tally as u64
+    from as u64 + count as u64 <= entries as u64
 }
 
-// Whether a surveyed map keeps to its block's entry, and the entry to the tallies.
+// Whether a surveyed map keeps to its block's entry, and the entry to the tables of faces and curves.
 fn stands(s: Survey, entry: Entry, faces: u32, curves: u32) -> bool
     ensures { λ r. ⌜ r ≡ standsBy (s .filled) (s .faces) (s .curves) (s .points) entry faces curves ⌝ }
 {
@@ -146,19 +147,40 @@ fn stands(s: Survey, entry: Entry, faces: u32, curves: u32) -> bool
     if !within(s.points, entry.points) {
         return false;
     }
-    if !behind(entry.face_from, entry.faces, faces) {
+    if !inside(entry.face_from, entry.faces, faces) {
         return false;
     }
-    behind(entry.curve_from, entry.curves, curves)
+    inside(entry.curve_from, entry.curves, curves)
 }
 
-// Whether a map keeps to its block's entry, and the entry to the tallies of faces and curves. Not an entry of the service.
+// Whether a map keeps to its block's entry, and the entry to tables of so many faces and curves. Not an entry of the service.
 pub fn map_stands(map: &[u32], block: Block, entry: Entry, faces: u32, curves: u32) -> bool
     requires { ⌜ Sized 64 (sizeOf block) × (length (now map) ≡ cells (sizeOf block)) ⌝ }
     ensures { λ r. ⌜ r ≡ mapStandsIn (sizeOf block) entry faces curves (now (map .entry)) ⌝ }
 {
     let s = survey_map(map, block.nx, block.ny, block.nz);
     stands(s, entry, faces, curves)
+}
+
+// Whether the links of the block's faces and curves may be followed: none that is looked at is longer than its place.
+pub fn links_stand(face_links: &[u32], curve_links: &[u32], entry: Entry) -> bool
+    ensures { λ r. ⌜ r ≡ linksStandIn entry (now («face_links» .entry)) (now («curve_links» .entry)) ⌝ }
+{
+    if !sound_ways(face_links, entry.face_from, entry.faces) {
+        return false;
+    }
+    sound_ways(curve_links, entry.curve_from, entry.curves)
+}
+
+// Whether the final number at a place is one of the closed table's: 1 to the numbered count.
+pub fn number_stands(numbers: &[u32], most: u32, place: usize) -> bool
+    ensures { λ r. ⌜ r ≡ numberStandsIn (now (numbers .entry)) most place ⌝ }
+{
+    let n = at(numbers, place);
+    if n == 0 {
+        return false;
+    }
+    n <= most
 }
 
 // ---- the tick

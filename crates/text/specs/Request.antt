@@ -6,7 +6,7 @@ use mathlib.Core.List.{List, [], _∷_, map}
 use Prim.Native.Nat.{ℕ, _+_}
 use lib.Dec.{eqb, leb}
 use lib.ListN.{length, getD, drop}
-use Rattle.refusals.specs.Refusals.{Refusal, off-size, bad-cut, wrong-stage, no-such-place, done-already, wrong-tray, blank-voxel, stray-label, layers-differ, table-full, bad-record, lowest}
+use Rattle.refusals.specs.Refusals.{off-size, blank-voxel, bad-record, Case, _if_, given}
 use Rattle.cells.specs.Box.{Triple, triple, volume}
 use Rattle.cells.specs.Codes.{blank}
 use Rattle.cells.specs.Extents.{offSize}
@@ -36,23 +36,13 @@ codesIn ws = map spelled (drop 3 ws)
 unfoldable pub formed : List (List ℕ) → Bool
 formed ws = numbers ws && (leb 3 (length ws) && eqb (length (drop 3 ws)) (volume (extentsIn ws)))
 
--- When each refusal applies: 1 where the extents can be read and are off size, 7 "only for text of its form", 11 for any other text.
-unfoldable pub declinesText : List (List ℕ) → Refusal → Bool
-declinesText ws off-size = readable ws && offSize 8 (extentsIn ws)
-declinesText ws bad-cut = false
-declinesText ws wrong-stage = false
-declinesText ws no-such-place = false
-declinesText ws done-already = false
-declinesText ws wrong-tray = false
-declinesText ws blank-voxel = formed ws && blank (codesIn ws)
-declinesText ws stray-label = false
-declinesText ws layers-differ = false
-declinesText ws table-full = false
-declinesText ws bad-record = not (formed ws)
+-- The cases of a text: 1 where the extents can be read and are off size, 7 "only for text of its form", 11 for any other text.
+unfoldable pub declinesText : List (List ℕ) → List Case
+declinesText ws = off-size if (readable ws && offSize 8 (extentsIn ws)) ∷ blank-voxel if (formed ws && blank (codesIn ws)) ∷ bad-record if not (formed ws) ∷ []
 
 -- The refusal of a text, 0 for none.
 unfoldable pub textRefusal : List ℕ → ℕ
-textRefusal text = lowest (declinesText (wordsOf text))
+textRefusal text = given (declinesText (wordsOf text))
 
 -- What a text asks for: extents and codes.
 unfoldable pub askedExtents : List ℕ → Triple

@@ -37,7 +37,7 @@ pub service3 : (o : Told) (lent : Tables) (h : Held) (own : ℕ → List ℕ) (e
     → ((b : ℕ) → b < blocks (o .cutting) → Labelling (blockExtents (o .cutting) b) (own b))
     → Calls h es
     → Fair own es
-    → Measured (begun o) es
+    → Measured own (begun o) es
 service3 o lent h own es by labelled calls fair =
     let O = opened-opening by in
     statement3 o lent (stateIn h) own es (O .opened (sym (O .told))) labelled (calls-run calls) fair

@@ -4,7 +4,7 @@ ghost use mathlib.Core.Path.{_≡_};
 ghost use Prim.Native.Nat.{_-_};
 ghost use lib.ListN.{length};
 ghost use Rattle.lists.specs.Lists.{zeros};
-ghost use Rattle.union_find.specs.Links.{parent, root, united, Rooted, Found};
+ghost use Rattle.union_find.specs.Links.{parent, root, soundBelow, soundWays, united, Rooted, Walked, Found};
 
 // Where a link of d leads from x.
 fn back(x: u32, d: u32) -> u32
@@ -87,4 +87,80 @@ pub fn clear(links: &mut [u32])
         links[next - 1] = 0;
         next += 1;
     }
+}
+
+// Whether the link of each id below n is at most its place.
+pub fn all_sound(links: &[u32], n: usize) -> bool
+    ensures { λ r. ⌜ r ≡ soundBelow (now (links .entry)) n ⌝ }
+{
+    let mut i: usize = 0;
+    while i < n {
+        if i >= links.len() {
+            return true;
+        }
+        if links[i] as usize > i {
+            return false;
+        }
+        i += 1;
+    }
+    true
+}
+
+// The way from an id to its root: whether every link on it is at most its place, and how many steps it has if so.
+struct Way {
+    sound: bool,
+    steps: usize,
+}
+
+// The way from x. An id past the end is alone.
+fn walk(links: &[u32], x: usize) -> Way
+    ensures { λ r. ⌜ Walked (now (links .entry)) x (r .sound) (r .steps) ⌝ }
+{
+    let mut steps: usize = 0;
+    if x >= links.len() {
+        return Way {
+            sound: true,
+            steps: steps,
+        };
+    }
+    let mut at: usize = x;
+    loop {
+        let d = links[at] as usize;
+        if d > at {
+            return Way {
+                sound: false,
+                steps: steps,
+            };
+        }
+        if d == 0 {
+            return Way {
+                sound: true,
+                steps: steps,
+            };
+        }
+        at -= d;
+        steps += 1;
+    }
+}
+
+// Whether `count` ids, from `from` on, may be joined to others. At most three passes over the table and one look at each id.
+pub fn sound_ways(links: &[u32], from: u32, count: u32) -> bool
+    ensures { λ r. ⌜ r ≡ soundWays (now (links .entry)) from count ⌝ }
+{
+    let start = from as usize;
+    let n = count as usize;
+    let mut i: usize = 0;
+    let mut steps: usize = 0;
+    while i < n {
+        let w = walk(links, start + i);
+        if !w.sound {
+            return false;
+        }
+        steps += w.steps;
+        if steps > links.len() {
+            return all_sound(links, start + n);
+        }
+        i += 1;
+    }
+    true
 }

@@ -19,8 +19,8 @@ use Rattle.cells.specs.Extents.{offPlace}
 use Rattle.cells.specs.Grid.{sides, cells}
 use Rattle.cells.proofs.ExtentLaws.{cells-high}
 use Rattle.extents.proofs.SizeLaws.{sized-at}
-use Rattle.refusals.specs.Refusals.{off-size, wrong-tray, number, table, first, lowest}
-use Rattle.refusals.proofs.RefusalLaws.{lowest-none}
+use Rattle.refusals.specs.Refusals.{off-size, wrong-tray, number, table, first, givenBy, standsIn}
+use Rattle.refusals.proofs.RefusalLaws.{given-none}
 use Rattle.lines.specs.Lines.{lineCount, firstX}
 use Rattle.lines.proofs.LineLaws.{Tests, line-start, line-next, line-end, next-line, cells-lines}
 use Rattle.records.specs.Fields.{packed, laid}
@@ -208,7 +208,7 @@ pieces e o m t t₁ t₂ t₃ at r g a b c d = (
 module _ (e o : Triple) (m : List ℕ) (tray : ℕ) where
   -- the tests in the order of the code
   ladder : refusalOf e o m tray ≡ cond (offPlace e o) 1 (cond (not (eqb (length m) (cells e)) || ltb tray (length (encode e o m))) 6 (cond (blankVoxel e m) 8 0))
-  unfolding refusalOf lowest first table number declines
+  unfolding refusalOf givenBy first table number standsIn declines
   ladder = refl
 
   pub off-size-given : offPlace e o ≡ true → 1 ≡ refusalOf e o m tray
@@ -230,9 +230,9 @@ module _ (e o : Triple) (m : List ℕ) (tray : ℕ) where
 
   -- What holds where nothing is refused.
   pub ready-of : refusalOf e o m tray ≡ 0 → Ready m tray
-  unfolding refusalOf declines
+  unfolding refusalOf declines standsIn number
   ready-of z =
-      let n = lowest-none (declines e o m tray) .0 z in
+      let n = given-none (standsIn (declines e o m tray)) .0 z in
       let s = sized-at e o (n off-size) in
       let w = n wrong-tray in
       let a = not (eqb (length m) (cells e)) in

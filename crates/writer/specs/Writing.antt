@@ -1,33 +1,25 @@
 -- What `write_record` answers and leaves in the tray, for every input (document 01, "Block record" and "What the service declines").
 -- Assumes nothing.
 use mathlib.Core.Bool.{Bool, false, cond, not, _||_}
-use mathlib.Core.List.{List, _++_}
+use mathlib.Core.List.{List, [], _∷_, _++_}
 use Prim.Native.Nat.{ℕ}
 use lib.Dec.{eqb, ltb}
 use lib.ListN.{length, drop}
-use Rattle.refusals.specs.Refusals.{Refusal, off-size, bad-cut, wrong-stage, no-such-place, done-already, wrong-tray, blank-voxel, stray-label, layers-differ, table-full, bad-record, lowest}
+use Rattle.refusals.specs.Refusals.{off-size, wrong-tray, stray-label, Case, _if_, given}
 use Rattle.cells.specs.Box.{Triple}
 use Rattle.cells.specs.Extents.{offPlace}
 use Rattle.cells.specs.Grid.{cells}
 use Rattle.records.specs.Record.{encode, blankVoxel}
 use Rattle.writer.specs.declared.Written.{Written}
 
--- When each refusal applies. The tray goes in by its length.
-unfoldable pub declines : Triple → Triple → List ℕ → ℕ → Refusal → Bool
-declines e o m tray off-size = offPlace e o
-declines e o m tray bad-cut = false
-declines e o m tray wrong-stage = false
-declines e o m tray no-such-place = false
-declines e o m tray done-already = false
-declines e o m tray wrong-tray = not (eqb (length m) (cells e)) || ltb tray (length (encode e o m))
-declines e o m tray blank-voxel = false
-declines e o m tray stray-label = blankVoxel e m
-declines e o m tray layers-differ = false
-declines e o m tray table-full = false
-declines e o m tray bad-record = false
+-- The cases of `write_record`. The tray goes in by its length.
+unfoldable pub declines : Triple → Triple → List ℕ → ℕ → List Case
+declines e o m tray =
+    off-size if offPlace e o ∷ wrong-tray if (not (eqb (length m) (cells e)) || ltb tray (length (encode e o m))) ∷ stray-label if blankVoxel e m ∷ []
 
+-- The refusal of a call, 0 for none.
 unfoldable pub refusalOf : Triple → Triple → List ℕ → ℕ → ℕ
-refusalOf e o m tray = lowest (declines e o m tray)
+refusalOf e o m tray = given (declines e o m tray)
 
 -- The answer, and what the record tray holds.
 pub record Outcome : Type 0 where

@@ -11,15 +11,15 @@ reached-requires : tie.Need-reached-requires
 reached-requires c κs = search needs
 
 returns : tie.Need-returns
-returns c = cross-first ((c .before .before .before .before .before .before .before .before .before .before .args) .job) _ _ _ _ _ _ _ _ _ _ _ ((c .before .before .step-of) .ensures) ((c .before .reached) .ensures) ((c .if1) .taken)
+returns c = cross-first ((c .before .before .before .before .before .before .before .before .before .before .before .before .args) .job) _ _ _ _ _ _ _ _ _ _ _ _ _ ((c .before .before .step-of) .ensures) ((c .before .reached) .ensures) ((c .if1) .taken)
 
 rest-requires : tie.Need-rest-requires
 rest-requires c κs =
-    let p = cross-passed ((c .before .before .before .before .before .before .before .before .before .before .args) .job) _ _ _ _ _ _ _ ((c .before .reached) .ensures) ((c .if1) .left) in
-    (p .0, p .1, (c .before .before .before .before .before .before .before .before .before .before .pre))
+    let p = cross-passed ((c .before .before .before .before .before .before .before .before .before .before .before .before .args) .job) _ _ _ _ _ _ _ ((c .before .reached) .ensures) ((c .if1) .left) in
+    (p .0, p .1, (c .before .before .before .before .before .before .before .before .before .before .before .before .pre))
 
 returns-2 : tie.Need-returns-2
-returns-2 c = cross-rest ((c .before .before .before .before .before .before .before .before .before .before .before .args) .job) _ _ _ _ _ _ _ _ _ _ _ ((c .before .before .before .step-of) .ensures) ((c .before .before .reached) .ensures) ((c .before .if1) .left) _ ((c .rest) .ensures)
+returns-2 c = cross-rest ((c .before .before .before .before .before .before .before .before .before .before .before .before .before .args) .job) _ _ _ _ _ _ _ _ _ _ _ _ _ ((c .before .before .before .step-of) .ensures) ((c .before .before .reached) .ensures) ((c .before .if1) .left) _ ((c .rest) .ensures)
 
 pub refusal-spec : {M : Type 1} → statement M
 refusal-spec =

@@ -9,11 +9,8 @@ use Rattle.crossing.proofs.rows_ready.Tie as tie
 last-crossing-requires : tie.Need-last-crossing-requires
 last-crossing-requires c κs = search needs
 
-mul-rows-stand : tie.Need-mul-rows-stand
-mul-rows-stand c = search needs
-
-rows-stand-requires : tie.Need-rows-stand-requires
-rows-stand-requires c κs = search needs
+all-ready-requires : tie.Need-all-ready-requires
+all-ready-requires c κs = search needs
 
 returns : tie.Need-returns
 unfolding numberable
@@ -26,4 +23,4 @@ returns-2 c = cond-next _ _ _ _ _ ((c .before .last-crossing) .ensures) ((c .if1
 pub rows-ready-spec : {M : Type 1} → statement M
 rows-ready-spec =
     tie.close
-    (tie.spec last-crossing-requires mul-rows-stand rows-stand-requires returns returns-2)
+    (tie.spec last-crossing-requires all-ready-requires returns returns-2)

@@ -1,6 +1,6 @@
 -- `lookup::look_up` meets its contract.
 use borrow.Author.Needs.{needs}
-use Rattle.lookup.proofs.NumberLaws.{looked-up}
+use Rattle.lookup.proofs.NumberLaws.{looked-up, looked-stands}
 use Rattle.lookup.proofs.LookupLaws.{cell-there, cell-local, cell-placed}
 use Rattle.lookup.proofs.look_up.Statement.{statement}
 use Rattle.lookup.proofs.look_up.Tie as tie
@@ -17,11 +17,20 @@ entry-of-requires c κs = search needs
 at-requires : tie.Need-at-requires
 at-requires c κs = search needs
 
+number-handed-requires : tie.Need-number-handed-requires
+number-handed-requires c κs = search needs
+
 number-of-requires : tie.Need-number-of-requires
-number-of-requires c κs = cell-placed _ _ _ _ _ _ _ _ _ _ _ _ (c .before .before .before .before .before .before .before .before .before .before .before .before .before .pre) _ (c .before .before .before .block-at .ensures _ _ _)
+number-of-requires c κs = cell-placed _ _ _ _ _ _ _ _ _ _ _ _ (c .before .before .before .before .before .before .before .before .before .before .before .before .before .before .pre) _ (c .before .before .before .before .block-at .ensures _ _ _)
 
 returns : tie.Need-returns
-returns c = looked-up _ _ _ _ _ _ _ _ _ _ _ _ _ (c .before .before .before .before .block-at .ensures _ _ _) (cell-there _ _ _ _ _ _ _ _ _ _ _ _ (c .before .before .before .before .before .before .before .before .before .before .before .before .before .before .pre) _ (c .before .before .before .before .block-at .ensures _ _ _)) _ _ _ _ (c .before .before .before .local .ensures) (c .before .before .entry-of .ensures) (c .before .at .ensures) (c .number-of .ensures)
+returns c =
+    let T = c .before .before .before .before .before .block-at .ensures _ _ _ in
+    let there = cell-there _ _ _ _ _ _ _ _ _ _ _ _ (c .before .before .before .before .before .before .before .before .before .before .before .before .before .before .before .pre) _ T in
+    record {
+      stands = looked-stands _ _ _ _ _ _ _ _ _ _ _ _ _ T there _ _ _ _ (c .before .before .before .before .local .ensures) (c .before .before .before .entry-of .ensures) (c .before .before .at .ensures) (c .before .number-handed .ensures);
+      number = looked-up _ _ _ _ _ _ _ _ _ _ _ _ _ T there _ _ _ _ (c .before .before .before .before .local .ensures) (c .before .before .before .entry-of .ensures) (c .before .before .at .ensures) (c .number-of .ensures);
+    }
 
 pub look-up-spec : {M : Type 1} → statement M
 look-up-spec =
@@ -31,5 +40,6 @@ look-up-spec =
     local-requires
     entry-of-requires
     at-requires
+    number-handed-requires
     number-of-requires
     returns)

@@ -13,8 +13,8 @@ refused-requires c κs = search needs
 returns : tie.Need-returns
 returns c = search late-tallies
 
-map-stands-requires : tie.Need-map-stands-requires
-map-stands-requires c κs = search needs
+stand-requires : tie.Need-stand-requires
+stand-requires c κs = search needs
 
 refused-requires-2 : tie.Need-refused-requires-2
 refused-requires-2 c κs = search needs
@@ -53,7 +53,7 @@ late-spec =
     tallies-fit-requires
     refused-requires
     returns
-    map-stands-requires
+    stand-requires
     refused-requires-2
     returns-2
     count-points-requires

@@ -16,11 +16,11 @@ block-at-requires-2 : tie.Need-block-at-requires-2
 block-at-requires-2 c κs = search needs
 
 block-count-requires : tie.Need-block-count-requires
-block-count-requires c κs = let p = c .before .before .before .before .before .before .before .before .pre .0 in few-of _ (p .0)
+block-count-requires c κs = let p = c .before .before .before .before .before .before .before .before .before .before .pre .0 in few-of _ (p .0)
 
 trays-fit-requires : tie.Need-trays-fit-requires
 trays-fit-requires c κs =
-    let p = c .before .before .before .before .before .before .before .before .before .pre .0 in (
+    let p = c .before .before .before .before .before .before .before .before .before .before .before .pre .0 in (
       count-few _ (p .0) _ (c .block-count .ensures _ _ _),
       lower-sized _ _ _ (p .0) (p .1) _
           (c .before .before .block-at .ensures _ _ _),
@@ -42,8 +42,8 @@ entry-of-requires-2 c κs = search needs
 
 maps-stand-requires : tie.Need-maps-stand-requires
 maps-stand-requires c κs =
-    let p = c .before .before .before .before .before .before .before .before .before .before .before .before .before .pre .0 in
-    let q = c .before .before .before .before .before .before .before .before .before .before .before .before .before .pre .1 in (
+    let p = c .before .before .before .before .before .before .before .before .before .before .before .before .before .before .before .pre .0 in
+    let q = c .before .before .before .before .before .before .before .before .before .before .before .before .before .before .before .pre .1 in (
       (
         lower-sized _ _ _ (p .0) (p .1) _ (c .before .before .before .before .before .before .block-at .ensures _ _ _),
         lower-length _ _ _ _ _ _ _
@@ -65,12 +65,12 @@ returns-2 c =
     (c .before .before .before .before .before .before .block-count .ensures _ _ _) (c .before .before .before .before .before .trays-fit .ensures))
     (c .before .before .before .before .if1 .left) (cond-not-here _ _ _ _ _ (stand-told _ _ _ _ _
     (c .before .before .before .before .before .before .before .before .block-at .ensures _ _ _)
-    (c .before .before .before .before .before .before .before .block-at2 .ensures _ _ _) _ _ _ _ _ _ _ _ _ (c .before .before .before .entry-of .ensures)
+    (c .before .before .before .before .before .before .before .block-at2 .ensures _ _ _) _ _ _ _ _ _ _ _ _ _ _ (c .before .before .before .entry-of .ensures)
     (c .before .before .entry-of2 .ensures) (c .before .maps-stand .ensures _ _ _)) (c .if2 .taken) refl)
 
 differ-requires : tie.Need-differ-requires
 differ-requires c κs =
-    let p = c .before .before .before .before .before .before .before .before .before .before .before .before .before .before .before .pre .0 in (
+    let p = c .before .before .before .before .before .before .before .before .before .before .before .before .before .before .before .before .before .pre .0 in (
       lower-sized _ _ _ (p .0) (p .1) _ (c .before .before .before .before .before .before .before .before .block-at .ensures _ _ _),
       upper-sized _ _ _
           (p .0) (p .1) _ (c .before .before .before .before .before .before .before .block-at2 .ensures _ _ _),
@@ -79,7 +79,7 @@ differ-requires c κs =
 returns-3 : tie.Need-returns-3
 unfolding restOf
 returns-3 c =
-    let p = c .before .before .before .before .before .before .before .before .before .before .before .before .before .before .before .before .before .pre .0 in
+    let p = c .before .before .before .before .before .before .before .before .before .before .before .before .before .before .before .before .before .before .before .pre .0 in
     cond-not-next _ _ _ _ _ (trays-told _ _ _ _ _
     (c .before .before .before .before .before .before .before .before .before .before .block-at .ensures _ _ _)
     (c .before .before .before .before .before .before .before .before .before .block-at2 .ensures _ _ _) _ _ _ _ _
@@ -87,7 +87,7 @@ returns-3 c =
     (c .before .before .before .before .before .before .before .trays-fit .ensures)) (c .before .before .before .before .before .before .if1 .left)
     (cond-not-next _ _ _ _ _ (stand-told _ _ _ _ _
     (c .before .before .before .before .before .before .before .before .before .before .block-at .ensures _ _ _)
-    (c .before .before .before .before .before .before .before .before .before .block-at2 .ensures _ _ _) _ _ _ _ _ _ _ _ _
+    (c .before .before .before .before .before .before .before .before .before .block-at2 .ensures _ _ _) _ _ _ _ _ _ _ _ _ _ _
     (c .before .before .before .before .before .entry-of .ensures) (c .before .before .before .before .entry-of2 .ensures)
     (c .before .before .before .maps-stand .ensures _ _ _)) (c .before .before .if2 .left) (cond-here _ _ _ _ _ (c .before .differ .ensures _ _ _
     (record { good = p .0; is-seam = p .1; number = p .2; tells-low = c .before .before .before .before .before .before .before .before .before .before .block-at .ensures _ _ _; tells-high = c .before .before .before .before .before .before .before .before .before .block-at2 .ensures _ _ _ }))
@@ -96,7 +96,7 @@ returns-3 c =
 returns-4 : tie.Need-returns-4
 unfolding restOf
 returns-4 c =
-    let p = c .before .before .before .before .before .before .before .before .before .before .before .before .before .before .before .before .before .pre .0 in
+    let p = c .before .before .before .before .before .before .before .before .before .before .before .before .before .before .before .before .before .before .before .pre .0 in
     cond-not-next _ _ _ _ _ (trays-told _ _ _ _ _
     (c .before .before .before .before .before .before .before .before .before .before .block-at .ensures _ _ _)
     (c .before .before .before .before .before .before .before .before .before .block-at2 .ensures _ _ _) _ _ _ _ _
@@ -104,7 +104,7 @@ returns-4 c =
     (c .before .before .before .before .before .before .before .trays-fit .ensures)) (c .before .before .before .before .before .before .if1 .left)
     (cond-not-next _ _ _ _ _ (stand-told _ _ _ _ _
     (c .before .before .before .before .before .before .before .before .before .before .block-at .ensures _ _ _)
-    (c .before .before .before .before .before .before .before .before .before .block-at2 .ensures _ _ _) _ _ _ _ _ _ _ _ _
+    (c .before .before .before .before .before .before .before .before .before .block-at2 .ensures _ _ _) _ _ _ _ _ _ _ _ _ _ _
     (c .before .before .before .before .before .entry-of .ensures) (c .before .before .before .before .entry-of2 .ensures)
     (c .before .before .before .maps-stand .ensures _ _ _)) (c .before .before .if2 .left) (cond-next _ _ _ _ _ (c .before .differ .ensures _ _ _
     (record { good = p .0; is-seam = p .1; number = p .2; tells-low = c .before .before .before .before .before .before .before .before .before .before .block-at .ensures _ _ _; tells-high = c .before .before .before .before .before .before .before .before .before .block-at2 .ensures _ _ _ }))

@@ -10,20 +10,26 @@ refusal-requires c κs = search needs
 same-length : tie.Need-same-length
 same-length c = search needs
 
-returns : tie.Need-returns
-returns c = seam-refused _ _ _ _ _ _ _ _ _ _ _ _ _ (c .before .refusal .ensures) (c .if1 .taken)
-
-accept-requires : tie.Need-accept-requires
-accept-requires c κs = search needs
-
 same-length-2 : tie.Need-same-length-2
 same-length-2 c = search needs
 
 same-length-3 : tie.Need-same-length-3
 same-length-3 c = search needs
 
+returns : tie.Need-returns
+returns c = seam-refused _ _ _ _ _ _ _ _ _ _ _ _ _ (c .before .refusal .ensures) (c .if1 .taken)
+
+accept-requires : tie.Need-accept-requires
+accept-requires c κs = search needs
+
 same-length-4 : tie.Need-same-length-4
 same-length-4 c = search needs
+
+same-length-5 : tie.Need-same-length-5
+same-length-5 c = search needs
+
+same-length-6 : tie.Need-same-length-6
+same-length-6 c = search needs
 
 returns-2 : tie.Need-returns-2
 returns-2 c =
@@ -37,9 +43,11 @@ seam-spec =
     (tie.spec
     refusal-requires
     same-length
-    returns
-    accept-requires
     same-length-2
     same-length-3
+    returns
+    accept-requires
     same-length-4
+    same-length-5
+    same-length-6
     returns-2)

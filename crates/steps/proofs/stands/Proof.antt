@@ -31,15 +31,15 @@ returns-4 : tie.Need-returns-4
 unfolding standsBy
 returns-4 c = search (and-here, and-next, stands-next) depth 12
 
-behind-requires : tie.Need-behind-requires
-behind-requires c κs = search needs
+inside-requires : tie.Need-inside-requires
+inside-requires c κs = search needs
 
 returns-5 : tie.Need-returns-5
 unfolding standsBy
 returns-5 c = search (and-here, and-next, stands-next) depth 12
 
-behind-requires-2 : tie.Need-behind-requires-2
-behind-requires-2 c κs = search needs
+inside-requires-2 : tie.Need-inside-requires-2
+inside-requires-2 c κs = search needs
 
 returns-6 : tie.Need-returns-6
 unfolding standsBy
@@ -56,7 +56,7 @@ stands-spec =
     returns-3
     within-requires-3
     returns-4
-    behind-requires
+    inside-requires
     returns-5
-    behind-requires-2
+    inside-requires-2
     returns-6)
