@@ -1,16 +1,15 @@
 // The listing program (document 01, "Volumes to try"). It reads a volume from standard input, to its end, and prints the listing of its
 // map, or the line of its refusal. Where reading or writing fails it says so on standard error, and prints no more.
-use extents::off_size;
 use labeller::label;
 use libc::STDIN_FILENO;
 use libc::STDOUT_FILENO;
 use parser::Scanned;
+use parser::Task;
 use parser::finish;
 use parser::scan;
 use parser::start;
 use printer::print_listing;
 use printer::print_refusal;
-use refusals::OFF_SIZE;
 ghost use mathlib.Core.Path.{_≡_};
 ghost use Prim.Native.Nat.{_≤_};
 ghost use lib.ListN.{length};
@@ -98,8 +97,7 @@ fn print_some(
 ) -> usize
     ensures { λ r. ⌜ from ≤ r ⌝ }
 {
-    let p = print_listing(nx, ny, nz, map, firsts, from, out);
-    let n = p.length;
+    let n = print_listing(nx, ny, nz, map, firsts, from, out);
     if write(&out[..n]) {
         return after(from, n);
     }
@@ -162,14 +160,9 @@ fn main() {
     if input.open || input.failed {
         return;
     }
-    let r = finish(input.seen, &mut codes);
-    if r.refusal != 0 {
-        say_refused(r.refusal);
-        return;
+    let task = finish(input.seen, &mut codes);
+    match task {
+        Task::ListVolume(nx, ny, nz) => list_codes(&codes, nx, ny, nz),
+        Task::PrintRefused(number) => say_refused(number),
     }
-    if off_size(8, r.nx as usize, r.ny as usize, r.nz as usize) {
-        say_refused(OFF_SIZE);
-        return;
-    }
-    list_codes(&codes, r.nx, r.ny, r.nz);
 }

@@ -1,25 +1,25 @@
 -- The ways of the functions that answer, over plain lists and numbers.
 -- Assumes nothing.
-use mathlib.Core.Path.{_≡_, refl, sym, _∙_}
+use mathlib.Core.Path.{_≡_, refl, sym, ap, subst, _∙_}
 use mathlib.Core.Logic.{_≢_}
 use mathlib.Core.Bool.{Bool, true, false, cond, not, _&&_}
 use mathlib.Core.List.{List}
 use Prim.Native.Nat.{ℕ, _-_, _≤_, _<_}
-use lib.Dec.{eqb, leb}
-use lib.ListN.{length, take}
+use native.Mathlib.Omega.{arith}
+use lib.Dec.{eqb, leb, ltb}
+use lib.ListN.{length, take, length-set}
 use lib.Seq.{take-all}
-use borrow.Author.Tests.{lt-leb, le-leb, eq-eqb, ne-eqb, not-true, not-false}
-use Rattle.lists.proofs.Cases.{and-left, and-right}
-use Rattle.refusals.specs.Refusals.{bad-record, number, table, first, lowest}
-use Rattle.refusals.proofs.RefusalLaws.{lowest-none}
-use Rattle.cells.specs.Box.{volume}
+use borrow.Author.Tests.{lt-leb, le-leb, eq-eqb, ne-eqb, eqb-true, not-true}
+use Rattle.lists.proofs.Cases.{by-test, and-left, and-right}
+use Rattle.refusals.specs.Refusals.{number}
+use Rattle.cells.specs.Box.{Triple, triple, volume}
 use Rattle.cells.specs.Codes.{blank}
 use Rattle.cells.specs.Extents.{Sized, offSize}
 use Rattle.extents.proofs.SizeLaws.{sized-of}
 use Rattle.parser.specs.declared.Scanned.{Scanned}
-use Rattle.parser.specs.declared.Read.{Read}
-use Rattle.parser.specs.Scanning.{state, closed}
-use Rattle.parser.specs.Reading.{outcome, answerOf, extentsSeen, offExtents, whole, declinesSeen, refusalOf, answered, finished}
+use Rattle.parser.specs.declared.Task.{Task}
+use Rattle.parser.specs.Scanning.{State, state, counts, stored, closed}
+use Rattle.parser.specs.Reading.{Outcome, outcome, taskOf, extentsSeen, offExtents, whole, lineNumber, taskSeen, finished}
 
 -- ---- the form
 
@@ -57,46 +57,89 @@ whole-sized s t =
 pub front-all : (d : List ℕ) (n : ℕ) (r : Bool) → length d ≤ n → r ≡ blank d → r ≡ blank (take n d)
 front-all d n r h e = rw (take-all n d h) e
 
--- ---- refusals
+-- ---- the number of the line
+
+-- The tests, lowest number first: off size, a whole text with a blank, a text that is not whole.
+abbrev pub rungs : Bool → Bool → Bool → ℕ
+rungs o w b = cond o 1 (cond (w && b) 7 (cond (not w) 11 0))
+
+-- None stands.
+pub record Passed (o w b : Bool) : Type 0 where
+  pub size : o ≡ false
+  pub form : w ≡ true
+  pub full : b ≡ false
+
+pub rungs-none : (o w b : Bool) → rungs o w b ≡ 0 → Passed o w b
+rungs-none true w b z = absurd (omega arith)
+rungs-none false true true z = absurd (omega arith)
+rungs-none false true false z = record { size = refl; form = refl; full = refl }
+rungs-none false false b z = absurd (omega arith)
 
 module _ (s : Scanned) (d : List ℕ) where
-  pub ladder : refusalOf s d ≡ cond (offExtents s) 1 (cond (not (eqb (length d) 512)) 6 (cond (whole s && blank (take (s .count - 3) d)) 7 (cond (not (whole s)) 11 0)))
-  unfolding refusalOf lowest first table number declinesSeen
+  pub ladder : lineNumber s d ≡ rungs (offExtents s) (whole s) (blank (take (s .count - 3) d))
+  unfolding lineNumber number
   ladder = refl
 
   module _ (o : Bool) (i : o ≡ offExtents s) where
-    pub refusal-size : o ≡ true → 1 ≡ refusalOf s d
-    refusal-size t = sym (ladder ∙ rw (sym i ∙ t))
+    pub number-size : o ≡ true → 1 ≡ lineNumber s d
+    number-size t = sym (ladder ∙ rw (sym i ∙ t))
 
-    module _ (t : o ≡ false) where
-      pub refusal-tray : length d ≢ 512 → 6 ≡ refusalOf s d
-      refusal-tray n = sym (ladder ∙ rw (sym i ∙ t, ne-eqb (length d) 512 n))
+    module _ (t : o ≡ false) (w : Bool) (j : w ≡ whole s) where
+      pub number-form : w ≡ false → 11 ≡ lineNumber s d
+      number-form g = sym (ladder ∙ rw (sym i ∙ t, sym j ∙ g))
 
-      module _ (e : length d ≡ 512) (w : Bool) (j : w ≡ whole s) where
-        pub refusal-form : w ≡ false → 11 ≡ refusalOf s d
-        refusal-form g = sym (ladder ∙ rw (sym i ∙ t, eq-eqb (length d) 512 e, sym j ∙ g))
+      module _ (g : w ≡ true) (n : ℕ) (k : n ≡ s .count - 3) (b : Bool) (l : b ≡ blank (take n d)) where
+        pub number-blank : b ≡ true → 7 ≡ lineNumber s d
+        number-blank h = sym (ladder ∙ rw (sym i ∙ t, sym j ∙ g, ← k, sym l ∙ h))
 
-        module _ (g : w ≡ true) (n : ℕ) (k : n ≡ s .count - 3) (b : Bool) (l : b ≡ blank (take n d)) where
-          pub refusal-blank : b ≡ true → 7 ≡ refusalOf s d
-          refusal-blank h = sym (ladder ∙ rw (sym i ∙ t, eq-eqb (length d) 512 e, sym j ∙ g, ← k, sym l ∙ h))
+        pub number-none : b ≡ false → 0 ≡ lineNumber s d
+        number-none h = sym (ladder ∙ rw (sym i ∙ t, sym j ∙ g, ← k, sym l ∙ h))
 
-          pub refusal-none : b ≡ false → 0 ≡ refusalOf s d
-          refusal-none h = sym (ladder ∙ rw (sym i ∙ t, eq-eqb (length d) 512 e, sym j ∙ g, ← k, sym l ∙ h))
+  -- Where no line is printed, the extents are small.
+  pub small : lineNumber s d ≡ 0 → Sized 8 (extentsSeen s)
+  small z = whole-sized s (rungs-none (offExtents s) (whole s) (blank (take (s .count - 3) d)) (sym ladder ∙ z) .form)
 
-  -- Where nothing is refused, the extents are small.
-  pub small : refusalOf s d ≡ 0 → Sized 8 (extentsSeen s)
-  unfolding refusalOf declinesSeen
-  small z = whole-sized s (not-false (whole s) (lowest-none (declinesSeen s d) .0 z bad-record))
+  module _ (n : ℕ) (i : n ≡ lineNumber s d) where
+    pub task-refused : n ≢ 0 → Task.PrintRefused n ≡ taskSeen s d
+    unfolding taskSeen taskOf
+    task-refused z = rw (← i, ne-eqb n 0 z)
 
-  module _ (n : ℕ) (i : n ≡ refusalOf s d) where
-    pub answered-refused : n ≢ 0 → record { refusal = n; nx = 0; ny = 0; nz = 0 } ≡ answered s d
-    unfolding answered answerOf
-    answered-refused z = rw (← i, ne-eqb n 0 z)
+    pub task-listing : n ≡ 0 → Task.ListVolume (s .nx) (s .ny) (s .nz) ≡ taskSeen s d
+    unfolding taskSeen taskOf
+    task-listing z = rw (← i, eq-eqb n 0 z)
 
-    pub answered-none : n ≡ 0 → record { refusal = 0; nx = s .nx; ny = s .ny; nz = s .nz } ≡ answered s d
-    unfolding answered answerOf
-    answered-none z = rw (← i, eq-eqb n 0 z)
-
-pub finished-is : (s t : Scanned) (d e : List ℕ) (r : Read) → state t e ≡ closed s d → r ≡ answered t e → outcome r e ≡ finished (state s d)
+pub finished-is : (s t : Scanned) (d e : List ℕ) (r : Task) → state t e ≡ closed s d → r ≡ taskSeen t e → outcome r e ≡ finished (state s d)
 unfolding finished
 finished-is s t d e r p q = rw (← p, q)
+
+-- The tray keeps its length.
+closed-length : (s : Scanned) (d : List ℕ) → length (closed s d .codes) ≡ length d
+unfolding closed stored
+closed-length s d =
+    by-test (eqb (s .size) 0) (λ t. rw t)
+    (λ t. rw t (by-test (counts s) (λ u. rw u (by-test (ltb (s .count) 3) (λ v. rw v) (λ v. rw v (length-set d (s .count - 3) (s .value))))) (λ u. rw u)))
+
+pub finished-length : (st : State) (r : Task) (d : List ℕ) → outcome r d ≡ finished st → length d ≡ length (st .codes)
+unfolding finished
+finished-length st r d p = ap (λ (o : Outcome). length (o .tray)) p ∙ closed-length (st .seen) (st .codes)
+
+-- ---- a volume that is to be listed is small
+
+-- The extents that a task names; those of one voxel where it names none.
+abbrev extentsNamed : Task → Triple
+extentsNamed (Task.ListVolume x y z) = triple x y z
+extentsNamed (Task.PrintRefused n) = triple 1 1 1
+
+task-sized : (s : Scanned) (d : List ℕ) → Sized 8 (extentsNamed (taskSeen s d))
+unfolding taskSeen taskOf
+task-sized s d =
+    by-test (eqb (lineNumber s d) 0)
+    (λ t. rw t (small s d (eqb-true _ 0 t)))
+    (λ t. rw t (record { x-low = omega arith; x-high = omega arith; y-low = omega arith; y-high = omega arith; z-low = omega arith; z-high = omega arith }))
+
+pub listed-small : (st : State) (r : Task) (d : List ℕ) (x y z : ℕ) → outcome r d ≡ finished st → r ≡ Task.ListVolume x y z → Sized 8 (triple x y z)
+unfolding finished
+listed-small st r d x y z p q =
+    let t = closed (st .seen) (st .codes) in
+    let e : Task.ListVolume x y z ≡ taskSeen (t .seen) (t .codes) = sym q ∙ ap (λ (o : Outcome). o .task) p in
+    subst (λ (u : Task). Sized 8 (extentsNamed u)) (sym e) (task-sized (t .seen) (t .codes))

@@ -1,6 +1,6 @@
--- The scanner answers what the words of the text say: for a tray of 512 places the refusal of the text, its extents and its codes.
+-- The scanner does what the words of the text say: with a tray of 512 places it tells the refusal of the text, or its extents and codes.
 -- Assumes nothing.
-use mathlib.Core.Path.{_≡_, refl, sym, ap, ap₂, _∙_}
+use mathlib.Core.Path.{_≡_, refl, sym, ap, subst, _∙_}
 use mathlib.Core.Bool.{Bool, true, false, cond, not, _&&_, and-false, and-true, and-self, true≢false}
 use mathlib.Core.List.{List, [], _∷_, map}
 use Prim.Native.Nat.{ℕ, suc, _+_, _-_, _≤_, _<_}
@@ -8,12 +8,11 @@ use native.Mathlib.Nat.{add-zero}
 use native.Mathlib.Omega.{arith}
 use lib.Dec.{eqb, leb, ltb, eqb·zero-suc, eqb·suc-suc}
 use lib.ListN.{length, take, drop, set, length-map, length-drop}
-use lib.Seq.{sets, sets-eq, length-sets, take-nil, take-all, take-at}
-use borrow.Author.Tests.{le-leb, lt-leb, lt-ltb, le-ltb, eq-eqb, ne-eqb, eqb-true, eqb-false, ltb-true, ltb-false, not-false}
+use lib.Seq.{sets, sets-eq, take-nil, take-all, take-at}
+use borrow.Author.Tests.{le-leb, lt-leb, lt-ltb, le-ltb, ne-eqb, eqb-true, eqb-false, ltb-true, ltb-false}
 use Rattle.lists.proofs.Cases.{by-test, not-not, and-left, and-right, and-both}
-use Rattle.refusals.specs.Refusals.{off-size, bad-record, number, table, first, lowest}
-use Rattle.refusals.proofs.RefusalLaws.{lowest-none}
-use Rattle.cells.specs.Box.{Triple, triple, volume}
+use Rattle.refusals.specs.Refusals.{number, table, first, lowest}
+use Rattle.cells.specs.Box.{volume}
 use Rattle.cells.specs.Codes.{blank}
 use Rattle.cells.specs.Extents.{offSize}
 use Rattle.cells.proofs.ExtentLaws.{volume-high}
@@ -21,13 +20,21 @@ use Rattle.extents.proofs.SizeLaws.{sized-of}
 use Rattle.text.specs.Words.{wordsOf, digits, isNumber, spelled}
 use Rattle.text.specs.Request.{numbers, word, readable, extentsIn, codesIn, formed, declinesText, textRefusal, askedExtents, askedCodes}
 use Rattle.parser.specs.declared.Scanned.{Scanned}
-use Rattle.parser.specs.declared.Read.{Read}
 use Rattle.parser.specs.Scanning.{State, state, scanned, begun, extent, lost, stored, after}
-use Rattle.parser.specs.Reading.{Outcome, outcome, answerOf, declines, leading, written, reading, extentsSeen, offExtents, whole, refusalOf, answered, finished}
+use Rattle.parser.specs.Reading.{Outcome, outcome, taskOf, extentsSeen, offExtents, whole, lineNumber, taskSeen, finished}
 use Rattle.parser.proofs.WordLaws.{wordEnds, afterWords, walked}
-use Rattle.parser.proofs.AnswerLaws.{ladder}
+use Rattle.parser.proofs.AnswerLaws.{rungs, rungs-none, ladder}
 
 -- ---- words that lead
+
+-- The words before the first that is no number.
+unfoldable leading : List (List ℕ) → List (List ℕ)
+leading [] = []
+leading (w ∷ ws) = cond (isNumber w) (w ∷ leading ws) []
+
+-- The tray: in front the codes before the first word that is no number, 512 at most, as far as it has places; then what it held.
+unfoldable written : List (List ℕ) → List ℕ → List ℕ
+written ws d = sets d 0 (map spelled (drop 3 (take 515 (leading ws))))
 
 leading-few : (ws : List (List ℕ)) → length (leading ws) ≤ length ws
 unfolding leading
@@ -211,46 +218,50 @@ formed-readable (a ∷ b ∷ c ∷ ws) t =
     (and-both (isNumber b) (isNumber c) (and-left (isNumber b) (numbers (c ∷ ws)) m) (and-left (isNumber c) (numbers ws) (and-right (isNumber b) (numbers (c ∷ ws)) m)))
 
 -- A text of its form: its codes stand in front in a tray that has a place for each.
-module _ (ws : List (List ℕ)) (d : List ℕ) (f : formed ws ≡ true) (h : volume (extentsIn ws) ≤ length d) (few : volume (extentsIn ws) ≤ 512) where
+module _ (ws : List (List ℕ)) (f : formed ws ≡ true) where
   code-length : length (codesIn ws) ≡ volume (extentsIn ws)
   unfolding formed codesIn
   code-length = length-map (drop 3 ws) spelled ∙ eqb-true (length (drop 3 ws)) (volume (extentsIn ws)) (and-right (leb 3 (length ws)) _ (and-right (numbers ws) _ f))
 
-  codes-front : take (volume (extentsIn ws)) (written ws d) ≡ codesIn ws
+  codes-front : (d : List ℕ) → volume (extentsIn ws) ≤ length d → volume (extentsIn ws) ≤ 512 → take (volume (extentsIn ws)) (written ws d) ≡ codesIn ws
   unfolding written codesIn formed
-  codes-front =
+  codes-front d h few =
       let most : length ws ≤ 515 = omega (arith, code-length, length-map (drop 3 ws) spelled, length-drop 3 ws) in
       rw (leading-same ws (and-left (numbers ws) _ f), take-all 515 ws most, sets-eq (map spelled (drop 3 ws)) d 0 (omega (arith, code-length)))
       (take-at (map spelled (drop 3 ws)) _ (volume (extentsIn ws)) code-length)
 
--- The tests of both, lowest number first: off size, a tray of another length, a whole text with a blank, a text that is not whole.
-abbrev rungs : Bool → Bool → Bool → Bool → ℕ
-rungs o t w b = cond o 1 (cond (not t) 6 (cond (w && b) 7 (cond (not w) 11 0)))
+rungs-same : (o p w x b c : Bool) → o ≡ p → (p ≡ false → w ≡ x) → (p ≡ false → x ≡ true → b ≡ c) → rungs o w b ≡ rungs p x c
+rungs-same o true w x b c i f g = rw i
+rungs-same o false w false b c i f g = rw (i, f refl)
+rungs-same o false w true b c i f g = rw (i, f refl, g refl refl)
 
-rungs-same : (o p t u w x b c : Bool) → o ≡ p → t ≡ u → (p ≡ false → w ≡ x) → (p ≡ false → u ≡ true → x ≡ true → b ≡ c) → rungs o t w b ≡ rungs p u x c
-rungs-same o true t u w x b c i j f g = rw i
-rungs-same o false t false w x b c i j f g = rw (i, j)
-rungs-same o false t true w false b c i j f g = rw (i, j, f refl)
-rungs-same o false t true w true b c i j f g = rw (i, j, f refl, g refl refl refl)
+-- The tests of the text.
+pub text-rungs : (text : List ℕ) → textRefusal text ≡ rungs (readable (wordsOf text) && offSize 8 (askedExtents text)) (formed (wordsOf text)) (blank (askedCodes text))
+unfolding textRefusal askedExtents askedCodes lowest first table number declinesText
+text-rungs text = refl
 
-text-rungs : (ws : List (List ℕ)) (n : ℕ) → lowest (declines ws n) ≡ rungs (readable ws && offSize 8 (extentsIn ws)) (eqb n 512) (formed ws) (blank (codesIn ws))
-unfolding lowest first table number declines declinesText
-text-rungs ws n = refl
+-- A text that is not refused.
+pub record Accepted (text : List ℕ) : Type 0 where
+  pub form : formed (wordsOf text) ≡ true
+  pub size : offSize 8 (askedExtents text) ≡ false
+  pub full : blank (askedCodes text) ≡ false
+  pub enough : length (askedCodes text) ≡ volume (askedExtents text)
 
--- What is accepted has its form, and a right size.
-module _ (ws : List (List ℕ)) (n : ℕ) (z : lowest (declines ws n) ≡ 0) where
-  accepted : formed ws ≡ true
-  unfolding declines declinesText
-  accepted = not-false (formed ws) (lowest-none (declines ws n) .0 z bad-record)
+pub accepted-of : (text : List ℕ) → textRefusal text ≡ 0 → Accepted text
+unfolding askedExtents askedCodes
+accepted-of text z =
+    let ws = wordsOf text in
+    let n = rungs-none (readable ws && offSize 8 (extentsIn ws)) (formed ws) (blank (codesIn ws)) (sym (text-rungs text) ∙ z) in
+    record {
+      form = n .form;
+      size = rw (formed-readable (wordsOf text) (n .form)) at (n .size);
+      full = n .full;
+      enough = code-length (wordsOf text) (n .form);
+    }
 
-  accepted-few : volume (extentsIn ws) ≤ 512
-  unfolding declines declinesText
-  accepted-few = volume-high (sized-of 8 (extentsIn ws) (rw (formed-readable ws accepted) at (lowest-none (declines ws n) .0 z off-size)))
-
-module _ (s : Scanned) (e d : List ℕ) (ws : List (List ℕ)) (k : Told (state s e) d ws) where
-  same-length : length e ≡ length d
-  unfolding written
-  same-length = ap length (k .tray) ∙ length-sets d 0 (map spelled (drop 3 (take 515 (leading ws))))
+module _ (s : Scanned) (e d text : List ℕ) (k : Told (state s e) d (wordsOf text)) (h : length d ≡ 512) where
+  abbrev ws : List (List ℕ)
+  ws = wordsOf text
 
   same-off : offExtents s ≡ (readable ws && offSize 8 (extentsIn ws))
   unfolding offExtents
@@ -270,62 +281,47 @@ module _ (s : Scanned) (e d : List ℕ) (ws : List (List ℕ)) (k : Told (state 
         (λ r. rw (k .three ∙ r, k .extents r, on-size r) (k .form r (few r)))
         (λ r. rw (k .three ∙ r, and-false (not (s .broken))) (sym (by-test (formed ws) (λ f. absurd (true≢false (sym (formed-readable ws f) ∙ r))) (λ f. f))))
 
-    same-codes : length d ≡ 512 → formed ws ≡ true → take (s .count - 3) e ≡ codesIn ws
-    same-codes h f =
+    same-codes : formed ws ≡ true → take (s .count - 3) e ≡ codesIn ws
+    same-codes f =
         let r = formed-readable ws f in
         let n : s .count - 3 ≡ volume (extentsIn ws) = eqb-true _ _ (and-right (not (s .broken)) _ (k .form r (few r) ∙ f)) in
-        rw (k .tray, n) (codes-front ws d f (omega (arith, few r)) (few r))
+        rw (k .tray, n) (codes-front ws f d (omega (arith, few r)) (few r))
 
-  same-refusal : refusalOf s e ≡ lowest (declines ws (length d))
-  same-refusal =
+  same-number : lineNumber s e ≡ textRefusal text
+  unfolding askedExtents askedCodes
+  same-number =
       ladder s e
-      ∙ rungs-same (offExtents s) _ (eqb (length e) 512) _ (whole s) _ (blank (take (s .count - 3) e)) _ same-off (rw same-length) same-whole
-      (λ o t f. ap blank (same-codes o (eqb-true (length d) 512 t) f))
-      ∙ sym (text-rungs ws (length d))
+      ∙ rungs-same (offExtents s) _ (whole s) _ (blank (take (s .count - 3) e)) _ same-off same-whole (λ o f. ap blank (same-codes o f))
+      ∙ sym (text-rungs text)
 
-  same-answer : answered s e ≡ answerOf (lowest (declines ws (length d))) (extentsIn ws)
-  unfolding answered answerOf
-  same-answer =
-      rw same-refusal
-      (by-test (eqb (lowest (declines ws (length d))) 0)
-      (λ z. ap (answerOf (lowest (declines ws (length d)))) (k .extents (formed-readable ws (accepted ws (length d) (eqb-true _ 0 z)))))
+  same-task : taskSeen s e ≡ taskOf (textRefusal text) (askedExtents text)
+  unfolding taskSeen taskOf askedExtents
+  same-task =
+      rw same-number
+      (by-test (eqb (textRefusal text) 0)
+      (λ z. ap (taskOf (textRefusal text)) (k .extents (formed-readable ws (accepted-of text (eqb-true _ 0 z) .form))))
       (λ z. rw z))
 
--- The scanner, once it has read a text and finished, has read it by its words: for every text and every tray.
-pub scan-text : (d text : List ℕ) → finished (after (state begun d) text) ≡ reading text d
-unfolding finished reading askedExtents
-scan-text d text =
-    let ws = wordsOf text in
-    let u = afterWords (state begun d) ws in
-    let k = told d ws in
-    ap (λ (v : State). outcome (answered (v .seen) (v .codes)) (v .codes)) (walked d text)
-    ∙ ap₂ outcome (same-answer (u .seen) (u .codes) d ws k) (k .tray)
+  codes-first : textRefusal text ≡ 0 → take (volume (askedExtents text)) e ≡ askedCodes text
+  unfolding askedExtents askedCodes
+  codes-first z =
+      let a = accepted-of text z in
+      let v = volume-high (sized-of 8 (extentsIn ws) (a .size)) in
+      rw (k .tray) (codes-front ws (a .form) d (omega arith) v)
 
--- What is answered for a text, and where its codes stand.
+-- What is to be done for a text, and where its codes stand.
 pub record Answers (text : List ℕ) (o : Outcome) : Type 0 where
-  pub refusal : o .answer .refusal ≡ textRefusal text
-  pub extents : textRefusal text ≡ 0 → triple (o .answer .nx) (o .answer .ny) (o .answer .nz) ≡ askedExtents text
+  pub task : o .task ≡ taskOf (textRefusal text) (askedExtents text)
   pub codes : textRefusal text ≡ 0 → take (volume (askedExtents text)) (o .tray) ≡ askedCodes text
 
-answer-refusal : (n : ℕ) (e : Triple) → answerOf n e .refusal ≡ n
-unfolding answerOf
-answer-refusal n e = by-test (eqb n 0) (λ z. rw z (sym (eqb-true n 0 z))) (λ z. rw z)
-
--- A text that is read into a tray of 512 places is answered as it is to be.
-module _ (d text : List ℕ) (h : length d ≡ 512) where
-  same-text : lowest (declines (wordsOf text) (length d)) ≡ textRefusal text
-  unfolding textRefusal lowest first table number declines declinesText
-  same-text = rw (eq-eqb (length d) 512 h)
-
-  pub text-read : Answers text (reading text d)
-  unfolding reading answerOf askedExtents askedCodes
-  text-read = record {
-    refusal = answer-refusal _ _ ∙ same-text;
-    extents = λ z. rw (same-text ∙ z);
-    codes = λ z. let few = accepted-few (wordsOf text) (length d) (same-text ∙ z) in
-        codes-front (wordsOf text) d (accepted (wordsOf text) (length d) (same-text ∙ z)) (omega arith) few;
-  }
-
--- The way of `read_text`: from the start over the whole text to the end.
-pub read-whole : (d text e f : List ℕ) (s t : Scanned) (r : Read) → s ≡ begun → state t e ≡ after (state s d) text → outcome r f ≡ finished (state t e) → outcome r f ≡ reading text d
-read-whole d text e f s t r i j k = k ∙ ap finished j ∙ rw i (scan-text d text)
+-- The scanner, once it has read a text and finished, tells what the text asks for.
+pub text-read : (d text : List ℕ) → length d ≡ 512 → Answers text (finished (after (state begun d) text))
+unfolding finished
+text-read d text h =
+    let u = afterWords (state begun d) (wordsOf text) in
+    let k = told d (wordsOf text) in
+    let a : Answers text (outcome (taskSeen (u .seen) (u .codes)) (u .codes)) = record {
+      task = same-task (u .seen) (u .codes) d text k h;
+      codes = codes-first (u .seen) (u .codes) d text k h;
+    } in
+    subst (λ (v : State). Answers text (outcome (taskSeen (v .seen) (v .codes)) (v .codes))) (sym (walked d text)) a

@@ -1,11 +1,10 @@
-// Turns the text that the listing program reads into extents and codes, or a refusal. The text comes in chunks, of any length in all,
-// and is read to its end whatever is in it: what is kept of it is one `Scanned` and the tray of codes.
+// Turns the text that the listing program reads into what the program is to do. The text comes in chunks, of any length in all, and is
+// read to its end whatever is in it: what is kept of it is one `Scanned` and the tray of codes. None of the functions is an entry.
 use extents::has_blank;
 use extents::off_size;
 use refusals::BAD_RECORD;
 use refusals::BLANK_VOXEL;
 use refusals::OFF_SIZE;
-use refusals::WRONG_TRAY;
 ghost use mathlib.Core.Path.{_≡_};
 ghost use Prim.Native.Nat.{_-_, _<_};
 ghost use lib.ListN.{take};
@@ -14,7 +13,7 @@ ghost use Rattle.cells.specs.Codes.{blank};
 ghost use Rattle.cells.specs.Extents.{Sized};
 ghost use Rattle.text.specs.Words.{gap};
 ghost use Rattle.parser.specs.Scanning.{state, begun, capped, spells, longer, grown, counts, extent, counted, lost, stored, closed, step, after};
-ghost use Rattle.parser.specs.Reading.{outcome, offExtents, whole, refusalOf, answered, finished, reading};
+ghost use Rattle.parser.specs.Reading.{outcome, offExtents, whole, lineNumber, taskSeen, finished};
 
 // What is spelled where no number is: 2^32, above every number.
 const NO_NUMBER: u64 = 4294967296;
@@ -32,12 +31,11 @@ pub struct Scanned {
     nz: u32,
 }
 
-// What a reading answers: the number of its refusal, 0 for none, and the extents, 0 after a refusal.
-pub struct Read {
-    pub refusal: u32,
-    pub nx: u16,
-    pub ny: u16,
-    pub nz: u16,
+// What the program is to do once the text has ended: list the volume of these extents, whose codes stand in front in the tray, or print
+// the line `refused` with this number.
+pub enum Task {
+    ListVolume(u16, u16, u16),
+    PrintRefused(u32),
 }
 
 // Whether a byte parts words.
@@ -191,7 +189,7 @@ fn step(s: Scanned, codes: &mut [u32], b: u8) -> Scanned
     grown(s, b)
 }
 
-// Before the first chunk.
+// Before the first chunk. Not an entry.
 pub fn start() -> Scanned
     ensures { λ r. ⌜ r ≡ begun ⌝ }
 {
@@ -207,6 +205,7 @@ pub fn start() -> Scanned
 }
 
 // Reads a chunk. The tray is the scanner's own from the first chunk to the last: it takes the codes as they are read.
+// Not an entry.
 pub fn scan(s: Scanned, codes: &mut [u32], chunk: &[u8]) -> Scanned
     ensures { λ r. ⌜ state r (now (codes .exit)) ≡ after (state s (now (codes .entry))) (now (chunk .entry)) ⌝ }
 {
@@ -276,15 +275,12 @@ fn front_blank(codes: &[u32], n: usize) -> bool
     has_blank(codes)
 }
 
-// The number of the refusal, the lowest that applies, and 0 for none.
-fn refusal(s: Scanned, codes: &[u32]) -> u32
-    ensures { λ r. ⌜ r ≡ refusalOf s (now (codes .entry)) ⌝ }
+// The number that the line `refused` is to show, and 0 where there is to be none.
+fn line_number(s: Scanned, codes: &[u32]) -> u32
+    ensures { λ r. ⌜ r ≡ lineNumber s (now (codes .entry)) ⌝ }
 {
     if off_extents(s) {
         return OFF_SIZE;
-    }
-    if codes.len() != 512 {
-        return WRONG_TRAY;
     }
     if is_whole(s) {
         if front_blank(codes, code_count(s)) {
@@ -295,39 +291,20 @@ fn refusal(s: Scanned, codes: &[u32]) -> u32
     BAD_RECORD
 }
 
-fn answer(s: Scanned, codes: &[u32]) -> Read
-    ensures { λ r. ⌜ r ≡ answered s (now (codes .entry)) ⌝ }
+fn task_seen(s: Scanned, codes: &[u32]) -> Task
+    ensures { λ r. ⌜ r ≡ taskSeen s (now (codes .entry)) ⌝ }
 {
-    let number = refusal(s, codes);
+    let number = line_number(s, codes);
     if number != 0 {
-        return Read {
-            refusal: number,
-            nx: 0,
-            ny: 0,
-            nz: 0,
-        };
+        return Task::PrintRefused(number);
     }
-    Read {
-        refusal: 0,
-        nx: s.nx as u16,
-        ny: s.ny as u16,
-        nz: s.nz as u16,
-    }
+    Task::ListVolume(s.nx as u16, s.ny as u16, s.nz as u16)
 }
 
-// Answers after the last chunk. Where nothing is refused, the codes stand in front in the tray, one for each voxel. After a refusal the
-// tray holds the codes that were read before it showed.
-pub fn finish(s: Scanned, codes: &mut [u32]) -> Read
+// Tells after the last chunk what is to be done. The tray has a place for each code of the largest volume. Not an entry.
+pub fn finish(s: Scanned, codes: &mut [u32; 512]) -> Task
     ensures { λ r. ⌜ outcome r (now (codes .exit)) ≡ finished (state s (now (codes .entry))) ⌝ }
 {
     let t = close(s, codes);
-    answer(t, &codes[..])
-}
-
-// Reads a text that comes whole.
-pub fn read_text(text: &[u8], codes: &mut [u32]) -> Read
-    ensures { λ r. ⌜ outcome r (now (codes .exit)) ≡ reading (now (text .entry)) (now (codes .entry)) ⌝ }
-{
-    let s = scan(start(), codes, text);
-    finish(s, codes)
+    task_seen(t, &codes[..])
 }

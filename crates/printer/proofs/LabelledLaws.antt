@@ -1,14 +1,12 @@
--- The map that a labelling leaves is never refused: its numbers are at most as many as the cells.
+-- The map that a labelling leaves has a listing: its numbers are at most as many as the cells.
 -- Assumes nothing.
-use mathlib.Core.Path.{_≡_, refl}
+use mathlib.Core.Path.{_≡_, refl, sym}
 use mathlib.Core.Bool.{false}
 use mathlib.Core.List.{List}
 use Prim.Native.Nat.{ℕ, zero, suc, _≤_, _<_}
 use native.Mathlib.Omega.{arith}
-use lib.Dec.{ltb}
 use lib.ListN.{length}
-use borrow.Author.Tests.{le-ltb, ltb-true, ltb-false}
-use Rattle.lists.proofs.Cases.{by-test}
+use borrow.Author.Tests.{le-ltb}
 use Rattle.lists.proofs.Lists.{length-tabulate}
 use Rattle.cells.specs.Box.{Triple}
 use Rattle.cells.specs.Extents.{Sized, offSize}
@@ -18,9 +16,9 @@ use Rattle.labels.specs.Components.{largest, firstCell}
 use Rattle.labels.specs.Number.{numbered, mapDown, labels}
 use Rattle.labels.proofs.LabelLaws.{labels-numbering}
 use Rattle.labels.proofs.CountLaws.{firsts-ascend}
-use Rattle.printer.specs.Printing.{stray, refusalOf, accepted, printing}
+use Rattle.printer.specs.Printing.{tooMany, listed, printing}
 use Rattle.printer.proofs.MarkLaws.{first-inside}
-use Rattle.printer.proofs.PrintLaws.{none-given}
+use Rattle.printer.proofs.PrintLaws.{by-numbers}
 
 module _ (e : Triple) (codes : List ℕ) where
   -- component n + 1 begins at cell n or after it
@@ -35,14 +33,14 @@ module _ (e : Triple) (codes : List ℕ) where
   few j zero s h q = omega arith
   few j (suc n) s h q = let a = first-late j n h (omega arith) in omega (arith, first-inside (labels e codes) j (suc n) s)
 
-  few-labels : Sized 8 e → stray e (labels e codes) ≡ false
-  unfolding stray
+  few-labels : Sized 8 e → tooMany e (labels e codes) ≡ false
+  unfolding tooMany
   few-labels s = rw (le-ltb _ _ (few 2 _ s (omega arith) refl), le-ltb _ _ (few 1 _ s (omega arith) refl), le-ltb _ _ (few 0 _ s (omega arith) refl))
 
   length-labels : length (labels e codes) ≡ cells e
   unfolding labels mapDown numbered
   length-labels = length-tabulate (cells e) _
 
-  pub labels-printed : (f : List ℕ) (from : ℕ) (t : List ℕ) → offSize 8 e ≡ false → length f ≡ cells e → printing e (labels e codes) f from t ≡ accepted e (labels e codes) f from t
+  pub labels-printed : (f : List ℕ) (from : ℕ) (t : List ℕ) → offSize 8 e ≡ false → length f ≡ cells e → printing e (labels e codes) f from t ≡ listed e (labels e codes) f from t
   unfolding printing
-  labels-printed f from t s r = rw (← none-given e (labels e codes) (length f) s length-labels r (few-labels (sized-of 8 e s)))
+  labels-printed f from t s r = rw (← by-numbers e (labels e codes) (length f) false (sym s) refl length-labels false r (sym (few-labels (sized-of 8 e s))))

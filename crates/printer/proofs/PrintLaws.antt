@@ -1,7 +1,7 @@
--- The refusals of the printer, and the ways of `print_listing`.
+-- Whether a map has a listing, and the ways of `print_listing`.
 -- Assumes nothing.
-use mathlib.Core.Path.{_≡_, refl, sym, ap, _∙_}
-use mathlib.Core.Bool.{true, false, cond, not, _||_}
+use mathlib.Core.Path.{_≡_, sym, ap, _∙_}
+use mathlib.Core.Bool.{Bool, true, false, not, _&&_, _||_}
 use mathlib.Core.List.{List, [], _∷_, _++_, append-assoc}
 use Prim.Native.Nat.{ℕ, zero, suc, _+_, _-_, _*_, _≤_, _<_}
 use native.Mathlib.Nat.{min-le-left}
@@ -9,11 +9,9 @@ use native.Mathlib.Omega.{arith}
 use lib.Dec.{eqb, ltb}
 use lib.ListN.{length, getD, take, drop, take-append-drop}
 use lib.Seq.{drop-drop}
-use borrow.Author.Tests.{eqb-true, eq-eqb, ne-eqb, ltb-false, lt-ltb, le-ltb, not-false}
+use borrow.Author.Tests.{eqb-true, eq-eqb, ne-eqb, ltb-false, lt-ltb, le-ltb, not-true}
 use Rattle.lists.specs.Lists.{consecutive, zeros}
-use Rattle.lists.proofs.Cases.{picked, neither}
-use Rattle.refusals.specs.Refusals.{off-size, wrong-tray, stray-label, number, table, first, lowest}
-use Rattle.refusals.proofs.RefusalLaws.{lowest-none}
+use Rattle.lists.proofs.Cases.{picked, neither, and-left, and-right}
 use Rattle.cells.specs.Box.{Triple}
 use Rattle.cells.specs.Extents.{offSize}
 use Rattle.cells.specs.Grid.{cells}
@@ -22,7 +20,7 @@ use Rattle.extents.proofs.SizeLaws.{sized-of}
 use Rattle.labels.specs.Components.{largest, firstCell, componentRow}
 use Rattle.text.specs.Listing.{decimal, spaced, letter, width, coordinates, line, linesFor, linesOf, heading, listing, refusedLine}
 use Rattle.printer.specs.Inner.{State, sunk, Ready}
-use Rattle.printer.specs.Printing.{stray, declines, refusalOf, fitting, part, Outcome, outcome, accepted, refused, printing}
+use Rattle.printer.specs.Printing.{tooMany, hasListing, fitting, part, Outcome, outcome, listed, printing}
 use Rattle.printer.proofs.SinkLaws.{sunk-then, sunk-more, sunk-whole}
 use Rattle.printer.proofs.TextLaws.{spaced-one, spaced-three, row-more, lines-more}
 use Rattle.printer.proofs.MarkLaws.{row-first}
@@ -30,18 +28,18 @@ use Rattle.printer.proofs.MarkLaws.{row-first}
 -- ---- numbers above the cells
 
 module _ (e : Triple) (m : List ℕ) (w : length m ≡ cells e) (a : ℕ) (p : a ≡ largest e m 2) where
-  pub stray-faces : length m < a → true ≡ stray e m
-  unfolding stray
-  stray-faces h = rw (← p, ← w, lt-ltb _ _ h)
+  pub many-faces : length m < a → true ≡ tooMany e m
+  unfolding tooMany
+  many-faces h = rw (← p, ← w, lt-ltb _ _ h)
 
   module _ (h : a ≤ length m) (b : ℕ) (q : b ≡ largest e m 1) where
-    pub stray-curves : length m < b → true ≡ stray e m
-    unfolding stray
-    stray-curves i = rw (← p, ← q, ← w, le-ltb _ _ h, lt-ltb _ _ i)
+    pub many-curves : length m < b → true ≡ tooMany e m
+    unfolding tooMany
+    many-curves i = rw (← p, ← q, ← w, le-ltb _ _ h, lt-ltb _ _ i)
 
-    pub stray-points : (c : ℕ) → b ≤ length m → c ≡ largest e m 0 → ltb (length m) c ≡ stray e m
-    unfolding stray
-    stray-points c i r = rw (← p, ← q, ← r, ← w, le-ltb _ _ h, le-ltb _ _ i)
+    pub many-points : (c : ℕ) → b ≤ length m → c ≡ largest e m 0 → ltb (length m) c ≡ tooMany e m
+    unfolding tooMany
+    many-points c i r = rw (← p, ← q, ← r, ← w, le-ltb _ _ h, le-ltb _ _ i)
 
 each-order : (e : Triple) (m : List ℕ) (j : ℕ) → j ≤ 2 → largest e m 2 ≤ cells e → largest e m 1 ≤ cells e → largest e m 0 ≤ cells e → largest e m j ≤ cells e
 each-order e m zero h f c p = p
@@ -49,47 +47,46 @@ each-order e m (suc zero) h f c p = c
 each-order e m (suc (suc zero)) h f c p = f
 each-order e m (suc (suc (suc j))) h f c p = absurd (omega arith)
 
--- ---- the refusals
+-- ---- whether there is a listing
 
 module _ (e : Triple) (m : List ℕ) (f : ℕ) where
-  -- the tests in the order of the code
-  ladder : refusalOf e m f ≡ cond (offSize 8 e) 1 (cond (not (eqb (length m) (cells e)) || not (eqb f (cells e))) 6 (cond (stray e m) 8 0))
-  unfolding refusalOf lowest first table number declines
-  ladder = refl
+  module _ (o : Bool) (i : o ≡ offSize 8 e) where
+    pub none-size : o ≡ true → false ≡ hasListing e m f
+    unfolding hasListing
+    none-size p = rw (sym i ∙ p)
 
-  pub off-size-given : offSize 8 e ≡ true → 1 ≡ refusalOf e m f
-  off-size-given p = rw (ladder, p)
+    module _ (p : o ≡ false) where
+      pub none-map : (length m ≡ cells e → ⊥) → false ≡ hasListing e m f
+      unfolding hasListing
+      none-map d = rw (sym i ∙ p, ne-eqb _ _ d)
 
-  module _ (p : offSize 8 e ≡ false) where
-    pub wrong-map-given : (length m ≡ cells e → ⊥) → 6 ≡ refusalOf e m f
-    wrong-map-given d = rw (ladder, p, ne-eqb _ _ d)
+      module _ (k : length m ≡ cells e) where
+        pub none-tray : (f ≡ cells e → ⊥) → false ≡ hasListing e m f
+        unfolding hasListing
+        none-tray d = rw (sym i ∙ p, eq-eqb _ _ k, ne-eqb _ _ d)
 
-    module _ (k : length m ≡ cells e) where
-      pub wrong-tray-given : (f ≡ cells e → ⊥) → 6 ≡ refusalOf e m f
-      wrong-tray-given d = rw (ladder, p, eq-eqb _ _ k, ne-eqb _ _ d)
+        pub by-numbers : (t : Bool) → f ≡ cells e → t ≡ tooMany e m → not t ≡ hasListing e m f
+        unfolding hasListing
+        by-numbers t j q = rw (sym i ∙ p, eq-eqb _ _ k, eq-eqb _ _ j, q)
 
-      module _ (i : f ≡ cells e) where
-        pub stray-label-given : stray e m ≡ true → 8 ≡ refusalOf e m f
-        stray-label-given b = rw (ladder, p, eq-eqb _ _ k, eq-eqb _ _ i, b)
-
-        pub none-given : stray e m ≡ false → 0 ≡ refusalOf e m f
-        none-given b = rw (ladder, p, eq-eqb _ _ k, eq-eqb _ _ i, b)
-
-  -- What holds where nothing is refused.
-  pub ready-of : refusalOf e m f ≡ 0 → Ready e m f
-  unfolding refusalOf declines stray
-  ready-of z =
-      let n = lowest-none (declines e m f) .0 z in
-      let w = neither (not (eqb (length m) (cells e))) (not (eqb f (cells e))) (n wrong-tray) in
+  -- What holds where there is one.
+  pub ready-of : hasListing e m f ≡ true → Ready e m f
+  unfolding hasListing tooMany
+  ready-of h =
+      let o = not (offSize 8 e) in
+      let k = eqb (length m) (cells e) in
+      let j = eqb f (cells e) in
       let a = ltb (cells e) (largest e m 2) in
       let b = ltb (cells e) (largest e m 1) in
       let c = ltb (cells e) (largest e m 0) in
-      let s = neither a (b || c) (n stray-label) in
+      let g = and-right o (k && (j && not (a || (b || c)))) h in
+      let i = and-right k (j && not (a || (b || c))) g in
+      let s = neither a (b || c) (not-true (a || (b || c)) (and-right j (not (a || (b || c))) i)) in
       let t = neither b c (s .1) in
       record {
-        sized = sized-of 8 e (n off-size);
-        whole = eqb-true _ _ (not-false _ (w .0));
-        room = eqb-true _ _ (not-false _ (w .1));
+        sized = sized-of 8 e (not-true (offSize 8 e) (and-left o (k && (j && not (a || (b || c)))) h));
+        whole = eqb-true _ _ (and-left k (j && not (a || (b || c))) g);
+        room = eqb-true _ _ (and-left j (not (a || (b || c))) i);
         counts = λ j h. each-order e m j h (ltb-false _ _ (s .0)) (ltb-false _ _ (t .0)) (ltb-false _ _ (t .1));
       }
 
@@ -163,26 +160,27 @@ refusal-put n k o t u p q = sunk-whole (refusedLine n) o k u (sunk-then _ t u _ 
 
 -- ---- the ways of `print_listing`
 
-pub print-refused : (e : Triple) (m f : List ℕ) (from : ℕ) (t : List ℕ) (n : ℕ) → n ≡ refusalOf e m (length f) → (n ≡ 0 → ⊥) → outcome (record { refusal = n; length = 0 }) f t ≡ printing e m f from t
-unfolding printing refused
-print-refused e m f from t n h z = rw (← h, ne-eqb n 0 z)
+module _ (e : Triple) (m f : List ℕ) (from : ℕ) (t : List ℕ) (b : Bool) (h : b ≡ hasListing e m (length f)) where
+  pub print-none : b ≡ false → outcome 0 f t ≡ printing e m f from t
+  unfolding printing
+  print-none z = rw (sym h ∙ z)
 
-pub print-accepted : (e : Triple) (m f : List ℕ) (from : ℕ) (t : List ℕ) (n at : ℕ) (g u : List ℕ) → n ≡ refusalOf e m (length f) → n ≡ 0 → g ≡ zeros (cells e)
-    → (at ≡ fitting from (listing e m) (length t)) × (u ≡ part from (listing e m) t) → outcome (record { refusal = 0; length = at }) g u ≡ printing e m f from t
-unfolding printing accepted
-print-accepted e m f from t n at g u h z c d =
-    let r = ready-of e m (length f) (sym h ∙ z) .room in
-    rw (← h, eq-eqb n 0 z, d .0, d .1, c, r)
+  pub print-listed : (at : ℕ) (g u : List ℕ) → b ≡ true → g ≡ zeros (cells e)
+      → (at ≡ fitting from (listing e m) (length t)) × (u ≡ part from (listing e m) t) → outcome at g u ≡ printing e m f from t
+  unfolding printing listed
+  print-listed at g u z c d =
+      let r = ready-of e m (length f) (sym h ∙ z) .room in
+      rw (sym h ∙ z, d .0, d .1, c, r)
 
 -- A caller has no more bytes than its tray holds.
 pub fitting-within : (from : ℕ) (text : List ℕ) (tray : ℕ) → fitting from text tray ≤ tray
 unfolding fitting
 fitting-within from text tray = min-le-left tray _
 
-pub printed-within : (e : Triple) (m f : List ℕ) (from : ℕ) (t : List ℕ) (o : Outcome) → o ≡ printing e m f from t → o .answer .length ≤ length t
-unfolding printing accepted refused
+pub printed-within : (e : Triple) (m f : List ℕ) (from : ℕ) (t : List ℕ) (o : Outcome) → o ≡ printing e m f from t → o .put ≤ length t
+unfolding printing listed
 printed-within e m f from t o p =
-    rw p (picked (λ (q : Outcome). q .answer .length ≤ length t) (eqb (refusalOf e m (length f)) 0) _ _ (λ _. fitting-within from (listing e m) (length t)) (λ _. omega arith))
+    rw p (picked (λ (q : Outcome). q .put ≤ length t) (hasListing e m (length f)) _ _ (λ _. fitting-within from (listing e m) (length t)) (λ _. omega arith))
 
 -- The parts that a caller asks for one after the other join to the text, and 0 bytes come only after its end.
 pub parts-join : (from : ℕ) (text : List ℕ) (tray : ℕ) → take (fitting from text tray) (drop from text) ++ drop (from + fitting from text tray) text ≡ drop from text

@@ -57,7 +57,7 @@ pub record Marks (e : Triple) (m : List ℕ) (j p : ℕ) (t : List ℕ) : Type 0
   pub room : length t ≡ cells e
   pub has : (k : ℕ) → k < cells e → getD t k 0 ≡ firstFrom e m j p (suc k)
 
--- Nothing is refused.
+-- The map has a listing.
 pub record Ready (e : Triple) (m : List ℕ) (firsts : ℕ) : Type 0 where
   pub sized : Sized 8 e
   pub whole : length m ≡ cells e

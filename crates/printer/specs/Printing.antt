@@ -1,39 +1,25 @@
--- What `print_listing` answers and leaves in its trays, for every input (document 01, "Volumes to try" and "What the service declines").
+-- What `print_listing` answers and leaves in its trays, for every input (document 01, "Volumes to try").
 -- Assumes nothing.
-use mathlib.Core.Bool.{Bool, false, cond, not, _||_}
+use mathlib.Core.Bool.{Bool, cond, not, _&&_, _||_}
 use mathlib.Core.List.{List, _++_}
 use Prim.Native.Nat.{ℕ, _-_, min}
 use lib.Dec.{eqb, ltb}
 use lib.ListN.{length, take, drop}
 use Rattle.lists.specs.Lists.{zeros}
-use Rattle.refusals.specs.Refusals.{Refusal, off-size, bad-cut, wrong-stage, no-such-place, done-already, wrong-tray, blank-voxel, stray-label, layers-differ, table-full, bad-record, lowest}
 use Rattle.cells.specs.Box.{Triple}
 use Rattle.cells.specs.Extents.{offSize}
 use Rattle.cells.specs.Grid.{cells}
 use Rattle.labels.specs.Components.{largest}
 use Rattle.text.specs.Listing.{listing}
-use Rattle.printer.specs.declared.Printed.{Printed}
 
 -- A component has a number above the cells, more than there can be.
-unfoldable pub stray : Triple → List ℕ → Bool
-stray e m = ltb (cells e) (largest e m 2) || (ltb (cells e) (largest e m 1) || ltb (cells e) (largest e m 0))
+unfoldable pub tooMany : Triple → List ℕ → Bool
+tooMany e m = ltb (cells e) (largest e m 2) || (ltb (cells e) (largest e m 1) || ltb (cells e) (largest e m 0))
 
--- When each refusal applies. The tray of first cells goes in by its length.
-unfoldable pub declines : Triple → List ℕ → ℕ → Refusal → Bool
-declines e m firsts off-size = offSize 8 e
-declines e m firsts bad-cut = false
-declines e m firsts wrong-stage = false
-declines e m firsts no-such-place = false
-declines e m firsts done-already = false
-declines e m firsts wrong-tray = not (eqb (length m) (cells e)) || not (eqb firsts (cells e))
-declines e m firsts blank-voxel = false
-declines e m firsts stray-label = stray e m
-declines e m firsts layers-differ = false
-declines e m firsts table-full = false
-declines e m firsts bad-record = false
-
-unfoldable pub refusalOf : Triple → List ℕ → ℕ → ℕ
-refusalOf e m firsts = lowest (declines e m firsts)
+-- The extents are 1 to 8, map and tray of first cells have a place for each cell, and no number is above the cells. Every map that a
+-- labelling leaves has a listing: `labels-printed` (proofs/LabelledLaws). The tray of first cells goes in by its length.
+unfoldable pub hasListing : Triple → List ℕ → ℕ → Bool
+hasListing e m firsts = not (offSize 8 e) && (eqb (length m) (cells e) && (eqb firsts (cells e) && not (tooMany e m)))
 
 -- How many bytes of a text, from place `from` on, a tray holds.
 unfoldable pub fitting : ℕ → List ℕ → ℕ → ℕ
@@ -43,23 +29,19 @@ fitting from text tray = min tray (length text - from)
 unfoldable pub part : ℕ → List ℕ → List ℕ → List ℕ
 part from text t = take (fitting from text (length t)) (drop from text) ++ drop (fitting from text (length t)) t
 
--- The answer, and what the tray of first cells and the tray of text hold.
+-- How many bytes are put, and what the tray of first cells and the tray of text hold.
 pub record Outcome : Type 0 where
-  pub answer : Printed
+  pub put : ℕ
   pub firsts : List ℕ
   pub tray : List ℕ
 
-abbrev pub outcome : Printed → List ℕ → List ℕ → Outcome
-outcome a f t = record { answer = a; firsts = f; tray = t }
+abbrev pub outcome : ℕ → List ℕ → List ℕ → Outcome
+outcome n f t = record { put = n; firsts = f; tray = t }
 
--- Accepted: the part of the listing from `from` on that the tray holds; the tray of first cells is left with zeros.
-unfoldable pub accepted : Triple → List ℕ → List ℕ → ℕ → List ℕ → Outcome
-accepted e m f from t = outcome (record { refusal = 0; length = fitting from (listing e m) (length t) }) (zeros (length f)) (part from (listing e m) t)
+-- The part of the listing from `from` on that the tray holds; the tray of first cells is left with zeros.
+unfoldable pub listed : Triple → List ℕ → List ℕ → ℕ → List ℕ → Outcome
+listed e m f from t = outcome (fitting from (listing e m) (length t)) (zeros (length f)) (part from (listing e m) t)
 
--- Refused: the number, and the trays as they were.
-unfoldable pub refused : ℕ → List ℕ → List ℕ → Outcome
-refused n f t = outcome (record { refusal = n; length = 0 }) f t
-
--- The outcome of a call.
+-- The outcome of a call: where there is no listing, no bytes, and the trays as they were.
 unfoldable pub printing : Triple → List ℕ → List ℕ → ℕ → List ℕ → Outcome
-printing e m f from t = cond (eqb (refusalOf e m (length f)) 0) (accepted e m f from t) (refused (refusalOf e m (length f)) f t)
+printing e m f from t = cond (hasListing e m (length f)) (listed e m f from t) (outcome 0 f t)

@@ -1,14 +1,12 @@
-// The listing of a map as text, from any place of the text on, into a tray of any size. Everything is decided before the first store.
+// The listing of a map as text, and the line of a refusal, from any place of the text on, into a tray of any size. Nothing is refused: where
+// there is no listing, no byte is put. None of the functions is an entry.
 use extents::off_size;
-use refusals::OFF_SIZE;
-use refusals::STRAY_LABEL;
-use refusals::WRONG_TRAY;
 use rows::row_at;
 use union_find::clear;
 ghost use mathlib.Core.Path.{_≡_};
 ghost use mathlib.Core.List.{[], _∷_, _++_};
 ghost use Prim.Native.Nat.{_+_, _-_, _<_, _≤_};
-ghost use lib.ListN.{length, getD, take};
+ghost use lib.ListN.{length, take};
 ghost use Rattle.lists.specs.Lists.{consecutive, zeros};
 ghost use Rattle.cells.specs.Box.{triple};
 ghost use Rattle.cells.specs.Extents.{Sized};
@@ -16,17 +14,11 @@ ghost use Rattle.cells.specs.Grid.{cells, order};
 ghost use Rattle.labels.specs.Components.{largest, firstCell};
 ghost use Rattle.text.specs.Listing.{decimal, spaced, letter, coordinates, line, linesFor, linesOf, heading, listing, refusedLine};
 ghost use Rattle.printer.specs.Inner.{state, sunk, Sought, larger, Marks, Ready};
-ghost use Rattle.printer.specs.Printing.{stray, refusalOf, outcome, fitting, part, accepted, printing};
+ghost use Rattle.printer.specs.Printing.{tooMany, hasListing, outcome, fitting, part, printing};
 
 const SPACE: u8 = 32;
 
 const LINE_END: u8 = 10;
-
-// What a printing answers: the number of its refusal, 0 for none, and how many bytes it put into the tray.
-pub struct Printed {
-    pub refusal: u32,
-    pub length: usize,
-}
 
 // How many bytes of the text still stand before the part that is asked for, and how many are in the tray.
 struct Sink {
@@ -299,7 +291,7 @@ fn put_heading(s: Sink, out: &mut [u8], nx: usize, ny: usize, nz: usize, map: &[
     put(s, out, LINE_END)
 }
 
-// Puts the listing, where it is not refused. The tray of first cells is left with zeros.
+// Puts the listing, where there is one. The tray of first cells is left with zeros.
 fn put_listing(
     s: Sink,
     out: &mut [u8],
@@ -320,10 +312,10 @@ fn put_listing(
     put_order(s, out, nx, ny, nz, map, 0, firsts)
 }
 
-// Whether a number is above the cells.
-fn has_stray(map: &[u32], nx: usize, ny: usize, nz: usize) -> bool
+// Whether there are more components of an order than cells.
+fn too_many(map: &[u32], nx: usize, ny: usize, nz: usize) -> bool
     requires { ⌜ Sought (triple nx ny nz) (now map) 2 ⌝ }
-    ensures { λ r. ⌜ r ≡ stray (triple nx ny nz) (now (map .entry)) ⌝ }
+    ensures { λ r. ⌜ r ≡ tooMany (triple nx ny nz) (now (map .entry)) ⌝ }
 {
     let n = map.len();
     if count_of(map, nx, ny, nz, 2) as usize > n {
@@ -335,28 +327,26 @@ fn has_stray(map: &[u32], nx: usize, ny: usize, nz: usize) -> bool
     count_of(map, nx, ny, nz, 0) as usize > n
 }
 
-// The number of the refusal, the lowest that applies, and 0 for none.
-fn refusal(nx: usize, ny: usize, nz: usize, map: &[u32], firsts: usize) -> u32
-    ensures { λ r. ⌜ r ≡ refusalOf (triple nx ny nz) (now (map .entry)) firsts ⌝ }
+// Whether the map has a listing and the tray of first cells its length.
+fn has_listing(nx: usize, ny: usize, nz: usize, map: &[u32], firsts: usize) -> bool
+    ensures { λ r. ⌜ r ≡ hasListing (triple nx ny nz) (now (map .entry)) firsts ⌝ }
 {
     if off_size(8, nx, ny, nz) {
-        return OFF_SIZE;
+        return false;
     }
     let cells = (2 * nx - 1) * (2 * ny - 1) * (2 * nz - 1);
     if map.len() != cells {
-        return WRONG_TRAY;
+        return false;
     }
     if firsts != cells {
-        return WRONG_TRAY;
+        return false;
     }
-    if has_stray(map, nx, ny, nz) {
-        return STRAY_LABEL;
-    }
-    0
+    !too_many(map, nx, ny, nz)
 }
 
 // Prints the listing of a map of nx, ny and nz voxels from byte `from` on, as much as the tray holds, and answers how many bytes that is.
-// A caller asks again from where it stopped, until the answer is 0. The tray of first cells is working space, and is left with zeros.
+// A caller asks again from where it stopped, until the answer is 0. The tray of first cells is working space, and is left with zeros. A
+// map that has no listing is printed as no bytes, and both trays stay. Not an entry.
 pub fn print_listing(
     nx: usize,
     ny: usize,
@@ -365,27 +355,20 @@ pub fn print_listing(
     firsts: &mut [u32],
     from: usize,
     out: &mut [u8],
-) -> Printed
+) -> usize
     ensures { λ r. ⌜ outcome r (now (firsts .exit)) (now (out .exit))
         ≡ printing (triple nx ny nz) (now (map .entry)) (now (firsts .entry)) from (now (out .entry)) ⌝ }
 {
     let size = firsts.len();
-    let number = refusal(nx, ny, nz, map, size);
-    if number != 0 {
-        return Printed {
-            refusal: number,
-            length: 0,
-        };
+    if has_listing(nx, ny, nz, map, size) {
+        let start = Sink { skip: from, at: 0 };
+        let end = put_listing(start, out, nx, ny, nz, map, firsts);
+        return end.at;
     }
-    let start = Sink { skip: from, at: 0 };
-    let end = put_listing(start, out, nx, ny, nz, map, firsts);
-    Printed {
-        refusal: 0,
-        length: end.at,
-    }
+    0
 }
 
-// Prints the line of a refusal from byte `from` on, as much as the tray holds, and answers how many bytes that is.
+// Prints the line of a refusal from byte `from` on, as much as the tray holds, and answers how many bytes that is. Not an entry.
 pub fn print_refusal(number: u32, from: usize, out: &mut [u8]) -> usize
     ensures { λ r. ⌜ (r ≡ fitting from (refusedLine number) (length (now (out .entry)))) × (now (out .exit) ≡ part from (refusedLine number) (now (out .entry))) ⌝ }
 {

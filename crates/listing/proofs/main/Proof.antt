@@ -1,8 +1,9 @@
 -- `listing::main` meets its contract.
-use mathlib.Core.Path.{_∙_, sym}
+use mathlib.Core.Path.{_≡_, _∙_, sym}
 use native.Mathlib.Omega.{arith}
+use lib.ListN.{length}
 use borrow.Author.Needs.{needs}
-use Rattle.extents.proofs.SizeLaws.{sized-of}
+use Rattle.parser.proofs.AnswerLaws.{finished-length, listed-small}
 use Rattle.listing.proofs.main.Statement.{statement}
 use Rattle.listing.proofs.main.Tie as tie
 
@@ -15,11 +16,24 @@ read-all-requires c κs = search needs
 returns : tie.Need-returns
 returns c = search needs
 
-slice-aggregate-finish : tie.Need-slice-aggregate-finish
-slice-aggregate-finish c = search needs
-
 finish-requires : tie.Need-finish-requires
 finish-requires c κs = search needs
+
+enum-known-task : tie.Need-enum-known-task
+enum-known-task c = search needs
+
+-- The tray has its places after the last chunk.
+room : (f : tie.After-finish) → length (f .finish .last .1 .0) ≡ 512
+room f = finished-length _ _ _ (f .finish .ensures) ∙ f .before .before .before .before .before .read-all .kept .0
+
+slice-aggregate-list-codes : tie.Need-slice-aggregate-list-codes
+slice-aggregate-list-codes c = sym (room (c .before .before .before .before))
+
+list-codes-requires : tie.Need-list-codes-requires
+list-codes-requires c κs = let f = c .before .before .before .before in (listed-small _ _ _ _ _ _ (f .finish .ensures) (c .before .before .task .given .1), omega (arith, room f))
+
+enum-known-task-2 : tie.Need-enum-known-task-2
+enum-known-task-2 c = search needs
 
 say-refused-requires : tie.Need-say-refused-requires
 say-refused-requires c κs = search needs
@@ -27,32 +41,8 @@ say-refused-requires c κs = search needs
 returns-2 : tie.Need-returns-2
 returns-2 c = search needs
 
-cast-off-size : tie.Need-cast-off-size
-cast-off-size c = search needs
-
-cast-off-size-2 : tie.Need-cast-off-size-2
-cast-off-size-2 c = search needs
-
-cast-off-size-3 : tie.Need-cast-off-size-3
-cast-off-size-3 c = search needs
-
-off-size-requires : tie.Need-off-size-requires
-off-size-requires c κs = search needs
-
-say-refused-requires-2 : tie.Need-say-refused-requires-2
-say-refused-requires-2 c κs = search needs
-
 returns-3 : tie.Need-returns-3
 returns-3 c = search needs
-
-slice-aggregate-list-codes : tie.Need-slice-aggregate-list-codes
-slice-aggregate-list-codes c = search needs
-
-list-codes-requires : tie.Need-list-codes-requires
-list-codes-requires c κs = (sized-of 8 _ (sym (c .before .before .off-size .ensures) ∙ c .before .if4 .left), omega (arith, c .before .before .before .before .before .before .before .before .before .finish .kept .1 .0, c .before .before .before .before .before .before .before .before .before .before .before .before .before .before .read-all .kept .0))
-
-returns-4 : tie.Need-returns-4
-returns-4 c = search needs
 
 pub main-spec : {M : Type 1} → statement M
 main-spec =
@@ -61,16 +51,11 @@ main-spec =
     slice-aggregate-read-all
     read-all-requires
     returns
-    slice-aggregate-finish
     finish-requires
-    say-refused-requires
-    returns-2
-    cast-off-size
-    cast-off-size-2
-    cast-off-size-3
-    off-size-requires
-    say-refused-requires-2
-    returns-3
+    enum-known-task
     slice-aggregate-list-codes
     list-codes-requires
-    returns-4)
+    enum-known-task-2
+    say-refused-requires
+    returns-2
+    returns-3)

@@ -7,14 +7,11 @@ use Rattle.parser.proofs.finish.Tie as tie
 close-requires : tie.Need-close-requires
 close-requires c κs = search needs
 
-answer-requires : tie.Need-answer-requires
-answer-requires c κs = search needs
-
-same-length : tie.Need-same-length
-same-length c = search needs
+task-seen-requires : tie.Need-task-seen-requires
+task-seen-requires c κs = search needs
 
 returns : tie.Need-returns
 returns c = search finished-is
 
 pub finish-spec : {M : Type 1} → statement M
-finish-spec = tie.close (tie.spec close-requires answer-requires same-length returns)
+finish-spec = tie.close (tie.spec close-requires task-seen-requires returns)

@@ -1,8 +1,8 @@
--- `printer::has_stray` meets its contract.
+-- `printer::too_many` meets its contract.
 use borrow.Author.Needs.{needs}
-use Rattle.printer.proofs.PrintLaws.{stray-faces, stray-curves, stray-points}
-use Rattle.printer.proofs.has_stray.Statement.{statement}
-use Rattle.printer.proofs.has_stray.Tie as tie
+use Rattle.printer.proofs.PrintLaws.{many-faces, many-curves, many-points}
+use Rattle.printer.proofs.too_many.Statement.{statement}
+use Rattle.printer.proofs.too_many.Tie as tie
 
 count-of-requires : tie.Need-count-of-requires
 count-of-requires c κs = search needs
@@ -11,7 +11,7 @@ cast-if1 : tie.Need-cast-if1
 cast-if1 c = search needs
 
 returns : tie.Need-returns
-returns c = search stray-faces
+returns c = search many-faces
 
 count-of-requires-2 : tie.Need-count-of-requires-2
 count-of-requires-2 c κs = search needs
@@ -20,7 +20,7 @@ cast-if2 : tie.Need-cast-if2
 cast-if2 c = search needs
 
 returns-2 : tie.Need-returns-2
-returns-2 c = search stray-curves
+returns-2 c = search many-curves
 
 count-of-requires-3 : tie.Need-count-of-requires-3
 count-of-requires-3 c κs = search needs
@@ -29,10 +29,10 @@ cast-result : tie.Need-cast-result
 cast-result c = search needs
 
 returns-3 : tie.Need-returns-3
-returns-3 c = search stray-points
+returns-3 c = search many-points
 
-pub has-stray-spec : {M : Type 1} → statement M
-has-stray-spec =
+pub too-many-spec : {M : Type 1} → statement M
+too-many-spec =
     tie.close
     (tie.spec
     count-of-requires
