@@ -20,6 +20,8 @@ use Rattle.cells.specs.Grid.{sides, cells, odd, order, along, up}
 use Rattle.cells.proofs.BoxLaws.{index-place, raised, lowered, index-raised, index-lowered}
 use Rattle.cells.proofs.GridLaws.{odd-at, inside, low-side, high-side, raised-inside, lowered-inside, axis-down, axis-up}
 use Rattle.cells.specs.Row.{rowOf, row}
+use Rattle.cells.specs.Steps.{stepsOf, pattern, moved}
+use Rattle.cells.proofs.StepLaws.{up-steps}
 use Rattle.lines.specs.Lines.{strideIf, odds, around, lineCount, lineY, lineZ, firstX, firstStride, lastStride, Strided, one, two, three}
 
 -- ---- odd axes
@@ -40,6 +42,11 @@ unfolding up odds
 up-around e p =
     let s = sides e in
     rw (around-append, around-append, along-around (odd e p X) p (stride s X), along-around (odd e p Y) p (stride s Y), along-around (odd e p Z) p (stride s Z))
+
+-- So the cells one stride down and up along the odd axes are those that the row of the table for the cell's pattern leads to: the table of
+-- neighbour steps is the one place where steps are said.
+pub around-steps : (e : Triple) (p : ℕ) → around p (odds e p) ≡ map (moved (stride (sides e) Y) (stride (sides e) Z) p) (stepsOf (pattern e p))
+around-steps e p = sym (up-around e p) ∙ up-steps e p
 
 -- the axis a made even
 evened : Axis → Axis → ℕ → ℕ
@@ -345,6 +352,18 @@ line-strides e l x n h g i =
     rw k
     (strided e p (bit (x % 2) (omega arith)) (bit (lineY e l) (omega arith)) (bit (lineZ e l) (omega arith))
     (odds-are e p (x % 2) (lineY e l) (lineZ e l) (line-x e l x h) (line-y e l x h) (line-z e l x h)) (omega arith))
+
+-- The strides that the rows of cells are read by, n of them.
+unfoldable pub stridesBy : ℕ → ℕ → ℕ → ℕ → List ℕ
+stridesBy n a w b = cond (eqb n 1) (a ∷ []) (cond (eqb n 2) (a ∷ b ∷ []) (a ∷ w ∷ b ∷ []))
+
+-- They are what the table says for the cell's pattern.
+pub strides-steps : (e : Triple) (p n a w b : ℕ) → Strided e p n a w b
+    → around p (stridesBy n a w b) ≡ map (moved (stride (sides e) Y) (stride (sides e) Z) p) (stepsOf (pattern e p))
+unfolding stridesBy
+strides-steps e p n a w b (one o) = ap (around p) (sym o) ∙ around-steps e p
+strides-steps e p n a w b (two o) = ap (around p) (sym o) ∙ around-steps e p
+strides-steps e p n a w b (three o) = ap (around p) (sym o) ∙ around-steps e p
 
 -- ---- rows
 

@@ -7,6 +7,7 @@ use mathlib.Core.List.{List, [], _∷_, _++_}
 use lib.Dec.{eqb}
 use Rattle.cells.specs.Box.{Triple, X, Y, Z, stride}
 use Rattle.cells.specs.Grid.{sides, odd}
+use Rattle.cells.specs.Steps.{stepAt, reach}
 
 -- The stride of an axis, where it is odd.
 unfoldable pub strideIf : ℕ → ℕ → List ℕ
@@ -37,12 +38,14 @@ lineZ e l = l / sides e .y % 2
 unfoldable pub firstX : ℕ → ℕ → ℕ → ℕ
 firstX n q w = cond (eqb n q) 0 (cond (eqb n (suc q)) 1 w)
 
--- The first stride of the odd axes of a cell, by the parities of its x and y, and the last one of two or more, by that of its z.
+-- The first stride of the odd axes of a cell, by the parities of its x and y: how far the first step of its pattern goes. That of z counts
+-- only where x and y are even, and there z is odd.
 unfoldable pub firstStride : ℕ → ℕ → ℕ → ℕ → ℕ
-firstStride x y w wh = cond (eqb x 1) 1 (cond (eqb y 1) w wh)
+firstStride x y w wh = reach w wh (stepAt (x % 2 + 2 * (y % 2) + 4) 0)
 
+-- The last stride of two or more, by the parity of its z: that of the last steps where x, y and z are odd, or x and y.
 unfoldable pub lastStride : ℕ → ℕ → ℕ → ℕ
-lastStride z w wh = cond (eqb z 1) wh w
+lastStride z w wh = reach w wh (stepAt (3 + 4 * (z % 2)) (2 + 2 * (z % 2)))
 
 -- Cell p has n odd axes, 1 to 3: a is the first stride, b the last one of two or more, and w the middle one of three.
 pub data Strided (e : Triple) (p : ℕ) : ℕ → ℕ → ℕ → ℕ → Type 0 where

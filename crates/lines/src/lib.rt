@@ -1,7 +1,9 @@
-// The cells of one order, line by line, and their rows by strides: no division and no table for a cell.
+// The cells of one order, line by line, and their rows by strides. A line's strides come from the table of neighbour steps; a cell then needs no
+// division and no table.
 use rows::row_of_four;
 use rows::row_of_six;
 use rows::row_of_two;
+use rows::stride;
 ghost use mathlib.Core.Path.{_≡_};
 ghost use mathlib.Core.List.{[], _∷_};
 ghost use Prim.Native.Nat.{_+_, _-_, _<_, _≤_};
@@ -26,21 +28,18 @@ pub fn first_x(n: usize, q: usize, w: usize) -> usize
     w
 }
 
-// The first stride of the odd axes of a cell, by the parities of its x and y.
+// The first stride of the odd axes of a cell, by the parities of its x and y, from the table of neighbour steps.
 pub fn first_stride(x: usize, y: usize, w: usize, wh: usize) -> usize
     ensures { λ r. ⌜ r ≡ firstStride x y w wh ⌝ }
 {
-    if x == 1 {
-        return 1;
-    }
-    if y == 1 { w } else { wh }
+    stride(x % 2 + 2 * (y % 2) + 4, 0, w, wh)
 }
 
 // The last stride of two or more odd axes, by the parity of z.
 pub fn last_stride(z: usize, w: usize, wh: usize) -> usize
     ensures { λ r. ⌜ r ≡ lastStride z w wh ⌝ }
 {
-    if z == 1 { wh } else { w }
+    stride(3 + 4 * (z % 2), 2 + 2 * (z % 2), w, wh)
 }
 
 // The numbers one stride down and up.
