@@ -12,7 +12,7 @@ same-length : tie.Need-same-length
 same-length c = search needs
 
 returns : tie.Need-returns
-returns c = opened-opening (opened {j = c .before .before .open .result .job} (c .before .before .open .ensures))
+returns c = opened-opening (opened {j = c .before .before .before .open .result .job} (c .before .before .before .open .ensures))
 
 pub open-spec : {M : Type 1} → statement M
 open-spec = tie.close (tie.spec open-requires same-length returns)
