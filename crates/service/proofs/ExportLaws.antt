@@ -20,7 +20,10 @@ use Rattle.job.specs.declared.Job.{Job}
 use Rattle.job.specs.declared.Stage.{Stage}
 use Rattle.job.specs.Jobs.{anyCuts, stateOf}
 use Rattle.job_numbers.specs.Numbers.{jobIn, kept}
-use Rattle.service.specs.Exports.{ExportedStep, ExportedLookup, ExportedRow, sixOf}
+use Rattle.row_reading.specs.Inner.{lent}
+use Rattle.tie.specs.Contracts.{read}
+use Rattle.tie.proofs.Service.{called-step}
+use Rattle.exports.specs.Exports.{ExportedStep, ExportedLookup, RowExported, sixOf}
 
 module _ (r : Labelled) (m w c : List ℕ) (o : Outcome) (promise : outcome r m w ≡ o) where
   pub export-stored : r .refusal ≡ 0 → exported (r .refusal) m w (set (set (set c 0 (r .faces)) 1 (r .curves)) 2 (r .points)) ≡ export o c
@@ -50,7 +53,7 @@ module _ (a : Head) (t h : List ℕ) (o : Reading·Outcome) (promise : Reading·
   unfolding exportReading
   reading-refused n = rw (← promise, ne-eqb (a .refusal) 0 n)
 
--- ---- the joiner
+-- ---- the joiner, on all nineteen tables
 
 module _ (ns ns′ : List ℕ) (other : Stage) (cx cy cz : List ℕ) (t t′ : Tables) (c : Call) (r : ℕ) (job : Job) where
   pub step-exported : (j : Job) → j ≡ jobIn ns other → Step (stateOf j cx cy cz t) c (answer r 0 []) (stateOf job cx cy cz t′) → ns′ ≡ kept r ns job → ExportedStep ns ns′ other cx cy cz t t′ c r
@@ -58,24 +61,24 @@ module _ (ns ns′ : List ℕ) (other : Stage) (cx cy cz : List ℕ) (t t′ : T
 
 module _ (ns : List ℕ) (other : Stage) (cx cy cz : List ℕ) (t : Tables) (c : Call) (r found v : ℕ) (j : Job) (e : j ≡ jobIn ns other)
     (s : Step (stateOf j cx cy cz t) c (answer r found []) (stateOf j cx cy cz t)) where
-  looked : Step (stateOf (jobIn ns other) cx cy cz t) c (answer r found []) (stateOf (jobIn ns other) cx cy cz t)
-  looked = subst (λ (x : Job). Step (stateOf x cx cy cz t) c (answer r found []) (stateOf x cx cy cz t)) e s
+  looked-up : Step (stateOf (jobIn ns other) cx cy cz t) c (answer r found []) (stateOf (jobIn ns other) cx cy cz t)
+  looked-up = subst (λ (x : Job). Step (stateOf x cx cy cz t) c (answer r found []) (stateOf x cx cy cz t)) e s
 
   pub lookup-stored : r ≡ 0 → ExportedLookup ns other cx cy cz t c r v found
-  lookup-stored z = record { found = found; step = looked; number = rw (eq-eqb r 0 z) }
+  lookup-stored z = record { found = found; step = looked-up; number = rw (eq-eqb r 0 z) }
 
   pub lookup-refused : r ≢ 0 → ExportedLookup ns other cx cy cz t c r v v
-  lookup-refused n = record { found = found; step = looked; number = rw (ne-eqb r 0 n) }
+  lookup-refused n = record { found = found; step = looked-up; number = rw (ne-eqb r 0 n) }
 
-module _ (j : Job) (κ : Kind) (n : ℕ) (t : Tables) (r : ℕ) (part : List ℕ)
-    (s : anyCuts (λ cx cy cz. Step (stateOf j cx cy cz t) (reading κ n) (answer r 0 part) (stateOf j cx cy cz t))) where
-  pub row-stored : r ≡ 0 → (row row′ : List ℕ) → row′ ≡ sixOf part → ExportedRow j κ n t r row row′
-  row-stored z row row′ e = record { part = part; step = s; places = rw (eq-eqb r 0 z) e }
+module _ (j : Job) (κ : Kind) (n : ℕ) (fs cs ps : List ℕ) (r : ℕ) (part : List ℕ)
+    (s : anyCuts (λ cx cy cz. Step (stateOf j cx cy cz (lent fs cs ps)) (reading κ n) (answer r 0 part) (stateOf j cx cy cz (lent fs cs ps)))) where
+  pub row-stored : r ≡ 0 → (row row′ : List ℕ) → row′ ≡ sixOf part → RowExported j κ n fs cs ps r row row′
+  row-stored z row row′ e cx cy cz t = record { part = part; step = called-step (read {j = j} {cx = cx} {cy = cy} {cz = cz} s); places = rw (eq-eqb r 0 z) e }
 
-  pub row-refused : r ≢ 0 → (row : List ℕ) → ExportedRow j κ n t r row row
-  row-refused m row = record { part = part; step = s; places = rw (ne-eqb r 0 m) }
+  pub row-refused : r ≢ 0 → (row : List ℕ) → RowExported j κ n fs cs ps r row row
+  row-refused m row cx cy cz t = record { part = part; step = called-step (read {j = j} {cx = cx} {cy = cy} {cz = cz} s); places = rw (ne-eqb r 0 m) }
 
 -- a row of the job that the numbers tell
-pub row-exported : (ns : List ℕ) (other : Stage) (κ : Kind) (n : ℕ) (t : Tables) (r : ℕ) (row row′ : List ℕ) (j : Job) → j ≡ jobIn ns other
-    → ExportedRow j κ n t r row row′ → ExportedRow (jobIn ns other) κ n t r row row′
-row-exported ns other κ n t r row row′ j e x = subst (λ (y : Job). ExportedRow y κ n t r row row′) e x
+pub row-exported : (ns : List ℕ) (other : Stage) (κ : Kind) (n : ℕ) (fs cs ps : List ℕ) (r : ℕ) (row row′ : List ℕ) (j : Job) → j ≡ jobIn ns other
+    → RowExported j κ n fs cs ps r row row′ → RowExported (jobIn ns other) κ n fs cs ps r row row′
+row-exported ns other κ n fs cs ps r row row′ j e x = subst (λ (y : Job). RowExported y κ n fs cs ps r row row′) e x

@@ -16,8 +16,7 @@ use seaming::seam;
 use steps::at;
 use writer::write_record;
 ghost use mathlib.Core.Path.{_≡_};
-ghost use mathlib.Core.List.{[]};
-ghost use Rattle.joiner.specs.Job as joiner;
+ghost use Rattle.joiner.specs.Job.{Face, Curve, Point};
 ghost use Rattle.joiner.specs.Calls.{enrol, join, cross, point, look};
 ghost use Rattle.job.specs.declared.Stage.{Stage};
 ghost use Rattle.job.specs.Jobs.{toldBy, tablesOf};
@@ -25,8 +24,9 @@ ghost use Rattle.cells.specs.Box.{triple};
 ghost use Rattle.labeller.specs.Labelling.{labelling};
 ghost use Rattle.writer.specs.Writing.{writing};
 ghost use Rattle.reader.specs.Reading.{reading};
-ghost use Rattle.service.specs.Exports.{exported, export, exportedWriting, exportWriting, exportedReading, exportReading, ExportedOpening, ExportedStep, ExportedLookup, ExportedRow, sixOf};
+ghost use Rattle.service.specs.Exports.{exported, export, exportedWriting, exportWriting, exportedReading, exportReading};
 ghost use Rattle.job_numbers.specs.Numbers.{jobIn};
+ghost use Rattle.exports.specs.Exports.{anyTables, ExportedOpening, ExportedStep, ExportedLookup, RowExported, sixOf};
 ghost use Rattle.row_reading.specs.Inner.{kindOf};
 
 // Labels a block; answers the refusal, 0 for none, and stores how many faces, curves and points there are.
@@ -128,8 +128,14 @@ pub extern "C" fn tugrelis_open(
 ) -> u32
     ensures { λ r. ⌜ ExportedOpening (now (job .entry)) (now (job .exit))
         (toldBy nx ny nz (now (cx .entry)) (now (cy .entry)) (now (cz .entry)) «face_entries» «curve_entries» «point_entries»)
-        (tablesOf (now (ticks .entry)) (now (blocks .entry)) (now («face_links» .entry)) (now («curve_links» .entry)) (now («face_keys» .entry)) (now («curve_keys» .entry)) (now («point_keys» .entry)) (now («face_rows» .entry)) (now («curve_rows» .entry)) (now («point_rows» .entry)) (now («face_numbers» .entry)) (now («curve_numbers» .entry)) (now («point_numbers» .entry)) (now («face_firsts» .entry)) (now («curve_firsts» .entry)) (now («point_firsts» .entry)) (now («face_listed» .entry)) (now («curve_listed» .entry)) (now («point_listed» .entry)))
-        (tablesOf (now (ticks .exit)) (now (blocks .entry)) (now («face_links» .entry)) (now («curve_links» .entry)) (now («face_keys» .entry)) (now («curve_keys» .entry)) (now («point_keys» .entry)) (now («face_rows» .entry)) (now («curve_rows» .entry)) (now («point_rows» .entry)) (now («face_numbers» .entry)) (now («curve_numbers» .entry)) (now («point_numbers» .entry)) (now («face_firsts» .entry)) (now («curve_firsts» .entry)) (now («point_firsts» .entry)) (now («face_listed» .entry)) (now («curve_listed» .entry)) (now («point_listed» .entry))) r ⌝ }
+        (tablesOf (now (ticks .entry)) (now (blocks .entry)) (now («face_links» .entry)) (now («curve_links» .entry))
+        (now («face_keys» .entry)) (now («curve_keys» .entry)) (now («point_keys» .entry)) (now («face_rows» .entry)) (now («curve_rows» .entry)) (now («point_rows» .entry))
+        (now («face_numbers» .entry)) (now («curve_numbers» .entry)) (now («point_numbers» .entry)) (now («face_firsts» .entry)) (now («curve_firsts» .entry)) (now («point_firsts» .entry))
+        (now («face_listed» .entry)) (now («curve_listed» .entry)) (now («point_listed» .entry)))
+        (tablesOf (now (ticks .exit)) (now (blocks .entry)) (now («face_links» .entry)) (now («curve_links» .entry))
+        (now («face_keys» .entry)) (now («curve_keys» .entry)) (now («point_keys» .entry)) (now («face_rows» .entry)) (now («curve_rows» .entry)) (now («point_rows» .entry))
+        (now («face_numbers» .entry)) (now («curve_numbers» .entry)) (now («point_numbers» .entry)) (now («face_firsts» .entry)) (now («curve_firsts» .entry)) (now («point_firsts» .entry))
+        (now («face_listed» .entry)) (now («curve_listed» .entry)) (now («point_listed» .entry))) r ⌝ }
 {
     let r = open(
         nx,
@@ -183,10 +189,16 @@ pub extern "C" fn tugrelis_enrol(
     block: u32,
     map: &[u32],
 ) -> u32
-    ensures { λ r. ⌜ ExportedStep (now (job .entry)) (now (job .exit)) Stage.Closed (now (cx .entry)) (now (cy .entry)) (now (cz .entry))
-        (tablesOf (now (ticks .entry)) (now (blocks .entry)) (now («face_links» .entry)) (now («curve_links» .entry)) (now («face_keys» .entry)) (now («curve_keys» .entry)) [] (now («face_rows» .entry)) (now («curve_rows» .entry)) [] [] [] [] [] [] [] [] [] [])
-        (tablesOf (now (ticks .exit)) (now (blocks .exit)) (now («face_links» .exit)) (now («curve_links» .exit)) (now («face_keys» .exit)) (now («curve_keys» .exit)) [] (now («face_rows» .exit)) (now («curve_rows» .exit)) [] [] [] [] [] [] [] [] [] [])
-        (enrol block (now (map .entry))) r ⌝ }
+    ensures { λ r. ⌜ anyTables (λ t. ExportedStep (now (job .entry)) (now (job .exit)) Stage.Closed (now (cx .entry)) (now (cy .entry)) (now (cz .entry))
+        (tablesOf (now (ticks .entry)) (now (blocks .entry)) (now («face_links» .entry)) (now («curve_links» .entry))
+        (now («face_keys» .entry)) (now («curve_keys» .entry)) (t .keys Point) (now («face_rows» .entry)) (now («curve_rows» .entry)) (t .rows Point)
+        (t .numbers Face) (t .numbers Curve) (t .numbers Point) (t .firsts Face) (t .firsts Curve) (t .firsts Point)
+        (t .listed Face) (t .listed Curve) (t .listed Point))
+        (tablesOf (now (ticks .exit)) (now (blocks .exit)) (now («face_links» .exit)) (now («curve_links» .exit))
+        (now («face_keys» .exit)) (now («curve_keys» .exit)) (t .keys Point) (now («face_rows» .exit)) (now («curve_rows» .exit)) (t .rows Point)
+        (t .numbers Face) (t .numbers Curve) (t .numbers Point) (t .firsts Face) (t .firsts Curve) (t .firsts Point)
+        (t .listed Face) (t .listed Curve) (t .listed Point))
+        (enrol block (now (map .entry))) r) ⌝ }
 {
     let r = enrol(
         job_in(job, Stage::Closed),
@@ -224,10 +236,16 @@ pub extern "C" fn tugrelis_seam(
     lower_map: &[u32],
     upper_map: &[u32],
 ) -> u32
-    ensures { λ r. ⌜ ExportedStep (now (job .entry)) (now (job .exit)) Stage.Closed (now (cx .entry)) (now (cy .entry)) (now (cz .entry))
-        (tablesOf (now (ticks .entry)) (now (blocks .entry)) (now («face_links» .entry)) (now («curve_links» .entry)) [] [] [] [] [] [] [] [] [] [] [] [] [] [] [])
-        (tablesOf (now (ticks .exit)) (now (blocks .entry)) (now («face_links» .exit)) (now («curve_links» .exit)) [] [] [] [] [] [] [] [] [] [] [] [] [] [] [])
-        (join lower upper (now («lower_map» .entry)) (now («upper_map» .entry))) r ⌝ }
+    ensures { λ r. ⌜ anyTables (λ t. ExportedStep (now (job .entry)) (now (job .exit)) Stage.Closed (now (cx .entry)) (now (cy .entry)) (now (cz .entry))
+        (tablesOf (now (ticks .entry)) (now (blocks .entry)) (now («face_links» .entry)) (now («curve_links» .entry))
+        (t .keys Face) (t .keys Curve) (t .keys Point) (t .rows Face) (t .rows Curve) (t .rows Point)
+        (t .numbers Face) (t .numbers Curve) (t .numbers Point) (t .firsts Face) (t .firsts Curve) (t .firsts Point)
+        (t .listed Face) (t .listed Curve) (t .listed Point))
+        (tablesOf (now (ticks .exit)) (now (blocks .entry)) (now («face_links» .exit)) (now («curve_links» .exit))
+        (t .keys Face) (t .keys Curve) (t .keys Point) (t .rows Face) (t .rows Curve) (t .rows Point)
+        (t .numbers Face) (t .numbers Curve) (t .numbers Point) (t .firsts Face) (t .firsts Curve) (t .firsts Point)
+        (t .listed Face) (t .listed Curve) (t .listed Point))
+        (join lower upper (now («lower_map» .entry)) (now («upper_map» .entry))) r) ⌝ }
 {
     let r = seam(
         job_in(job, Stage::Closed),
@@ -271,10 +289,16 @@ pub extern "C" fn tugrelis_crossing(
     block: u32,
     map: &[u32],
 ) -> u32
-    ensures { λ r. ⌜ ExportedStep (now (job .entry)) (now (job .exit)) Stage.Closed (now (cx .entry)) (now (cy .entry)) (now (cz .entry))
-        (tablesOf (now (ticks .entry)) (now (blocks .entry)) (now («face_links» .entry)) (now («curve_links» .entry)) (now («face_keys» .entry)) (now («curve_keys» .entry)) [] (now («face_rows» .entry)) (now («curve_rows» .entry)) [] (now («face_numbers» .entry)) (now («curve_numbers» .entry)) [] (now («face_firsts» .entry)) (now («curve_firsts» .entry)) [] (now («face_listed» .entry)) (now («curve_listed» .entry)) [])
-        (tablesOf (now (ticks .exit)) (now (blocks .entry)) (now («face_links» .exit)) (now («curve_links» .exit)) (now («face_keys» .entry)) (now («curve_keys» .entry)) [] (now («face_rows» .entry)) (now («curve_rows» .entry)) [] (now («face_numbers» .exit)) (now («curve_numbers» .exit)) [] (now («face_firsts» .exit)) (now («curve_firsts» .exit)) [] (now («face_listed» .exit)) (now («curve_listed» .exit)) [])
-        (cross block (now (map .entry))) r ⌝ }
+    ensures { λ r. ⌜ anyTables (λ t. ExportedStep (now (job .entry)) (now (job .exit)) Stage.Closed (now (cx .entry)) (now (cy .entry)) (now (cz .entry))
+        (tablesOf (now (ticks .entry)) (now (blocks .entry)) (now («face_links» .entry)) (now («curve_links» .entry))
+        (now («face_keys» .entry)) (now («curve_keys» .entry)) (t .keys Point) (now («face_rows» .entry)) (now («curve_rows» .entry)) (t .rows Point)
+        (now («face_numbers» .entry)) (now («curve_numbers» .entry)) (t .numbers Point) (now («face_firsts» .entry)) (now («curve_firsts» .entry)) (t .firsts Point)
+        (now («face_listed» .entry)) (now («curve_listed» .entry)) (t .listed Point))
+        (tablesOf (now (ticks .exit)) (now (blocks .entry)) (now («face_links» .exit)) (now («curve_links» .exit))
+        (now («face_keys» .entry)) (now («curve_keys» .entry)) (t .keys Point) (now («face_rows» .entry)) (now («curve_rows» .entry)) (t .rows Point)
+        (now («face_numbers» .exit)) (now («curve_numbers» .exit)) (t .numbers Point) (now («face_firsts» .exit)) (now («curve_firsts» .exit)) (t .firsts Point)
+        (now («face_listed» .exit)) (now («curve_listed» .exit)) (t .listed Point))
+        (cross block (now (map .entry))) r) ⌝ }
 {
     let r = crossing(
         job_in(job, Stage::Closed),
@@ -320,10 +344,16 @@ pub extern "C" fn tugrelis_point(
     block: u32,
     map: &[u32],
 ) -> u32
-    ensures { λ r. ⌜ ExportedStep (now (job .entry)) (now (job .exit)) Stage.Closed (now (cx .entry)) (now (cy .entry)) (now (cz .entry))
-        (tablesOf (now (ticks .entry)) (now (blocks .entry)) [] [] [] [] (now («point_keys» .entry)) [] [] (now («point_rows» .entry)) [] (now («curve_numbers» .entry)) (now («point_numbers» .entry)) [] [] (now («point_firsts» .entry)) [] [] (now («point_listed» .entry)))
-        (tablesOf (now (ticks .exit)) (now (blocks .entry)) [] [] [] [] (now («point_keys» .exit)) [] [] (now («point_rows» .exit)) [] (now («curve_numbers» .entry)) (now («point_numbers» .exit)) [] [] (now («point_firsts» .exit)) [] [] (now («point_listed» .exit)))
-        (point block (now (map .entry))) r ⌝ }
+    ensures { λ r. ⌜ anyTables (λ t. ExportedStep (now (job .entry)) (now (job .exit)) Stage.Closed (now (cx .entry)) (now (cy .entry)) (now (cz .entry))
+        (tablesOf (now (ticks .entry)) (now (blocks .entry)) (t .links Face) (t .links Curve)
+        (t .keys Face) (t .keys Curve) (now («point_keys» .entry)) (t .rows Face) (t .rows Curve) (now («point_rows» .entry))
+        (t .numbers Face) (now («curve_numbers» .entry)) (now («point_numbers» .entry)) (t .firsts Face) (t .firsts Curve) (now («point_firsts» .entry))
+        (t .listed Face) (t .listed Curve) (now («point_listed» .entry)))
+        (tablesOf (now (ticks .exit)) (now (blocks .entry)) (t .links Face) (t .links Curve)
+        (t .keys Face) (t .keys Curve) (now («point_keys» .exit)) (t .rows Face) (t .rows Curve) (now («point_rows» .exit))
+        (t .numbers Face) (now («curve_numbers» .entry)) (now («point_numbers» .exit)) (t .firsts Face) (t .firsts Curve) (now («point_firsts» .exit))
+        (t .listed Face) (t .listed Curve) (now («point_listed» .exit)))
+        (point block (now (map .entry))) r) ⌝ }
 {
     let r = point(
         job_in(job, Stage::Closed),
@@ -364,9 +394,12 @@ pub extern "C" fn tugrelis_lookup(
     z: u32,
     number: &mut u32,
 ) -> u32
-    ensures { λ r. ⌜ ExportedLookup (now (job .entry)) Stage.Enrol (now (cx .entry)) (now (cy .entry)) (now (cz .entry))
-        (tablesOf (now (ticks .entry)) (now (blocks .entry)) [] [] [] [] [] [] [] [] (now («face_numbers» .entry)) (now («curve_numbers» .entry)) [] [] [] (now («point_firsts» .entry)) [] [] [])
-        (look block (now (map .entry)) (triple x y z)) r (now (number .entry)) (now (number .exit)) ⌝ }
+    ensures { λ r. ⌜ anyTables (λ t. ExportedLookup (now (job .entry)) Stage.Enrol (now (cx .entry)) (now (cy .entry)) (now (cz .entry))
+        (tablesOf (now (ticks .entry)) (now (blocks .entry)) (t .links Face) (t .links Curve)
+        (t .keys Face) (t .keys Curve) (t .keys Point) (t .rows Face) (t .rows Curve) (t .rows Point)
+        (now («face_numbers» .entry)) (now («curve_numbers» .entry)) (t .numbers Point) (t .firsts Face) (t .firsts Curve) (now («point_firsts» .entry))
+        (t .listed Face) (t .listed Curve) (t .listed Point))
+        (look block (now (map .entry)) (triple x y z)) r (now (number .entry)) (now (number .exit))) ⌝ }
 {
     let r = lookup(
         job_in(job, Stage::Enrol),
@@ -414,7 +447,8 @@ fn read_row<'a>(
     point_listed: &'a [u32],
     places: &mut [u32; 6],
 ) -> u32
-    ensures { λ r. ⌜ ExportedRow job (kindOf kind) number (tablesOf [] [] [] [] [] [] [] [] [] [] [] [] [] [] [] [] (now («face_listed» .entry)) (now («curve_listed» .entry)) (now («point_listed» .entry))) r (now (places .entry)) (now (places .exit)) ⌝ }
+    ensures { λ r. ⌜ RowExported job (kindOf kind) number
+        (now («face_listed» .entry)) (now («curve_listed» .entry)) (now («point_listed» .entry)) r (now (places .entry)) (now (places .exit)) ⌝ }
 {
     let mut refusal: u32 = 0;
     let part = row(
@@ -442,8 +476,8 @@ pub extern "C" fn tugrelis_face_row<'a>(
     point_listed: &'a [u32],
     row: &mut [u32; 6],
 ) -> u32
-    ensures { λ r. ⌜ ExportedRow (jobIn (now (job .entry)) Stage.Enrol) joiner.Face number
-        (tablesOf [] [] [] [] [] [] [] [] [] [] [] [] [] [] [] [] (now («face_listed» .entry)) (now («curve_listed» .entry)) (now («point_listed» .entry))) r (now (row .entry)) (now (row .exit)) ⌝ }
+    ensures { λ r. ⌜ RowExported (jobIn (now (job .entry)) Stage.Enrol) Face number
+        (now («face_listed» .entry)) (now («curve_listed» .entry)) (now («point_listed» .entry)) r (now (row .entry)) (now (row .exit)) ⌝ }
 {
     read_row(
         job_in(job, Stage::Enrol),
@@ -466,8 +500,8 @@ pub extern "C" fn tugrelis_curve_row<'a>(
     point_listed: &'a [u32],
     row: &mut [u32; 6],
 ) -> u32
-    ensures { λ r. ⌜ ExportedRow (jobIn (now (job .entry)) Stage.Enrol) joiner.Curve number
-        (tablesOf [] [] [] [] [] [] [] [] [] [] [] [] [] [] [] [] (now («face_listed» .entry)) (now («curve_listed» .entry)) (now («point_listed» .entry))) r (now (row .entry)) (now (row .exit)) ⌝ }
+    ensures { λ r. ⌜ RowExported (jobIn (now (job .entry)) Stage.Enrol) Curve number
+        (now («face_listed» .entry)) (now («curve_listed» .entry)) (now («point_listed» .entry)) r (now (row .entry)) (now (row .exit)) ⌝ }
 {
     read_row(
         job_in(job, Stage::Enrol),
@@ -490,8 +524,8 @@ pub extern "C" fn tugrelis_point_row<'a>(
     point_listed: &'a [u32],
     row: &mut [u32; 6],
 ) -> u32
-    ensures { λ r. ⌜ ExportedRow (jobIn (now (job .entry)) Stage.Enrol) joiner.Point number
-        (tablesOf [] [] [] [] [] [] [] [] [] [] [] [] [] [] [] [] (now («face_listed» .entry)) (now («curve_listed» .entry)) (now («point_listed» .entry))) r (now (row .entry)) (now (row .exit)) ⌝ }
+    ensures { λ r. ⌜ RowExported (jobIn (now (job .entry)) Stage.Enrol) Point number
+        (now («face_listed» .entry)) (now («curve_listed» .entry)) (now («point_listed» .entry)) r (now (row .entry)) (now (row .exit)) ⌝ }
 {
     read_row(
         job_in(job, Stage::Enrol),

@@ -1,6 +1,6 @@
 -- `service::six` meets its contract.
 use borrow.Author.Needs.{needs}
-use Rattle.service.specs.Exports.{sixOf}
+use Rattle.exports.specs.Exports.{sixOf}
 use Rattle.service.proofs.six.Statement.{statement}
 use Rattle.service.proofs.six.Tie as tie
 

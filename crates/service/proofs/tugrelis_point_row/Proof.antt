@@ -11,7 +11,7 @@ read-row-requires : tie.Need-read-row-requires
 read-row-requires c κs = search needs
 
 returns : tie.Need-returns
-returns c = row-exported _ _ _ _ _ _ _ _ _ (c .before .before .job-in .ensures) (c .read-row .ensures)
+returns c = row-exported _ _ _ _ _ _ _ _ _ _ _ (c .before .before .job-in .ensures) (c .read-row .ensures)
 
 pub tugrelis-point-row-spec : {M : Type 1} → statement M
 tugrelis-point-row-spec = tie.close (tie.spec job-in-requires read-row-requires returns)

@@ -1,5 +1,7 @@
 -- `service::tugrelis_seam` meets its contract.
 use borrow.Author.Needs.{needs}
+use Rattle.tie.specs.Contracts.{joined}
+use Rattle.tie.proofs.Service.{called-step}
 use Rattle.service.proofs.ExportLaws.{step-exported}
 use Rattle.service.proofs.tugrelis_seam.Statement.{statement}
 use Rattle.service.proofs.tugrelis_seam.Tie as tie
@@ -23,7 +25,14 @@ same-length-3 : tie.Need-same-length-3
 same-length-3 c = search needs
 
 returns : tie.Need-returns
-returns c = step-exported _ _ _ _ _ _ _ _ _ _ _ _ ((c .before .before .before .before .before .before .before .before .before .before .before .before .job-in) .ensures) ((c .before .before .before .before .before .before .before .before .seam) .ensures) ((c .keep) .ensures)
+returns c t =
+    step-exported _ _ _ _ _ _ _ _ _ _ _ _ (c .before .before .before .before .before .before .before .before .before .before .before .before .job-in .ensures)
+    (called-step
+    (joined
+    {j = c .before .before .before .before .before .before .before .before .before .before .before .before .job-in .result}
+    {j′ = c .before .before .before .before .before .before .before .before .seam .result .job}
+    (c .before .before .before .before .before .before .before .before .seam .ensures)))
+    (c .keep .ensures)
 
 pub tugrelis-seam-spec : {M : Type 1} → statement M
 tugrelis-seam-spec =

@@ -1,0 +1,3 @@
+-- Statement 3 for the exports.
+pub mod Rows
+pub mod Exported

@@ -1,0 +1,55 @@
+-- What the exports of the joiner leave: the job is kept as thirteen numbers, lent with each call, and answers go to lent places.
+-- Assumes nothing.
+use mathlib.Core.Bool.{cond}
+use mathlib.Core.List.{List, [], _∷_}
+use mathlib.Core.Path.{_≡_}
+use Prim.Native.Nat.{ℕ}
+use lib.Dec.{eqb}
+use lib.ListN.{getD}
+use Rattle.joiner.specs.Job.{Kind, Face, Curve, Point, Told, Tables}
+use Rattle.joiner.specs.Calls.{Call, reading, answer}
+use Rattle.joiner.specs.Entries.{Opening, Step}
+use Rattle.job.specs.declared.Job.{Job}
+use Rattle.job.specs.declared.Stage.{Stage}
+use Rattle.job.specs.Jobs.{stateOf, tablesOf, anyCuts}
+use Rattle.job_numbers.specs.Numbers.{jobIn, kept}
+
+-- What holds whatever the tables are. An export's contract takes out of them those that the call is not lent.
+abbrev pub anyTables : (Tables → Type 0) → Type 0
+anyTables P = (t : Tables) → P t
+
+-- Of an opening: the joiner's `Opening`; its job is stored if it is accepted, and the numbers stay if it is refused.
+pub record ExportedOpening (ns ns′ : List ℕ) (o : Told) (t t′ : Tables) (r : ℕ) : Type 0 where
+  pub job : Job
+  pub opening : Opening o t r (stateOf job (o .cutting .cx) (o .cutting .cy) (o .cutting .cz) t′)
+  pub stored : ns′ ≡ kept r ns job
+
+-- Of a step: the joiner's `Step`, on all nineteen tables, from the job that the numbers tell. A number that is no stage is read as `other`,
+-- which is not the call's. The job is stored if the step is accepted, and the numbers stay if it is refused.
+pub record ExportedStep (ns ns′ : List ℕ) (other : Stage) (cx cy cz : List ℕ) (t t′ : Tables) (c : Call) (r : ℕ) : Type 0 where
+  pub job : Job
+  pub step : Step (stateOf (jobIn ns other) cx cy cz t) c (answer r 0 []) (stateOf job cx cy cz t′)
+  pub numbers : ns′ ≡ kept r ns job
+
+-- Of a lookup: the joiner's `Step`; the number is stored if it is accepted, and stays if it is refused.
+pub record ExportedLookup (ns : List ℕ) (other : Stage) (cx cy cz : List ℕ) (t : Tables) (c : Call) (r v v′ : ℕ) : Type 0 where
+  pub found : ℕ
+  pub step : Step (stateOf (jobIn ns other) cx cy cz t) c (answer r found []) (stateOf (jobIn ns other) cx cy cz t)
+  pub number : v′ ≡ cond (eqb r 0) found v
+
+-- A part filled with zeros to six places.
+unfoldable pub sixOf : List ℕ → List ℕ
+sixOf part = getD part 0 0 ∷ getD part 1 0 ∷ getD part 2 0 ∷ getD part 3 0 ∷ getD part 4 0 ∷ getD part 5 0 ∷ []
+
+-- Of a row reading: the joiner's `Step`; the row is stored if it is accepted, and the places stay if it is refused.
+pub record ExportedRow (j : Job) (cx cy cz : List ℕ) (t : Tables) (κ : Kind) (n r : ℕ) (row row′ : List ℕ) : Type 0 where
+  pub part : List ℕ
+  pub step : Step (stateOf j cx cy cz t) (reading κ n) (answer r 0 part) (stateOf j cx cy cz t)
+  pub places : row′ ≡ cond (eqb r 0) (sixOf part) row
+
+-- It is lent the three closed tables of rows, and neither cut lists nor another table: the same whatever these are.
+abbrev pub RowExported : Job → Kind → ℕ → List ℕ → List ℕ → List ℕ → ℕ → List ℕ → List ℕ → Type 0
+RowExported j κ n faces curves points r row row′ =
+    anyCuts (λ cx cy cz. anyTables (λ t. ExportedRow j cx cy cz
+    (tablesOf (t .ticks) (t .blocks) (t .links Face) (t .links Curve) (t .keys Face) (t .keys Curve) (t .keys Point) (t .rows Face) (t .rows Curve) (t .rows Point)
+    (t .numbers Face) (t .numbers Curve) (t .numbers Point) (t .firsts Face) (t .firsts Curve) (t .firsts Point) faces curves points) κ n r row row′))
