@@ -313,7 +313,7 @@ impl Book {
 }
 
 /// The blocks that a call names, each with the map brought for it.
-fn brought<'a>(call: &Call<'a>) -> Vec<(usize, &'a [u32])> {
+pub(crate) fn brought<'a>(call: &Call<'a>) -> Vec<(usize, &'a [u32])> {
     match *call {
         Call::Enrol { block, map } | Call::Crossing { block, map } | Call::Point { block, map } | Call::Lookup { block, map, .. } => vec![(block, map)],
         Call::Seam { blocks, maps } => vec![(blocks.0, maps.0), (blocks.1, maps.1)],

@@ -8,6 +8,7 @@ pub mod label;
 pub mod listing;
 pub mod random;
 pub mod samples;
+pub mod table;
 #[cfg(test)]
 mod volumes;
 

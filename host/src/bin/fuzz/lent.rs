@@ -1,0 +1,219 @@
+//! A call of the joiner: what is asked, and what is lent for it, every table between guards.
+use reference::book::{Answer, Call, Kind};
+use reference::table::{State, Tables as View};
+use tugrelis::{raw, Tables};
+
+/// Places before and behind a lent table, and what they hold.
+pub const GUARD: usize = 3;
+const MARK: u8 = 77;
+
+#[derive(Clone, Copy, PartialEq, Eq, PartialOrd, Ord, Debug)]
+pub enum What {
+    Open,
+    Enrol,
+    Seam,
+    Crossing,
+    Point,
+    Lookup,
+    FaceRow,
+    CurveRow,
+    PointRow,
+}
+
+pub const WHATS: [What; 9] = [What::Open, What::Enrol, What::Seam, What::Crossing, What::Point, What::Lookup, What::FaceRow, What::CurveRow, What::PointRow];
+
+impl What {
+    pub fn name(self) -> &'static str {
+        ["open", "enrol", "seam", "crossing", "point", "lookup", "face row", "curve row", "point row"][self as usize]
+    }
+
+    /// The tables that the call is lent, by their places in `words` and `longs`.
+    pub fn lent(self) -> (&'static [usize], &'static [usize]) {
+        match self {
+            What::Open => (&[0, 1, 2, 3, 4, 5, 6, 7, 8, 9, 10, 11, 12], &[0, 1, 2, 3, 4, 5]),
+            What::Enrol => (&[0, 1, 2, 3, 4, 5], &[0, 1]),
+            What::Seam => (&[0, 1, 2, 3], &[]),
+            What::Crossing => (&[0, 1, 2, 3, 4, 5, 7, 8, 10, 11], &[0, 1, 3, 4]),
+            What::Point => (&[0, 1, 8, 6, 9, 12], &[2, 5]),
+            What::Lookup => (&[0, 1, 7, 8], &[5]),
+            What::FaceRow | What::CurveRow | What::PointRow => (&[10, 11, 12], &[]),
+        }
+    }
+}
+
+/// A call with all that it brings. An opening is told extents and entries of the job.
+#[derive(Clone, Debug)]
+pub struct Asked {
+    pub what: What,
+    pub job: [u32; 13],
+    pub lists: [Vec<u32>; 3],
+    pub tables: Tables,
+    /// The block, and a seam's upper block.
+    pub blocks: [u32; 2],
+    pub maps: [Vec<u32>; 2],
+    /// The cell of a lookup; its x is the number that a row reading asks for.
+    pub cell: [u32; 3],
+}
+
+impl Asked {
+    /// The call as the second implementation has it; none for an opening.
+    fn call(&self) -> Option<Call<'_>> {
+        let ([block, other], [map, upper]) = (self.blocks.map(|b| b as usize), &self.maps);
+        let row = |kind: Kind| Call::Row { kind, number: self.cell[0] };
+        match self.what {
+            What::Open => None,
+            What::Enrol => Some(Call::Enrol { block, map }),
+            What::Seam => Some(Call::Seam { blocks: (block, other), maps: (map, upper) }),
+            What::Crossing => Some(Call::Crossing { block, map }),
+            What::Point => Some(Call::Point { block, map }),
+            What::Lookup => Some(Call::Lookup { block, map, cell: self.cell.map(|c| c as usize) }),
+            What::FaceRow => Some(row(Kind::Face)),
+            What::CurveRow => Some(row(Kind::Curve)),
+            What::PointRow => Some(row(Kind::Point)),
+        }
+    }
+
+    fn state(&self) -> State<'_> {
+        State::new(&self.job, [0, 1, 2].map(|a: usize| &self.lists[a][..]), view(&self.tables))
+    }
+
+    /// The job and the ticks that an accepted opening or step leaves, but for how much is numbered.
+    pub fn left(&self) -> ([u32; 10], Vec<u32>) {
+        let (mut job, mut ticks) = ([0; 10], vec![0; self.tables.ticks.len()]);
+        job[1..7].copy_from_slice(&self.job[1..7]);
+        if let Some(on) = self.call().and_then(|call| self.state().handed_on(&call)) {
+            ticks.copy_from_slice(&self.tables.ticks);
+            ticks[on.tick] = 1;
+            job[0] = on.stage;
+            (0..3).for_each(|k| job[7 + k] = on.so_far[k] as u32);
+        }
+        (job, ticks)
+    }
+
+    /// What the second implementation answers, and for a refusal 8 what it found.
+    pub fn expected(&self) -> (Answer, String) {
+        let state = self.state();
+        let Some(call) = self.call() else {
+            return match state.opening() {
+                0 => (Answer::Done, String::new()),
+                n => (Answer::Refused(n), String::new()),
+            };
+        };
+        let answer = state.answer(&call);
+        let why = if answer == Answer::Refused(8) { format!(" {:?}", state.stray(&call).expect("what is stray")) } else { String::new() };
+        (answer, why)
+    }
+
+    /// How many numbers the call is lent.
+    pub fn numbers(&self) -> usize {
+        let (w, l) = self.what.lent();
+        let brought = self.lists.iter().chain(&self.maps).map(Vec::len).sum::<usize>();
+        brought + w.iter().map(|&i| words(&self.tables)[i].len()).sum::<usize>() + l.iter().map(|&i| longs(&self.tables)[i].len()).sum::<usize>()
+    }
+}
+
+/// The places that a call may write to, the tables between guards.
+#[derive(Clone, PartialEq)]
+pub struct Lent {
+    pub job: [u32; 13],
+    pub words: Vec<Vec<u32>>,
+    pub longs: Vec<Vec<u64>>,
+    pub number: u32,
+    pub row: [u32; 6],
+}
+
+impl Lent {
+    pub fn new(asked: &Asked) -> Lent {
+        let (words, longs) = (words(&asked.tables).map(|t| guarded(t)), longs(&asked.tables).map(|t| guarded(t)));
+        Lent { job: asked.job, words: words.into(), longs: longs.into(), number: 7, row: [7; 6] }
+    }
+
+    /// Every guard holds what it held.
+    pub fn guards_hold(&self) -> bool {
+        self.words.iter().all(|t| holds(t)) && self.longs.iter().all(|t| holds(t))
+    }
+
+    /// Makes the call; gives the number of the refusal.
+    pub fn call(&mut self, asked: &Asked) -> u32 {
+        let ([cx, cy, cz], [b, c], [m, n], [x, y, z]) = (&asked.lists, asked.blocks, &asked.maps, asked.cell);
+        let [ticks, blocks, fl, cl, fr, cr, pr, fnum, cnum, pnum, flist, clist, plist] = &mut self.words[..] else { unreachable!() };
+        let [ticks, blocks, fl, cl, fr, cr, pr, fnum, cnum, pnum, flist, clist, plist] = [ticks, blocks, fl, cl, fr, cr, pr, fnum, cnum, pnum, flist, clist, plist].map(part);
+        let [fk, ck, pk, ff, cf, pf] = &mut self.longs[..] else { unreachable!() };
+        let [fk, ck, pk, ff, cf, pf] = [fk, ck, pk, ff, cf, pf].map(part);
+        let (job, told) = (&mut self.job, &asked.job);
+        match asked.what {
+            What::Open => raw::open(
+                job, told[1], told[2], told[3], told[4], told[5], told[6], cx, cy, cz, ticks, blocks, fl, cl, fk, ck, pk, fr, cr, pr, fnum, cnum, pnum, ff, cf, pf, flist, clist, plist,
+            ),
+            What::Enrol => raw::enrol(job, cx, cy, cz, ticks, blocks, fl, cl, fk, ck, fr, cr, b, m),
+            What::Seam => raw::seam(job, cx, cy, cz, ticks, blocks, fl, cl, b, c, m, n),
+            What::Crossing => raw::crossing(job, cx, cy, cz, ticks, blocks, fl, cl, fk, ck, fr, cr, fnum, cnum, ff, cf, flist, clist, b, m),
+            What::Point => raw::point(job, cx, cy, cz, ticks, blocks, cnum, pk, pr, pnum, pf, plist, b, m),
+            What::Lookup => raw::lookup(job, cx, cy, cz, ticks, blocks, fnum, cnum, pf, b, m, x, y, z, &mut self.number),
+            What::FaceRow => raw::face_row(job, x, flist, clist, plist, &mut self.row),
+            What::CurveRow => raw::curve_row(job, x, flist, clist, plist, &mut self.row),
+            What::PointRow => raw::point_row(job, x, flist, clist, plist, &mut self.row),
+        }
+    }
+
+    /// The answer of a call, with the number or row that it left.
+    pub fn answer(&self, what: What, refusal: u32) -> Answer {
+        let row = |places: usize| if self.row[places..].iter().all(|&n| n == 0) { Answer::Row(self.row[..places].to_vec()) } else { Answer::Row(self.row.to_vec()) };
+        match (refusal, what) {
+            (0, What::Lookup) => Answer::Number(self.number),
+            (0, What::FaceRow) => row(2),
+            (0, What::CurveRow) => row(4),
+            (0, What::PointRow) => row(6),
+            (0, _) => Answer::Done,
+            (n, _) => Answer::Refused(n),
+        }
+    }
+}
+
+pub fn guarded<T: Copy + From<u8>>(table: &[T]) -> Vec<T> {
+    let guard = [T::from(MARK); GUARD];
+    [&guard, table, &guard].concat()
+}
+
+/// The table between the guards.
+pub fn part<T>(table: &mut Vec<T>) -> &mut [T] {
+    let n = table.len();
+    &mut table[GUARD..n - GUARD]
+}
+
+pub fn holds<T: PartialEq + From<u8>>(table: &[T]) -> bool {
+    table[..GUARD].iter().chain(&table[table.len() - GUARD..]).all(|g| *g == T::from(MARK))
+}
+
+pub fn words(t: &Tables) -> [&[u32]; 13] {
+    [&t.ticks, &t.blocks, &t.face_links, &t.curve_links, &t.face_rows, &t.curve_rows, &t.point_rows, &t.face_numbers, &t.curve_numbers, &t.point_numbers, &t.face_listed, &t.curve_listed, &t.point_listed]
+}
+
+pub fn words_mut(t: &mut Tables) -> [&mut Vec<u32>; 13] {
+    [
+        &mut t.ticks, &mut t.blocks, &mut t.face_links, &mut t.curve_links, &mut t.face_rows, &mut t.curve_rows, &mut t.point_rows, &mut t.face_numbers, &mut t.curve_numbers, &mut t.point_numbers,
+        &mut t.face_listed, &mut t.curve_listed, &mut t.point_listed,
+    ]
+}
+
+pub fn longs(t: &Tables) -> [&[u64]; 6] {
+    [&t.face_keys, &t.curve_keys, &t.point_keys, &t.face_firsts, &t.curve_firsts, &t.point_firsts]
+}
+
+pub fn longs_mut(t: &mut Tables) -> [&mut Vec<u64>; 6] {
+    [&mut t.face_keys, &mut t.curve_keys, &mut t.point_keys, &mut t.face_firsts, &mut t.curve_firsts, &mut t.point_firsts]
+}
+
+/// The tables as the second implementation has them.
+fn view(t: &Tables) -> View<'_> {
+    View {
+        ticks: &t.ticks,
+        blocks: &t.blocks,
+        links: [&t.face_links, &t.curve_links],
+        keys: [&t.face_keys, &t.curve_keys, &t.point_keys],
+        rows: [&t.face_rows, &t.curve_rows, &t.point_rows],
+        numbers: [&t.face_numbers, &t.curve_numbers, &t.point_numbers],
+        firsts: [&t.face_firsts, &t.curve_firsts, &t.point_firsts],
+        listed: [&t.face_listed, &t.curve_listed, &t.point_listed],
+    }
+}

@@ -1,0 +1,117 @@
+//! Calls with long tables, made to take as long as they can: links that make one long way, blocks that have all components of their tables, maps whose
+//! every cell names another component, and tallies and entries of any size.
+use crate::lent::{longs_mut, words_mut, Asked, What, WHATS};
+use reference::random::Random;
+use tugrelis::{Cutting, Entries, Tables};
+
+/// The entries of each table.
+const LONG: u32 = 100_000;
+
+/// The links of a table by place: their name, and each link.
+type Links = (&'static str, fn(u32, &mut Random) -> u32);
+
+const LINKS: [Links; 7] = [
+    ("one way", |x, _| x.min(1)),
+    ("one way to none", |_, _| 1),
+    ("two ways", |x, _| x.min(2)),
+    ("all to the first", |x, _| x),
+    ("a tooth at each place of a way", |x, _| if x < LONG / 2 { x.min(1) } else { LONG / 2 }),
+    ("short links", |x, random| x.min(random.below(4) as u32)),
+    ("halves", |x, _| x.div_ceil(2)),
+];
+
+/// Two blocks of 64×64×2 voxels, the job in a stage. Each block has all places of both tables, and the maps name them in any order.
+fn job(random: &mut Random, what: What) -> Asked {
+    let cutting = Cutting { extents: [127, 64, 2], lists: [vec![0, 63, 126], vec![0, 63], vec![0, 1]] };
+    let stage = [0, 0, 1, 2, 3, 4, 4, 4, 4][what as usize];
+    let told = [stage, 127, 64, 2, LONG, LONG, LONG];
+    let of = |reached: bool| if reached { LONG } else { 0 };
+    let tallies = [of(stage > 0), of(stage > 0), of(stage > 3), of(stage > 2), of(stage > 2), of(stage > 3)];
+    let numbers: Vec<u32> = told.into_iter().chain(tallies).collect();
+    let mut t = Tables::new(2, Entries { faces: LONG, curves: LONG, points: LONG });
+    t.blocks = [LONG, LONG, LONG, 0, 0].repeat(2);
+    t.curve_rows.iter_mut().for_each(|face| *face = random.below(LONG as usize + 1) as u32);
+    t.face_numbers.iter_mut().chain(&mut t.curve_numbers).for_each(|n| *n = 1 + random.below(LONG as usize) as u32);
+    longs_mut(&mut t).into_iter().for_each(|table| table.iter_mut().for_each(|key| *key = random.word()));
+    // tables that the call is not lent are left out
+    let (words, longs) = what.lent();
+    words_mut(&mut t).into_iter().enumerate().filter(|(i, _)| !words.contains(i)).for_each(|(_, table)| *table = vec![]);
+    longs_mut(&mut t).into_iter().enumerate().filter(|(i, _)| !longs.contains(i)).for_each(|(_, table)| *table = vec![]);
+    let grid = reference::grid::Grid::new([64, 64, 2]);
+    let mut map = || (0..grid.cells()).map(|p| if grid.order(p) == 3 { 1 } else { 1 + random.below(LONG as usize) as u32 }).collect();
+    Asked { what, job: numbers.try_into().expect("thirteen"), lists: cutting.lists, tables: t, blocks: [0, 1], maps: [map(), map()], cell: [1, 1, 1] }
+}
+
+/// Takes each of them, with a name.
+pub fn each(random: &mut Random, take: &mut dyn FnMut(&str, &Asked)) {
+    for what in WHATS {
+        let plain = job(random, what);
+        take("long", &plain);
+        forged(&plain, take);
+        if matches!(what, What::Seam | What::Crossing) {
+            linked(random, &plain, take);
+        }
+    }
+    for (what, tick) in [(What::Crossing, 10), (What::Point, 11)] {
+        let mut last = job(random, what);
+        last.tables.ticks[tick] = 1;
+        take("long, last", &last);
+        forged(&last, take);
+    }
+    let mut s = job(random, What::Lookup);
+    for cell in [[1, 0, 0], [1, 1, 0], [0, 0, 0]] {
+        s.cell = cell;
+        take("long, another cell", &s);
+    }
+    many_blocks(take);
+}
+
+/// Entries and tallies of any size.
+fn forged(plain: &Asked, take: &mut dyn FnMut(&str, &Asked)) {
+    for at in 4..13 {
+        for value in [u32::MAX, LONG + 1] {
+            let mut s = plain.clone();
+            s.job[at] = value;
+            take(&format!("long, number {at} is {value},"), &s);
+        }
+    }
+}
+
+/// The same links in both tables, before an earlier step and before the last one; then with a link to none far from all ways.
+fn linked(random: &mut Random, plain: &Asked, take: &mut dyn FnMut(&str, &Asked)) {
+    for (name, link) in LINKS {
+        for last in [0, 1] {
+            let mut s = plain.clone();
+            s.tables.ticks[10] = last;
+            for table in [&mut s.tables.face_links, &mut s.tables.curve_links] {
+                table.iter_mut().enumerate().for_each(|(x, l)| *l = link(x as u32, random));
+            }
+            take(&format!("{name}, last {last},"), &s);
+            // the blocks have the last half only
+            let half = LONG / 2;
+            s.tables.blocks = [half, half, LONG, half, half].repeat(2);
+            s.maps.iter_mut().flatten().for_each(|n| *n = (*n).min(half));
+            take(&format!("{name}, last {last}, half,"), &s);
+            s.tables.curve_links[3] = u32::MAX;
+            take(&format!("{name}, last {last}, half, one to none,"), &s);
+        }
+    }
+}
+
+/// As many blocks as there may be, all ticked but one.
+fn many_blocks(take: &mut dyn FnMut(&str, &Asked)) {
+    let list: Vec<u32> = (0..=128).collect();
+    for (stage, what) in [What::Enrol, What::Seam, What::Crossing, What::Point].into_iter().enumerate() {
+        for missing in [0, 16_382] {
+            let mut tables = Tables::new(16_384, Entries::default());
+            tables.ticks.fill(1);
+            let step = [0, 1, 4, 5][stage];
+            tables.ticks[6 * missing + step] = 0;
+            let b = missing as u32;
+            let map = vec![1, 0, 1, 0, 0, 0, 1, 0, 1];
+            let job = [stage as u32, 129, 129, 1, 0, 0, 0, 0, 0, 0, 0, 0, 0];
+            let asked = Asked { what, job, lists: [list.clone(), list.clone(), vec![0]], tables, blocks: [b, b + 1], maps: [map.clone(), map], cell: [0; 3] };
+            take(&format!("16,384 blocks, block {b},"), &asked);
+        }
+    }
+}
