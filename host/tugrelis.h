@@ -1,7 +1,7 @@
 /* Tugrelis: a labeller for segmented volumes, and a joiner of labelled blocks. The library is proved: each function answers for every input,
    with 0 or with one of the eleven refusals below, and after a refusal every lent place holds what it held. Link libservice.a.
 
-   A slice goes in as a pointer and a length in elements. Lent places must not overlap one another. */
+   A slice goes in as a pointer and a length in elements; an empty one may be NULL. Lent places must not overlap one another. example.c shows a job. */
 #ifndef TUGRELIS_H
 #define TUGRELIS_H
 
