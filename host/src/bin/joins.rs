@@ -1,5 +1,5 @@
 //! Works through jobs of small cut volumes and prints what each call answers: the volumes to try under several cuttings and orders, a job with
-//! tables just large enough and one with too small ones, a disagreeing overlap, and a forged job. The gate compares the output with joins.txt.
+//! tables just large enough and one with too small ones, a disagreeing overlap, and jobs and tables of anyone's making. The gate compares the output with joins.txt.
 use tugrelis::joining::{entries_for, label_blocks, run};
 use tugrelis::volumes::{volumes, Volume};
 use tugrelis::{Block, Counts, Cutting, Entries, Job, Kind, Refusal};
@@ -99,8 +99,30 @@ fn differing() {
     println!("  no seam: {}; wrong stage: {}", number(job.seam((1, 0), &lower, &upper)), number(job.crossing(0, &lower)));
 }
 
-/// Jobs and tables of anyone's making are read as they are, or refused.
-fn forged() {
+/// An opened job over a volume in blocks, with some entries to spare in each table.
+fn opened(cutting: &Cutting, codes: &[u32], spare: u32) -> (Job, Vec<Vec<u32>>) {
+    let blocks = label_blocks(cutting, codes).expect("small extents");
+    let entries = entries_for(&blocks);
+    let entries = Entries { faces: entries.faces + spare, curves: entries.curves + spare, points: entries.points + spare };
+    let job = Job::open(cutting.clone(), entries).expect("an opening");
+    (job, blocks.into_iter().map(|(block, _)| block.map).collect())
+}
+
+/// Makes steps that must be accepted: enrolments, then seams, then the crossings of some blocks.
+fn until(job: &mut Job, maps: &[Vec<u32>], seams: &[(u32, u32)], crossed: &[u32]) {
+    for (b, map) in maps.iter().enumerate() {
+        job.enrol(b as u32, map).expect("an enrolment");
+    }
+    for &(b, c) in seams {
+        job.seam((b, c), &maps[b as usize], &maps[c as usize]).expect("a seam");
+    }
+    for &b in crossed {
+        job.crossing(b, &maps[b as usize]).expect("a crossing");
+    }
+}
+
+/// Jobs of anyone's making are read as they are, or refused.
+fn forged_jobs() {
     let line = &volumes()[6];
     let blocks = label_blocks(&line.cutting, &line.codes).expect("small extents");
     let fresh = Job::open(line.cutting.clone(), entries_for(&blocks)).expect("an opening");
@@ -115,29 +137,113 @@ fn forged() {
     try_with("extent 1,025", &|j| j.numbers[2] = 1025);
     try_with("another extent", &|j| j.numbers[1] = 4);
     try_with("a tally above its entries", &|j| j.numbers[7] = 3);
-    try_with("more numbered than found", &|j| j.numbers[12] = 1);
+    try_with("more numbered than entries", &|j| j.numbers[10] = 3);
+    try_with("more points numbered than entries", &|j| j.numbers[12] = 1);
+    try_with("more numbered than enrolled", &|j| j.numbers[10] = 2);
     try_with("entries of another table", &|j| j.numbers[4] = 1);
     try_with("a longer table", &|j| j.tables.curve_rows.push(0));
     try_with("old ticks", &|j| j.tables.ticks[0] = 5);
     try_with("another cut list", &|j| j.cutting.lists[0] = vec![0, 2]);
-    let mut job = fresh.clone();
-    for b in 0..2 {
-        job.enrol(b, &blocks[b as usize].0.map).expect("an enrolment");
-    }
-    let enrolled = job.clone();
-    let seam_with = |what: &str, change: &dyn Fn(&mut Job)| {
+}
+
+/// Tables of anyone's making, at a seam. Three blocks with a face each, at the places 0, 1 and 2 of a table of ten.
+fn forged_seams() {
+    let cutting = Cutting { extents: [4, 1, 1], lists: [vec![0, 1, 2, 3], vec![0], vec![0]] };
+    let (mut enrolled, maps) = opened(&cutting, &[1, 2, 1, 2], 7);
+    until(&mut enrolled, &maps, &[], &[]);
+    let seam_with = |what: &str, (b, c): (u32, u32), change: &dyn Fn(&mut Job)| {
         let mut job = enrolled.clone();
         change(&mut job);
-        println!("forged {what}: {}", number(job.seam((0, 1), &blocks[0].0.map, &blocks[1].0.map)));
+        println!("seam of {b} and {c}, forged {what}: {}", number(job.seam((b, c), &maps[b as usize], &maps[c as usize])));
     };
-    seam_with("nothing, at the seam", &|_| {});
-    seam_with("count of a block", &|j| j.tables.blocks[0] = 0);
-    seam_with("place of a block", &|j| j.tables.blocks[8] = u32::MAX);
-    seam_with("links", &|j| j.tables.face_links.fill(u32::MAX));
-    let mut job = enrolled;
-    job.seam((0, 1), &blocks[0].0.map, &blocks[1].0.map).expect("a seam");
+    seam_with("nothing", (0, 1), &|_| {});
+    seam_with("count of a block", (0, 1), &|j| j.tables.blocks[0] = 0);
+    seam_with("place of a block", (0, 1), &|j| j.tables.blocks[8] = u32::MAX);
+    seam_with("place above the tally", (0, 1), &|j| j.tables.blocks[8] = 9);
+    seam_with("place above the entries", (0, 1), &|j| j.tables.blocks[8] = 10);
+    seam_with("links", (0, 1), &|j| j.tables.face_links.fill(u32::MAX));
+    seam_with("link of block 2", (0, 1), &|j| j.tables.face_links[2] = 3);
+    seam_with("link of block 2", (1, 2), &|j| j.tables.face_links[2] = 3);
+    seam_with("link of block 2 to the first", (1, 2), &|j| j.tables.face_links[2] = 2);
+    seam_with("link of place 0", (1, 2), &|j| j.tables.face_links[0] = 1);
+    seam_with("link of place 0 on a way", (1, 2), &|j| j.tables.face_links[..3].fill(1));
+    // place 1 leads to none and lies on no way; the ways of the places 5 to 9 have 30 steps
+    const FAR: [u32; 10] = [0, 5, 2, 1, 1, 1, 1, 1, 1, 1];
+    seam_with("short way past a link to none", (0, 1), &|j| {
+        j.tables.face_links.copy_from_slice(&FAR);
+        j.tables.blocks[3] = 5;
+        j.tables.blocks[8] = 5;
+    });
+    seam_with("ways longer than the table", (0, 1), &|j| {
+        j.tables.face_links.copy_from_slice(&FAR);
+        j.tables.face_links[1] = 1;
+        (j.tables.blocks[3], j.tables.blocks[8], j.tables.blocks[0], j.tables.blocks[5]) = (5, 5, 5, 5);
+    });
+    seam_with("ways longer than the table, a link to none before them", (0, 1), &|j| {
+        j.tables.face_links.copy_from_slice(&FAR);
+        (j.tables.blocks[3], j.tables.blocks[8], j.tables.blocks[0], j.tables.blocks[5]) = (5, 5, 5, 5);
+    });
+}
+
+/// .. at a crossing: the last one numbers all, so it looks at what all blocks enrolled.
+fn forged_crossings() {
+    let cutting = Cutting { extents: [4, 1, 1], lists: [vec![0, 1, 2, 3], vec![0], vec![0]] };
+    let crossing_with = |crossed: &[u32], b: u32| {
+        let (mut job, maps) = opened(&cutting, &[1, 2, 1, 2], 0);
+        until(&mut job, &maps, &[(0, 1), (1, 2)], crossed);
+        job.tables.face_links[2] = 3;
+        let before = job.clone();
+        let answer = number(job.crossing(b, &maps[b as usize]));
+        println!("crossing of {b} after {crossed:?}, forged link of block 2: {answer}, kept {}", before == job);
+    };
+    crossing_with(&[], 0);
+    crossing_with(&[], 2);
+    crossing_with(&[2], 0);
+    crossing_with(&[0, 2], 1);
+    let figure = &volumes()[9];
+    let row_with = |crossed: &[u32], b: u32, face: u32, spare: u32| {
+        let (mut job, maps) = opened(&figure.cutting, &figure.codes, spare);
+        until(&mut job, &maps, &figure.cutting.seams(), crossed);
+        job.tables.curve_rows[0] = face;
+        let (entries, answer) = (job.numbers[4], number(job.crossing(b, &maps[b as usize])));
+        println!("crossing of {b} after {crossed:?}, forged row with face {face} of {entries}: {answer}");
+    };
+    row_with(&[], 0, 21, 0);
+    row_with(&[0, 1, 2], 3, 20, 0);
+    row_with(&[0, 1, 2], 3, 21, 0);
+    row_with(&[0, 1, 2], 3, 21, 5);
+    row_with(&[0, 1, 2], 3, 26, 5);
+}
+
+/// .. at a point step and a lookup: final numbers that are handed out are 1 to as many as are numbered.
+fn forged_numbers() {
+    let four = &volumes()[3];
+    let (mut crossed, maps) = opened(&four.cutting, &four.codes, 3);
+    until(&mut crossed, &maps, &[], &[0]);
+    let map = &maps[0];
+    for n in [1, 0, 2, u32::MAX] {
+        let mut job = crossed.clone();
+        job.tables.curve_numbers[0] = n;
+        println!("point step, forged final number {n}: {}", number(job.point(0, map)));
+    }
+    let mut closed = crossed;
+    closed.point(0, map).expect("a point step");
+    for n in [1, 0, 4, 5] {
+        let mut job = closed.clone();
+        job.tables.face_numbers[2] = n;
+        job.tables.curve_numbers[0] = n;
+        let found = [[2, 1, 0], [1, 1, 0], [1, 0, 0], [0, 0, 0]].map(|cell| job.lookup(0, map, cell).map_err(Refusal::number));
+        println!("lookup, forged final number {n}: face 3 {:?} curve 1 {:?} face 1 {:?} voxel {:?}", found[0], found[1], found[2], found[3]);
+    }
+    let line = &volumes()[6];
+    let (mut job, maps) = opened(&line.cutting, &line.codes, 0);
+    until(&mut job, &maps, &[(0, 1)], &[]);
     job.numbers[0] = 4;
-    println!("forged closed job: row {:?} lookup {:?}", job.row(Kind::Face, 1).map_err(Refusal::number), job.lookup(0, &blocks[0].0.map, [1, 0, 0]).map_err(Refusal::number));
+    println!("forged closed job: row {:?} lookup {:?}", job.row(Kind::Face, 1).map_err(Refusal::number), job.lookup(0, &maps[0], [1, 0, 0]).map_err(Refusal::number));
+    job.numbers[10] = 2;
+    println!("forged closed job, two faces numbered: row {:?}", job.row(Kind::Face, 1).map_err(Refusal::number));
+    job.numbers[10] = 3;
+    println!("forged closed job, three faces numbered: row {:?}", job.row(Kind::Face, 1).map_err(Refusal::number));
 }
 
 /// Openings that are refused.
@@ -155,6 +261,9 @@ fn main() {
         closes(&v);
     }
     differing();
-    forged();
+    forged_jobs();
+    forged_seams();
+    forged_crossings();
+    forged_numbers();
     openings();
 }
