@@ -396,6 +396,7 @@ fn places(kind: usize) -> usize {
 #[cfg(test)]
 mod tests {
     use super::*;
+    use crate::random::Random;
 
     #[test]
     fn ways() {
@@ -422,6 +423,39 @@ mod tests {
         assert_eq!(stray_ways(&links, 5, 7), None);
         assert_eq!(stray_ways(&links[..8], 5, 7), Some(Stray::Below));
         assert_eq!(stray_ways(&[0, 1, 1, 9], 0, 3), None);
+    }
+
+    /// The rule word for word: each way is walked by itself.
+    fn walked(links: &[u32], from: usize, end: usize) -> bool {
+        let mut steps = 0;
+        for start in from..end {
+            let mut x = start;
+            while links[x] != 0 {
+                if links[x] as usize > x {
+                    return true;
+                }
+                x -= links[x] as usize;
+                steps += 1;
+            }
+        }
+        steps > links.len() && (0..end).any(|x| links[x] as usize > x)
+    }
+
+    #[test]
+    fn ways_as_worded() {
+        let mut random = Random::new(5);
+        let mut stray = 0;
+        for _ in 0..20_000 {
+            let (least, most) = (random.below(2), 1 + random.below(3));
+            let mut links: Vec<u32> = (0..1 + random.below(12)).map(|x| x.min(least + random.below(most)) as u32).collect();
+            let at = random.below(links.len());
+            links[at] = random.pick(&[links[at], at as u32, at as u32 + 1, u32::MAX]);
+            let from = random.below(links.len() + 1);
+            let end = from + random.below(links.len() + 1 - from);
+            assert_eq!(stray_ways(&links, from, end).is_some(), walked(&links, from, end), "{links:?} {from} {end}");
+            stray += usize::from(stray_ways(&links, from, end) == Some(Stray::Below));
+        }
+        assert!(stray > 50, "{stray}");
     }
 
     #[test]
