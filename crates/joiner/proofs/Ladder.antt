@@ -1,11 +1,17 @@
 -- The refusal that the service and the day book give, from what each test says.
 -- Assumes nothing.
 use mathlib.Core.Bool.{Bool, cond, false, true}
+use mathlib.Core.List.{[], _∷_}
 use mathlib.Core.Logic.{_≢_, _⊎_, inl, inr}
 use mathlib.Core.Path.{_≡_, refl}
 use Prim.Native.Nat.{ℕ, _<_, _≤_}
 use native.Mathlib.Omega.{arith}
-use Rattle.refusals.specs.Refusals.{Refusal, bad-cut, bad-record, blank-voxel, done-already, first, givenBy, layers-differ, no-such-place, number, off-size, stray-label, table, table-full, wrong-stage, wrong-tray}
+use Rattle.refusals.specs.Refusals.{Refusal, bad-cut, bad-record, blank-voxel, done-already, first, givenBy, layers-differ, listedNumbers, no-such-place, number, off-size, stray-label, table, table-full, wrong-stage, wrong-tray}
+use Rattle.joiner.specs.Job.{State, Tables, Told}
+use Rattle.joiner.specs.Calls.{Call}
+use Rattle.joiner.specs.Declines.{declines}
+use Rattle.joiner.specs.Entries.{openDeclines}
+use Rattle.joiner.specs.Book.{Book, bookDeclines}
 use Rattle.lists.proofs.Cases.{by-test}
 
 -- what is given as a ladder
@@ -126,3 +132,17 @@ given-stray g G = rw (ladder g, G .g-size, G .g-cut, G .g-blank, G .g-stray, G .
     go false false false false true f z = omega arith
     go false false false false false true z = omega arith
     go false false false false false false z = omega arith
+
+-- ---- the numbers that the entries list, in the order of the table
+
+pub open-listed : (o : Told) (t : Tables) → listedNumbers (openDeclines o t) ≡ 1 ∷ 2 ∷ 6 ∷ []
+unfolding listedNumbers openDeclines number
+open-listed o t = refl
+
+pub call-listed : (s : State) (c : Call) → listedNumbers (declines s c) ≡ 1 ∷ 2 ∷ 3 ∷ 4 ∷ 5 ∷ 6 ∷ 8 ∷ 9 ∷ 10 ∷ []
+unfolding listedNumbers declines number
+call-listed s c = refl
+
+pub book-listed : (B : Book) (c : Call) → listedNumbers (bookDeclines B c) ≡ 3 ∷ 4 ∷ 5 ∷ 6 ∷ 9 ∷ 10 ∷ []
+unfolding listedNumbers bookDeclines number
+book-listed B c = refl

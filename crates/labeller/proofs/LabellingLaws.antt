@@ -2,7 +2,7 @@
 -- Assumes nothing.
 use mathlib.Core.Path.{_≡_, refl, sym, ap, _∙_}
 use mathlib.Core.Bool.{Bool, true, false, cond, _&&_}
-use mathlib.Core.List.{List}
+use mathlib.Core.List.{List, [], _∷_}
 use Prim.Native.Nat.{ℕ, _+_, _-_, _≤_, _<_}
 use native.Mathlib.Numerals.{add-one}
 use native.Mathlib.Omega.{arith}
@@ -12,7 +12,7 @@ use lib.Seq.{drop-cons}
 use borrow.Author.Tests.{eqb-true, eq-eqb, ne-eqb, not-false}
 use Rattle.lists.specs.Lists.{tabulate, zeros}
 use Rattle.lists.proofs.Cases.{and-left, and-right}
-use Rattle.refusals.specs.Refusals.{off-size, wrong-tray, number, table, first, givenBy, standsIn}
+use Rattle.refusals.specs.Refusals.{off-size, wrong-tray, number, table, first, givenBy, listedNumbers, standsIn}
 use Rattle.refusals.proofs.RefusalLaws.{given-none}
 use Rattle.closure.specs.Joined.{Edge, joins, rep}
 use Rattle.closure.proofs.Rooted.{joins-ext}
@@ -118,3 +118,8 @@ length-zeros n = length-replicate n 0
 pub joined-rep : (n : ℕ) {ls ms : List ℕ} (es : List Edge) → ls ≡ zeros n → Rooted ls ms (joins (root ls) es) → (x : ℕ) → root ms x ≡ rep es x
 unfolding rep
 joined-rep n es z R x = R .roots x ∙ joins-ext es _ _ (λ y. rw z (zeros-alone n y)) x
+
+-- The numbers that `label` lists, in the order of the table.
+pub label-listed : (e : Triple) (codes : List ℕ) (n m : ℕ) → listedNumbers (declines e codes n m) ≡ 1 ∷ 6 ∷ 7 ∷ []
+unfolding listedNumbers declines number
+label-listed e codes n m = refl

@@ -9,7 +9,7 @@ use native.Mathlib.Omega.{arith}
 use lib.ListN.{length, take}
 use borrow.Author.Tests.{eq-eqb, ne-eqb, le-leb}
 use Rattle.lists.specs.Lists.{zeros}
-use Rattle.refusals.specs.Refusals.{number, table, first, lowest}
+use Rattle.refusals.specs.Refusals.{number, table, first, givenBy, standsIn}
 use Rattle.cells.specs.Box.{Triple, volume}
 use Rattle.cells.specs.Codes.{blank}
 use Rattle.cells.specs.Extents.{Sized, isExtent, offSize}
@@ -43,7 +43,7 @@ block-size e s =
 
 labelled : (e : Triple) (codes m w : List ℕ) → Sized 8 e → length codes ≡ volume e → blank codes ≡ false → length m ≡ cells e → length w ≡ cells e
     → labeller.labelling e codes m w ≡ labeller.accepted e codes
-unfolding labeller.labelling labeller.refusalOf labeller.declines labeller.wrongTray lowest first table number
+unfolding labeller.labelling labeller.refusalOf labeller.declines labeller.wrongTray givenBy first table number standsIn
 labelled e codes m w s k b i j = rw (block-size e s, eq-eqb _ _ k, eq-eqb _ _ i, eq-eqb _ _ j, b)
 
 -- A text read in whole, in any chunks (`after-append`), into a tray of 512 places.

@@ -11,7 +11,7 @@ use lib.ListN.{length, take, drop, set, length-map, length-drop}
 use lib.Seq.{sets, sets-eq, take-nil, take-all, take-at}
 use borrow.Author.Tests.{le-leb, lt-leb, lt-ltb, le-ltb, ne-eqb, eqb-true, eqb-false, ltb-true, ltb-false}
 use Rattle.lists.proofs.Cases.{by-test, not-not, and-left, and-right, and-both}
-use Rattle.refusals.specs.Refusals.{number, table, first, lowest}
+use Rattle.refusals.specs.Refusals.{number, table, first, givenBy, standsIn}
 use Rattle.cells.specs.Box.{volume}
 use Rattle.cells.specs.Codes.{blank}
 use Rattle.cells.specs.Extents.{offSize}
@@ -237,7 +237,7 @@ rungs-same o false w true b c i f g = rw (i, f refl, g refl refl)
 
 -- The tests of the text.
 pub text-rungs : (text : List ℕ) → textRefusal text ≡ rungs (readable (wordsOf text) && offSize 8 (askedExtents text)) (formed (wordsOf text)) (blank (askedCodes text))
-unfolding textRefusal askedExtents askedCodes lowest first table number declinesText
+unfolding textRefusal askedExtents askedCodes givenBy first table number standsIn declinesText
 text-rungs text = refl
 
 -- A text that is not refused.

@@ -4,7 +4,7 @@ use Prim.Native.Nat.{ℕ, zero, suc, _+_, _-_, _*_, _≤_, _<_}
 use mathlib.Core.Path.{_≡_, refl, sym, ap, _∙_}
 use mathlib.Core.Logic.{_≢_}
 use mathlib.Core.Bool.{Bool, true, false, cond, not, _||_}
-use mathlib.Core.List.{List, []}
+use mathlib.Core.List.{List, [], _∷_}
 use native.Mathlib.Numerals.{add-one}
 use native.Mathlib.Nat.{zero-mul, mul-one, sub-zero, mul-le-mul-right}
 use native.Mathlib.Omega.{arith}
@@ -16,7 +16,7 @@ use Rattle.lists.proofs.Cases.{neither}
 use Rattle.lists.specs.Lists.{consecutive, keep, tabulate}
 use Rattle.lists.proofs.Lists.{keep-append, tabulate-snoc}
 use Rattle.closure.specs.Numbered.{countBelow}
-use Rattle.refusals.specs.Refusals.{off-size, wrong-tray, bad-record, number, table, first, givenBy, standsIn}
+use Rattle.refusals.specs.Refusals.{off-size, wrong-tray, bad-record, number, table, first, givenBy, listedNumbers, standsIn}
 use Rattle.refusals.proofs.RefusalLaws.{given-none}
 use Rattle.cells.specs.Box.{Triple, triple}
 use Rattle.cells.specs.Extents.{offPlace}
@@ -216,3 +216,8 @@ module _ (r t : List ℕ) (n : ℕ) (is : n ≡ refusalOf r (length t)) where
   pub read-accepted : n ≡ 0 → (h : Head) (m : List ℕ) → h ≡ headOf 0 (extentsOf r) (originOf r) → m ≡ decode (length t) r → outcome h m ≡ reading r t
   unfolding reading accepted
   read-accepted z h m i j = rw (← is, eq-eqb n 0 z, i, j, ← readable r (length t) (sym is ∙ z) .is)
+
+-- The numbers that `read_record` lists, in the order of the table.
+pub read-listed : (r : List ℕ) (tray : ℕ) → listedNumbers (declines r tray) ≡ 1 ∷ 6 ∷ 11 ∷ []
+unfolding listedNumbers declines number
+read-listed r tray = refl

@@ -200,7 +200,7 @@ pub fn layer_of(nx: usize, ny: usize, nz: usize, axis: u32, last: bool) -> Layer
     }
 }
 
-// The columns and rows of that layer. Not entries.
+// The columns of that layer. Not an entry.
 pub fn columns_of(nx: usize, ny: usize, nz: usize, axis: u32) -> u16
     requires { ⌜ Sized 64 (triple nx ny nz) ⌝ }
     ensures { λ n. ⌜ n ≡ columnsOf (sides (triple nx ny nz)) (axisOf axis) ⌝ }
@@ -211,6 +211,7 @@ pub fn columns_of(nx: usize, ny: usize, nz: usize, axis: u32) -> u16
     (2 * nx - 1) as u16
 }
 
+// The rows of that layer. Not an entry.
 pub fn rows_of(nx: usize, ny: usize, nz: usize, axis: u32) -> u16
     requires { ⌜ Sized 64 (triple nx ny nz) ⌝ }
     ensures { λ n. ⌜ n ≡ rowsOf (sides (triple nx ny nz)) (axisOf axis) ⌝ }

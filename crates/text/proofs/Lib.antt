@@ -1,2 +1,3 @@
 -- The laws of the definitions in specs/.
 pub mod Example
+pub mod CaseLaws

@@ -19,7 +19,7 @@ use Rattle.cells.specs.Extents.{offPlace}
 use Rattle.cells.specs.Grid.{sides, cells}
 use Rattle.cells.proofs.ExtentLaws.{cells-high}
 use Rattle.extents.proofs.SizeLaws.{sized-at}
-use Rattle.refusals.specs.Refusals.{off-size, wrong-tray, number, table, first, givenBy, standsIn}
+use Rattle.refusals.specs.Refusals.{off-size, wrong-tray, number, table, first, givenBy, listedNumbers, standsIn}
 use Rattle.refusals.proofs.RefusalLaws.{given-none}
 use Rattle.lines.specs.Lines.{lineCount, firstX}
 use Rattle.lines.proofs.LineLaws.{Tests, line-start, line-next, line-end, next-line, cells-lines}
@@ -251,3 +251,8 @@ pub write-accepted : (e o : Triple) (m t u : List ℕ) (n r : ℕ) → n ≡ ref
     → outcome (record { refusal = 0; length = r }) u ≡ writing e o m t
 unfolding writing accepted
 write-accepted e o m t u n r h z d = rw (← h, eq-eqb n 0 z, d .0, d .1, laid-front)
+
+-- The numbers that `write_record` lists, in the order of the table.
+pub write-listed : (e o : Triple) (m : List ℕ) (tray : ℕ) → listedNumbers (declines e o m tray) ≡ 1 ∷ 6 ∷ 8 ∷ []
+unfolding listedNumbers declines number
+write-listed e o m tray = refl
