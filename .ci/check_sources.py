@@ -1,66 +1,109 @@
 """Checks that no source gives a symbol of the kit's libraries a meaning of its own.
 
-A name that a library module exports may be imported from that module alone, may not be the new name of
-another import, and may not be defined in a crate. What the libraries export is read from the kit.
+The libraries are read from the kit: every module of those that definitions and proofs cite (LIBRARIES). The kit's
+others are the program logic behind the generated proofs; no source imports from them but proofs by hand (LOGIC).
+Modules of worked examples are left out. A module's symbols are the functions and types that it exports; record
+fields and constructors are left out, since they stand with their type.
+
+No function and no type of a crate has the name of a symbol, exported or not, and no import is given such a name. The
+symbols of the modules in CORE, which definitions cite bare, may not be fields, constructors or locals either.
+Names that the kit's form of a proof file asks for (the answer to a need, the proved statement) are not the author's.
 """
 import glob
+import json
 import os
 import re
 import subprocess
 import sys
 
+LIBRARIES = ('lib', 'mathlib', 'native', 'text', 'std', 'borrow.Author')
+LOGIC = ('borrow.Fn.PlainCycle', 'borrow.Fn.Kinds', 'denote.Ref')
 NATIVE = 'ℕ zero suc _+_ _-_ _*_ _/_ _%_ _^_ _≤_ _<_ min max'.split()
-LIBRARIES = {
-    'lib.ListN': 'logic/Lib/ListN.antt',
-    'lib.Seq': 'logic/Lib/Seq.antt',
-    'lib.Dec': 'logic/Lib/Dec.antt',
-    'lib.Arith': 'logic/Lib/Arith.antt',
-    'mathlib.Core.List': 'antt/port/mathlib/src/Core/List.antt',
-    'mathlib.Core.Bool': 'antt/port/mathlib/src/Core/Bool.antt',
-    'mathlib.Core.Path': 'antt/port/mathlib/src/Core/Path.antt',
-    'mathlib.Core.Logic': 'antt/port/mathlib/src/Core/Logic.antt',
-}
-EXPORT = re.compile(r'^\s*(?:unfoldable |abbrev )?pub (?:unfoldable |abbrev )?(?:data |record )?([^\s:({]+)', re.M)
-IMPORT = re.compile(r'^(?:pub |ghost )*use ([^\s{;]+?)\.\{([^}]*)\}', re.M)
-DEFINED = re.compile(r'^\s*(?:unfoldable |abbrev )?(?:pub )?(?:let )?((?:[^\s:({})=λ.→]+ )+): |(?:data|record) ([^\s:({]+)', re.M)
+CORE = {'Prim.Native.Nat', 'lib.ListN', 'lib.Seq', 'lib.Dec', 'lib.Arith', 'mathlib.Core.List', 'mathlib.Core.Bool', 'mathlib.Core.Path', 'mathlib.Core.Logic'}
+WORDS = r'(?:pub |ghost |unfoldable |abbrev )*'
+EXPORT = re.compile(r'\s*(?:unfoldable |abbrev )?pub (?:unfoldable |abbrev )?(?!use |mod |module )(?:data |record )?([^\s:({]+)')
+IMPORT = re.compile(r'^' + WORDS + r'use ([^\s{;]+?)\.\{([^}]*)\}', re.M)
+TYPE = re.compile(r'\s*' + WORDS + r'(data|record) ([^\s:({]+)')
+NAMES = re.compile(r'\s*' + WORDS + r'(let )?((?:[^\s:({})=λ.→]+ )+): ')
+ASKED = re.compile(r'\s*(?:pub )?\S+ : (?:tie\.|\{M : Type 1\} → statement M)')
+
+
+def lines_of(path):
+    """The lines of a source without comments, each with the block that it stands in: 'data', 'record', 'where' or ''."""
+    blocks = []
+    with open(path, encoding='utf-8') as f:
+        for line in f:
+            line = re.sub(r'(^|\s)(--|//).*$', '', line).rstrip()
+            if not line.strip():
+                continue
+            depth = len(line) - len(line.lstrip())
+            while blocks and depth <= blocks[-1][0]:
+                blocks.pop()
+            yield line, blocks[-1][1] if blocks else ''
+            kind = TYPE.match(line)
+            if kind:
+                blocks.append((depth, kind.group(1)))
+            elif line.strip() == 'where':
+                blocks.append((depth, 'where'))
+
+
+def modules(kit):
+    """Each module of the libraries, with its file."""
+    with open(os.path.join(kit, 'logic/antt-project.json'), encoding='utf-8') as f:
+        roots = {lib['name']: os.path.normpath(os.path.join(kit, 'logic', lib['src'])) for lib in json.load(f)['libraries']}
+    for library in LIBRARIES:
+        root = roots[library.split('.')[0]]
+        for path in sorted(glob.glob(os.path.join(root, '**/*.antt'), recursive=True)):
+            module = library.split('.')[0] + '.' + os.path.relpath(path, root)[:-len('.antt')].replace('/', '.')
+            if (module + '.').startswith(library + '.') and 'Examples' not in module:
+                yield module, path
 
 
 def exported():
-    """Each name that a library exports, with the modules that export it."""
+    """Each symbol of the libraries, with the modules that export it."""
     guide = subprocess.run(['rt', 'doc'], capture_output=True, text=True, check=True).stdout.strip()
-    kit = os.path.dirname(os.path.dirname(guide))
     homes = {name: {'Prim.Native.Nat'} for name in NATIVE}
-    for module, path in LIBRARIES.items():
-        with open(os.path.join(kit, path), encoding='utf-8') as f:
-            for name in EXPORT.findall(f.read()):
-                homes.setdefault(name, set()).add(module)
+    for module, path in modules(os.path.dirname(os.path.dirname(guide))):
+        for line, block in lines_of(path):
+            symbol = EXPORT.match(line)
+            if symbol and block not in ('data', 'record'):
+                homes.setdefault(symbol.group(1), set()).add(module)
     return homes
 
 
-def faults(path, homes):
-    with open(path, encoding='utf-8') as f:
-        text = re.sub(r'(--|//).*$', '', f.read(), flags=re.M)
+def imported(text, homes):
     for module, names in IMPORT.findall(text):
+        library = any((module + '.').startswith(name + '.') for name in LIBRARIES + LOGIC + ('Prim',))
+        if not library and not module.startswith('Rattle·'):
+            yield f'{module} is the program logic and is imported from'
         for item in names.split(','):
-            name, *new = item.split(' as ')
-            for n in [name] + new:
-                n = n.strip()
-                if n in homes and (module not in homes[n] or (new and n != name.strip())) and not module.startswith(('mathlib.', 'lib.', 'native.', 'borrow.', 'Prim.')):
+            name, *new = [n.strip() for n in item.split(' as ')]
+            for n in new + ([] if library else [name]):
+                if n in homes and (n in new or homes[n] & CORE):
                     yield f'{n} is a symbol of {", ".join(sorted(homes[n]))} and is taken from {module}'
-    if path.endswith('.antt'):
-        for names, kind in DEFINED.findall(text):
-            for n in (names or kind).split():
-                if n in homes:
-                    yield f'{n} is a symbol of {", ".join(sorted(homes[n]))} and is defined here'
+
+
+def defined(path, homes):
+    for line, block in lines_of(path):
+        kind, names = TYPE.match(line), NAMES.match(line)
+        if ASKED.match(line) or not (kind or names):
+            continue
+        bare = block == '' and not (names and names.group(1))
+        for n in [kind.group(2)] if kind else names.group(2).split():
+            if n in homes and (bare or homes[n] & CORE):
+                yield f'{n} is a symbol of {", ".join(sorted(homes[n]))} and is defined here'
 
 
 def main():
     homes = exported()
     found = 0
     for path in sorted(glob.glob('crates/*/src/**/*.rt', recursive=True) + glob.glob('crates/*/specs/**/*.antt', recursive=True) + glob.glob('crates/*/proofs/**/*.antt', recursive=True)):
-        for fault in faults(path, homes):
+        with open(path, encoding='utf-8') as f:
+            text = re.sub(r'(--|//).*$', '', f.read(), flags=re.M)
+        faults = list(imported(text, homes)) + (list(defined(path, homes)) if path.endswith('.antt') else [])
+        for fault in faults:
             print(f'{path}: {fault}')
-            found += 1
+        found += len(faults)
     return 1 if found else 0
 
 
