@@ -13,33 +13,33 @@ use Rattle.cutting.specs.Cutting.{Cutting, cutList, goodCut, intervals, blocks,
 use Rattle.joiner.specs.Stages.{hasOn, hasCell, local}
 use Rattle.blocks.specs.Blocks.{originOf, sizeOf, Tells, inOn, hasIn, localIn, shiftIn, embedIn}
 use Rattle.blocks.specs.declared.Block.{Block}
-use Rattle.lists.proofs.Cases.{and-left, and-right}
+use Rattle.lists.proofs.Cases.{and-first, and-second}
 use Rattle.cells.proofs.BoxLaws.{Inside}
-use Rattle.cutting.proofs.CutLaws.{block-sized, block-ends, shift, shift-inside, embed-at}
+use Rattle.cutting.proofs.CutLaws.{block-sized, block-ends, shiftInto, shift-inside, embed-at}
 use Rattle.blocks.proofs.CodeLaws.{blocks-are}
 
 -- what `block_count` requires
 pub good-few : (k : Cutting) → goodCut k ≡ true → intervals (k .cx) * intervals (k .cy) * intervals (k .cz) ≤ 16384
 unfolding goodCut
 good-few k t =
-    omega (arith, sym (blocks-are k), leb-true (blocks k) 16384 (and-right (cutList (k .extents .x) (k .cx) && cutList (k .extents .y) (k .cy) && cutList (k .extents .z) (k .cz)) (leb (blocks k) 16384) t))
+    omega (arith, sym (blocks-are k), leb-true (blocks k) 16384 (and-second (cutList (k .extents .x) (k .cx) && cutList (k .extents .y) (k .cy) && cutList (k .extents .z) (k .cz)) (leb (blocks k) 16384) t))
 
 -- ---- what `hasIn` says on each axis
 
 module _ (r : Block) (c : Triple) (t : hasIn r c ≡ true) where
   in-on : (a : Axis) → inOn r c a ≡ true
   unfolding hasIn
-  in-on X = and-left (inOn r c X) (inOn r c Y && inOn r c Z) t
-  in-on Y = and-left (inOn r c Y) (inOn r c Z) (and-right (inOn r c X) (inOn r c Y && inOn r c Z) t)
-  in-on Z = and-right (inOn r c Y) (inOn r c Z) (and-right (inOn r c X) (inOn r c Y && inOn r c Z) t)
+  in-on X = and-first (inOn r c X) (inOn r c Y && inOn r c Z) t
+  in-on Y = and-first (inOn r c Y) (inOn r c Z) (and-second (inOn r c X) (inOn r c Y && inOn r c Z) t)
+  in-on Z = and-second (inOn r c Y) (inOn r c Z) (and-second (inOn r c X) (inOn r c Y && inOn r c Z) t)
 
   pub in-low : (a : Axis) → 2 * coord (originOf r) a ≤ coord c a
   unfolding inOn
-  in-low a = leb-true _ _ (and-left (leb (2 * coord (originOf r) a) (coord c a)) (ltb (coord c a) (2 * coord (originOf r) a + coord (sides (sizeOf r)) a)) (in-on a))
+  in-low a = leb-true _ _ (and-first (leb (2 * coord (originOf r) a) (coord c a)) (ltb (coord c a) (2 * coord (originOf r) a + coord (sides (sizeOf r)) a)) (in-on a))
 
   pub in-high : (a : Axis) → coord c a < 2 * coord (originOf r) a + coord (sides (sizeOf r)) a
   unfolding inOn
-  in-high a = ltb-true _ _ (and-right (leb (2 * coord (originOf r) a) (coord c a)) (ltb (coord c a) (2 * coord (originOf r) a + coord (sides (sizeOf r)) a)) (in-on a))
+  in-high a = ltb-true _ _ (and-second (leb (2 * coord (originOf r) a) (coord c a)) (ltb (coord c a) (2 * coord (originOf r) a + coord (sides (sizeOf r)) a)) (in-on a))
 
 -- ---- a `Block` that tells the numbers of block b
 
@@ -56,8 +56,8 @@ module _ (k : Cutting) (b : ℕ) (r : Block) (m : Tells k b r) where
   unfolding localIn local
   local-told c = ap₂ {C = ℕ} (λ (o e : Triple). index (sides e) (each (λ a. coord c a - 2 * coord o a))) (m .first) (m .size)
 
-  shift-told : (c : Triple) → shiftIn r c ≡ shift k b c
-  unfolding shiftIn shift
+  shift-told : (c : Triple) → shiftIn r c ≡ shiftInto k b c
+  unfolding shiftIn shiftInto
   shift-told c = ap (λ (o : Triple). each (λ a. 2 * coord o a + coord c a)) (m .first)
 
   module _ (good : goodCut k ≡ true) (hb : b < blocks k) where

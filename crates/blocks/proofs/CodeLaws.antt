@@ -13,7 +13,7 @@ use lib.Seq.{drop-cons}
 use borrow.Author.Tests.{ltb-true, leb-true, eqb-true, not-true, not-false, lt-ltb, le-ltb, le-leb, lt-leb, eq-eqb, ne-eqb}
 use Rattle.cells.specs.Box.{X, Y, Z, triple, volume, place}
 use Rattle.cells.specs.Grid.{sides}
-use Rattle.cutting.specs.Cutting.{Cutting, ascends, cutList, goodCut, intervals, low, high, blockSides, blocks, interval, origin, blockExtents, follows, level, seam}
+use Rattle.cutting.specs.Cutting.{Cutting, ascends, cutList, goodCut, intervals, lowEnd, highEnd, blockSides, blocks, interval, origin, blockExtents, follows, sameInterval, seam}
 use Rattle.joiner.specs.Stages.{seamAxis}
 use Rattle.blocks.specs.Blocks.{cutOf, anyExtents, Tells, inOn, hasIn, sideOf, placeOf, beside}
 use Rattle.blocks.specs.declared.Block.{Block}
@@ -173,16 +173,16 @@ module _ (k : Cutting) where
 
 -- ---- one interval
 
-pub low-past : (c : List ℕ) (i : ℕ) → length c ≤ i → 0 ≡ low c i
-unfolding low
+pub low-past : (c : List ℕ) (i : ℕ) → length c ≤ i → 0 ≡ lowEnd c i
+unfolding lowEnd
 low-past c i h = sym (List·getD-eq-default c 0 {n = i} h)
 
-pub high-past : (c : List ℕ) (i : ℕ) → length c ≤ i → 0 ≡ high c i
-unfolding high
-high-past c i h = low-past c i h ∙ sym (List·getD-eq-default c (low c i) {n = suc i} (omega arith))
+pub high-past : (c : List ℕ) (i : ℕ) → length c ≤ i → 0 ≡ highEnd c i
+unfolding highEnd
+high-past c i h = low-past c i h ∙ sym (List·getD-eq-default c (lowEnd c i) {n = suc i} (omega arith))
 
-pub high-last : (c : List ℕ) (i : ℕ) → length c - i < 2 → getD c i 0 ≡ high c i
-unfolding high low
+pub high-last : (c : List ℕ) (i : ℕ) → length c - i < 2 → getD c i 0 ≡ highEnd c i
+unfolding highEnd lowEnd
 high-last c i h = sym (List·getD-eq-default c (getD c i 0) {n = suc i} (omega arith))
 
 -- where there is an entry, what else would be taken does not count
@@ -191,15 +191,15 @@ any-rest [] i d h = absurd (omega arith)
 any-rest (x ∷ c) zero d h = refl
 any-rest (x ∷ c) (suc i) d h = any-rest c i d (omega arith)
 
-pub high-next : (c : List ℕ) (i : ℕ) → 2 ≤ length c - i → getD c (i + 1) 0 ≡ high c i
-unfolding high
-high-next c i h = rw (add-one i) (any-rest c (suc i) (low c i) (omega arith))
+pub high-next : (c : List ℕ) (i : ℕ) → 2 ≤ length c - i → getD c (i + 1) 0 ≡ highEnd c i
+unfolding highEnd
+high-next c i h = rw (add-one i) (any-rest c (suc i) (lowEnd c i) (omega arith))
 
-pub side-is : (c : List ℕ) (i l h : ℕ) (r : Side) → l ≡ low c i → h ≡ high c i → (r .first ≡ l) × (r .size ≡ h - l + 1) → r ≡ sideOf c i
+pub side-is : (c : List ℕ) (i l h : ℕ) (r : Side) → l ≡ lowEnd c i → h ≡ highEnd c i → (r .first ≡ l) × (r .size ≡ h - l + 1) → r ≡ sideOf c i
 unfolding sideOf
 side-is c i l h r e f g =
-    let p : r .first ≡ low c i = g .0 ∙ e in
-    let q : r .size ≡ high c i - low c i + 1 = g .1 ∙ rw (e, f) in
+    let p : r .first ≡ lowEnd c i = g .0 ∙ e in
+    let q : r .size ≡ highEnd c i - lowEnd c i + 1 = g .1 ∙ rw (e, f) in
     λ j. record { first = p j; size = q j }
 
 -- ---- a block
@@ -221,32 +221,32 @@ pub next-not : (i j : ℕ) → j ≤ i → false ≡ eqb j (suc i)
 next-not i j h = sym (ne-eqb j (suc i) (λ e. omega arith))
 
 -- one of three axes is the next one (f) and the others are level (l)
-one : Bool → Bool → Bool → Bool → Bool → Bool → Bool
-one fx lx fy ly fz lz = (fx && ly && lz) || (lx && fy && lz) || (lx && ly && fz)
+one-axis : Bool → Bool → Bool → Bool → Bool → Bool → Bool
+one-axis fx lx fy ly fz lz = (fx && ly && lz) || (lx && fy && lz) || (lx && ly && fz)
 
-one-xy : (fx fy fz lz : Bool) → false ≡ one fx false fy false fz lz
-unfolding one
+one-xy : (fx fy fz lz : Bool) → false ≡ one-axis fx false fy false fz lz
+unfolding one-axis
 one-xy true fy fz lz = refl
 one-xy false fy fz lz = refl
 
-one-xz : (fx fy ly fz : Bool) → false ≡ one fx false fy ly fz false
-unfolding one
+one-xz : (fx fy ly fz : Bool) → false ≡ one-axis fx false fy ly fz false
+unfolding one-axis
 one-xz true fy true fz = refl
 one-xz true fy false fz = refl
 one-xz false fy ly fz = refl
 
-one-x : (fx fy fz : Bool) → fx ≡ one fx false fy true fz true
-unfolding one
+one-x : (fx fy fz : Bool) → fx ≡ one-axis fx false fy true fz true
+unfolding one-axis
 one-x true fy fz = refl
 one-x false fy fz = refl
 
-one-yz : (fy fz : Bool) → false ≡ one false true fy false fz false
-unfolding one
+one-yz : (fy fz : Bool) → false ≡ one-axis false true fy false fz false
+unfolding one-axis
 one-yz true fz = refl
 one-yz false fz = refl
 
-one-y : (fy fz : Bool) → fy ≡ one false true fy false fz true
-unfolding one
+one-y : (fy fz : Bool) → fy ≡ one-axis false true fy false fz true
+unfolding one-axis
 one-y true fz = refl
 one-y false fz = refl
 
@@ -255,8 +255,8 @@ level-not : (i j : ℕ) → j ≡ i → eqb j (suc i) ≡ false
 level-not i j e = ne-eqb j (suc i) (λ f. omega arith)
 
 module _ (p q : Place) where
-  beside-is : beside p q ≡ one (eqb (q .x) (suc (p .x))) (eqb (q .x) (p .x)) (eqb (q .y) (suc (p .y))) (eqb (q .y) (p .y)) (eqb (q .z) (suc (p .z))) (eqb (q .z) (p .z))
-  unfolding beside one
+  beside-is : beside p q ≡ one-axis (eqb (q .x) (suc (p .x))) (eqb (q .x) (p .x)) (eqb (q .y) (suc (p .y))) (eqb (q .y) (p .y)) (eqb (q .z) (suc (p .z))) (eqb (q .z) (p .z))
+  unfolding beside one-axis
   beside-is = refl
 
   pub beside-xy : (q .x ≡ p .x → ⊥) → (q .y ≡ p .y → ⊥) → false ≡ beside p q
@@ -275,7 +275,7 @@ module _ (p q : Place) where
   beside-y t x y z e = e ∙ rw (beside-is, level-not (p .x) (q .x) x, eq-eqb (q .x) (p .x) x, ne-eqb (q .y) (p .y) y, eq-eqb (q .z) (p .z) z) (one-y _ _)
 
   pub beside-z : (t : Bool) → q .x ≡ p .x → q .y ≡ p .y → t ≡ eqb (q .z) (suc (p .z)) → t ≡ beside p q
-  unfolding one
+  unfolding one-axis
   beside-z t x y e = e ∙ rw (beside-is, level-not (p .x) (q .x) x, level-not (p .y) (q .y) y, eq-eqb (q .x) (p .x) x, eq-eqb (q .y) (p .y) y)
 
 module _ (k : Cutting) (b c : ℕ) (s : Bool) (e : s ≡ ltb b (blocks k)) where
@@ -289,7 +289,7 @@ module _ (k : Cutting) (b c : ℕ) (s : Bool) (e : s ≡ ltb b (blocks k)) where
     seam-second m = rw (sym e ∙ not-false s n, sym f ∙ not-true t m)
 
     pub seam-both : not t ≡ false → (p q : Place) (u : Bool) → p ≡ placeOf (intervals (k .cx)) (intervals (k .cy)) b → q ≡ placeOf (intervals (k .cx)) (intervals (k .cy)) c → u ≡ beside p q → u ≡ seam k b c
-    unfolding seam beside follows level placeOf interval place blockSides
+    unfolding seam beside follows sameInterval placeOf interval place blockSides
     seam-both m p q u ep eq g = g ∙ rw (sym e ∙ not-false s n, sym f ∙ not-false t m, ep, eq)
 
 module _ (k : Cutting) (b c : ℕ) (p q : Place) (s : Bool) (ep : p ≡ placeOf (intervals (k .cx)) (intervals (k .cy)) b) (eq : q ≡ placeOf (intervals (k .cx)) (intervals (k .cy)) c)

@@ -7,7 +7,7 @@ use Prim.Native.Nat.{ℕ, suc, _+_, _-_, _*_, _/_, _%_}
 use lib.Dec.{eqb, leb, ltb}
 use Rattle.cells.specs.Box.{Triple, Axis, X, Y, Z, triple, coord, each, index}
 use Rattle.cells.specs.Grid.{sides}
-use Rattle.cutting.specs.Cutting.{Cutting, origin, blockExtents, low, high}
+use Rattle.cutting.specs.Cutting.{Cutting, origin, blockExtents, lowEnd, highEnd}
 use Rattle.blocks.specs.declared.Block.{Block}
 use Rattle.blocks.specs.declared.Place.{Place}
 use Rattle.blocks.specs.declared.Side.{Side}
@@ -53,7 +53,7 @@ embedIn e r c = index (sides e) (shiftIn r c)
 
 -- The first voxel of an interval, and how many voxels it takes in.
 unfoldable pub sideOf : List ℕ → ℕ → Side
-sideOf c i = record { first = low c i; size = high c i - low c i + 1 }
+sideOf c i = record { first = lowEnd c i; size = highEnd c i - lowEnd c i + 1 }
 
 -- The intervals of block b, where w and h intervals are on x and y.
 unfoldable pub placeOf : ℕ → ℕ → ℕ → Place

@@ -6,7 +6,7 @@ ghost use lib.Dec.{eqb, leb, ltb};
 ghost use Rattle.cells.specs.Box.{Axis, triple, coord};
 ghost use Rattle.cells.specs.Extents.{Sized};
 ghost use Rattle.cells.specs.Grid.{sides};
-ghost use Rattle.cutting.specs.Cutting.{cutList, goodCut, intervals, low, high, blocks, seam};
+ghost use Rattle.cutting.specs.Cutting.{cutList, goodCut, intervals, lowEnd, highEnd, blocks, seam};
 ghost use Rattle.joiner.specs.Stages.{seamAxis};
 ghost use Rattle.blocks.specs.Blocks.{cutOf, anyExtents, sizeOf, Tells, hasIn, localIn, shiftIn, embedIn, sideOf, placeOf, beside};
 
@@ -126,7 +126,7 @@ pub fn has_block(cx: &[u32], cy: &[u32], cz: &[u32], b: u32) -> bool
 
 // The first voxel of interval i, and the last.
 fn low(c: &[u32], i: usize) -> u32
-    ensures { λ r. ⌜ r ≡ low (now (c .entry)) i ⌝ }
+    ensures { λ r. ⌜ r ≡ lowEnd (now (c .entry)) i ⌝ }
 {
     if i < c.len() {
         return c[i];
@@ -135,7 +135,7 @@ fn low(c: &[u32], i: usize) -> u32
 }
 
 fn high(c: &[u32], i: usize) -> u32
-    ensures { λ r. ⌜ r ≡ high (now (c .entry)) i ⌝ }
+    ensures { λ r. ⌜ r ≡ highEnd (now (c .entry)) i ⌝ }
 {
     if c.len() <= i {
         return 0;

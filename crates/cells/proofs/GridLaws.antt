@@ -7,7 +7,7 @@ use Prim.Native.Nat.{ℕ, zero, suc, _+_, _-_, _*_, _/_, _%_, _≤_, _<_}
 use native.Mathlib.Omega.{arith}
 use Rattle.cells.specs.Box.{Triple, Axis, X, Y, Z, triple, coord, each, stride, volume, index, place}
 use lib.ListN.{length, length-append}
-use Rattle.cells.specs.Grid.{sides, cells, odd, order, along, up, voxel, voxelCell}
+use Rattle.cells.specs.Grid.{sides, cells, parity, order, along, upperNeighbours, voxel, voxelCell}
 use Rattle.cells.proofs.BoxLaws.{Inside, index-place, place-index, place-inside, index-inside, raised, lowered, index-raised, index-lowered, lowered-add, coord-each, same-triple}
 
 along-mem : (k p step : ℕ) {q : ℕ} → List·Memᴰ q (along k p step) → (0 < k) × ((q ≡ p - step) ⊎ (q ≡ p + step))
@@ -26,18 +26,18 @@ along-mem (suc k) p step {q} h = (omega arith, go (List·Memᴰ·cases-cons h))
 -- q is one step from p along an axis on which p is odd
 pub record Beside (e : Triple) (p q : ℕ) : Type 0 where
   pub axis : Axis
-  pub odd-there : 0 < odd e p axis
+  pub odd-there : 0 < parity e p axis
   pub way : (q ≡ p - stride (sides e) axis) ⊎ (q ≡ p + stride (sides e) axis)
 
-pub up-beside : (e : Triple) (p : ℕ) {q : ℕ} → List·Memᴰ q (up e p) → Beside e p q
-unfolding up
+pub up-beside : (e : Triple) (p : ℕ) {q : ℕ} → List·Memᴰ q (upperNeighbours e p) → Beside e p q
+unfolding upperNeighbours
 up-beside e p {q} h = last (List·Memᴰ·append-cases (on X ++ on Y) h)
   where
     on : Axis → List ℕ
-    on a = along (odd e p a) p (stride (sides e) a)
+    on a = along (parity e p a) p (stride (sides e) a)
 
     at : (a : Axis) → List·Memᴰ q (on a) → Beside e p q
-    at a m = let r = along-mem (odd e p a) p (stride (sides e) a) m in record { axis = a; odd-there = r .0; way = r .1 }
+    at a m = let r = along-mem (parity e p a) p (stride (sides e) a) m in record { axis = a; odd-there = r .0; way = r .1 }
 
     first-two : List·Memᴰ q (on X) ⊎ List·Memᴰ q (on Y) → Beside e p q
     first-two (inl m) = at X m
@@ -48,8 +48,8 @@ up-beside e p {q} h = last (List·Memᴰ·append-cases (on X ++ on Y) h)
     last (inr m) = at Z m
 
 -- the parity of a place's coordinates gives the order of its cell
-pub odd-at : (e c : Triple) → Inside (sides e) c → (a : Axis) → odd e (index (sides e) c) a ≡ coord c a % 2
-unfolding odd
+pub odd-at : (e c : Triple) → Inside (sides e) c → (a : Axis) → parity e (index (sides e) c) a ≡ coord c a % 2
+unfolding parity
 odd-at e c i a = rw (place-index (sides e) c (i X) (i Y) a)
 
 order-at : (e c : Triple) → Inside (sides e) c → order e (index (sides e) c) ≡ 3 - (c .x % 2 + c .y % 2 + c .z % 2)
@@ -91,12 +91,12 @@ unfolding cells
 inside e p h = place-inside (sides e) p h
 
 -- an odd coordinate is neither the first nor the last
-pub low-side : (e : Triple) (p : ℕ) (a : Axis) → 0 < odd e p a → 0 < coord (place (sides e) p) a
-unfolding odd
+pub low-side : (e : Triple) (p : ℕ) (a : Axis) → 0 < parity e p a → 0 < coord (place (sides e) p) a
+unfolding parity
 low-side e p a o = omega arith
 
-pub high-side : (e : Triple) (p : ℕ) (a : Axis) → p < cells e → 0 < odd e p a → suc (coord (place (sides e) p) a) < coord (sides e) a
-unfolding odd
+pub high-side : (e : Triple) (p : ℕ) (a : Axis) → p < cells e → 0 < parity e p a → suc (coord (place (sides e) p) a) < coord (sides e) a
+unfolding parity
 high-side e p a h o = omega (arith, side-on e a, inside e p h a)
 
 order-raised : (c : Triple) (a : Axis) → 0 < coord c a % 2
@@ -123,7 +123,7 @@ unfolding cells
 at-place e p c i o = record { within = index-inside (sides e) c i; higher = order-at e c i ∙ o }
 
 beside-upper : (e : Triple) (p : ℕ) {q : ℕ} → p < cells e → Beside e p q → Upper e p q
-unfolding order odd
+unfolding order parity
 beside-upper e p {q} h b = go (b .way)
   where
     s : Triple
@@ -143,19 +143,19 @@ beside-upper e p {q} h b = go (b .way)
         let at : index s (raised a c) ≡ q = index-raised s c a ∙ ap (λ (n : ℕ). n + stride s a) (index-place s p) ∙ sym w in
         subst (Upper e p) at (at-place e p (raised a c) (raised-inside s c a (inside e p h) (high-side e p a h (b .odd-there))) (order-raised c a (b .odd-there)))
 
-pub upper : (e : Triple) (p : ℕ) {q : ℕ} → p < cells e → List·Memᴰ q (up e p) → Upper e p q
-upper e p h m = beside-upper e p h (up-beside e p m)
+pub upper-neighbour : (e : Triple) (p : ℕ) {q : ℕ} → p < cells e → List·Memᴰ q (upperNeighbours e p) → Upper e p q
+upper-neighbour e p h m = beside-upper e p h (up-beside e p m)
 
 -- ---- steps along an odd axis stay in the grid
 
-pub odd-lt : (e : Triple) (p : ℕ) (a : Axis) → odd e p a < 2
-unfolding odd
+pub odd-lt : (e : Triple) (p : ℕ) (a : Axis) → parity e p a < 2
+unfolding parity
 odd-lt e p a = omega arith
 
-pub axis-down : (e : Triple) (p : ℕ) (a : Axis) → 0 < odd e p a → stride (sides e) a ≤ p
+pub axis-down : (e : Triple) (p : ℕ) (a : Axis) → 0 < parity e p a → stride (sides e) a ≤ p
 axis-down e p a o = omega (arith, lowered-add (sides e) (place (sides e) p) a (low-side e p a o), index-place (sides e) p)
 
-pub axis-up : (e : Triple) (p : ℕ) (a : Axis) → p < cells e → 0 < odd e p a → p + stride (sides e) a < cells e
+pub axis-up : (e : Triple) (p : ℕ) (a : Axis) → p < cells e → 0 < parity e p a → p + stride (sides e) a < cells e
 unfolding cells
 axis-up e p a h o =
     let s = sides e in
@@ -169,12 +169,12 @@ unfolding along
 length-along zero p t h = refl
 length-along (suc k) p t h = omega arith
 
-pub length-up : (e : Triple) (p : ℕ) → length (up e p) ≡ 6 - 2 * order e p
-unfolding up order
+pub length-up : (e : Triple) (p : ℕ) → length (upperNeighbours e p) ≡ 6 - 2 * order e p
+unfolding upperNeighbours order
 length-up e p =
     let s = sides e in
     simp length-append
-    (omega (arith, odd-lt e p X, odd-lt e p Y, odd-lt e p Z, length-along (odd e p X) p (stride s X) (odd-lt e p X), length-along (odd e p Y) p (stride s Y) (odd-lt e p Y), length-along (odd e p Z) p (stride s Z) (odd-lt e p Z)))
+    (omega (arith, odd-lt e p X, odd-lt e p Y, odd-lt e p Z, length-along (parity e p X) p (stride s X) (odd-lt e p X), length-along (parity e p Y) p (stride s Y) (odd-lt e p Y), length-along (parity e p Z) p (stride s Z) (odd-lt e p Z)))
 
 -- ---- voxels and their cells
 
@@ -213,7 +213,7 @@ voxel-cell e v h =
 
 -- a cell of order 3 is the cell of its voxel
 pub cell-voxel : (e : Triple) (p : ℕ) → p < cells e → order e p ≡ 3 → voxelCell e (voxel e p) ≡ p
-unfolding voxel voxelCell order odd
+unfolding voxel voxelCell order parity
 cell-voxel e p h o =
     ap (index (sides e))
     (same-triple _ _

@@ -6,7 +6,7 @@ use mathlib.Core.List.{List, [], _∷_, _++_, map, map-append}
 use native.Mathlib.Omega.{arith}
 use lib.ListN.{getD, length, length-append}
 use Rattle.cells.specs.Box.{Triple, X, Y, Z, stride}
-use Rattle.cells.specs.Grid.{sides, odd, along, up}
+use Rattle.cells.specs.Grid.{sides, parity, along, upperNeighbours}
 use Rattle.cells.specs.Steps.{stepsAlong, stepsOf, stepAt, pattern, moved}
 use Rattle.cells.proofs.GridLaws.{odd-lt}
 
@@ -44,15 +44,15 @@ pub step-lt : (b k : ℕ) → stepAt b k < 7
 step-lt b = all-steps (λ s. s < 7) b (omega arith) (λ _. omega arith) (λ _. omega arith) (λ _. omega arith)
 
 module _ (e : Triple) (p : ℕ) where
-  pub bit-x : pattern e p % 2 ≡ odd e p X
+  pub bit-x : pattern e p % 2 ≡ parity e p X
   unfolding pattern
   bit-x = omega (arith, odd-lt e p X, odd-lt e p Y, odd-lt e p Z)
 
-  pub bit-y : pattern e p / 2 % 2 ≡ odd e p Y
+  pub bit-y : pattern e p / 2 % 2 ≡ parity e p Y
   unfolding pattern
   bit-y = omega (arith, odd-lt e p X, odd-lt e p Y, odd-lt e p Z)
 
-  pub bit-z : pattern e p / 4 % 2 ≡ odd e p Z
+  pub bit-z : pattern e p / 4 % 2 ≡ parity e p Z
   unfolding pattern
   bit-z = omega (arith, odd-lt e p X, odd-lt e p Y, odd-lt e p Z)
 
@@ -68,11 +68,11 @@ module _ (e : Triple) (p : ℕ) where
   on-axis (suc k) s t d u = rw (d, u)
 
   -- the upper neighbours, by the steps of the pattern
-  pub up-steps : up e p ≡ map (moved w wh p) (stepsOf (pattern e p))
-  unfolding up moved stride
+  pub up-steps : upperNeighbours e p ≡ map (moved w wh p) (stepsOf (pattern e p))
+  unfolding upperNeighbours moved stride
   up-steps =
       rw (bit-x, bit-y, bit-z, map-append, map-append)
-      (ap₂ {C = List ℕ} (λ k l. k ++ l) (ap₂ {C = List ℕ} (λ k l. k ++ l) (on-axis (odd e p X) 1 1 refl refl) (on-axis (odd e p Y) 3 w refl refl)) (on-axis (odd e p Z) 5 wh refl refl))
+      (ap₂ {C = List ℕ} (λ k l. k ++ l) (ap₂ {C = List ℕ} (λ k l. k ++ l) (on-axis (parity e p X) 1 1 refl refl) (on-axis (parity e p Y) 3 w refl refl)) (on-axis (parity e p Z) 5 wh refl refl))
 
 length-along : (t s : ℕ) → length (stepsAlong t s) ≤ 2
 length-along zero s = omega arith

@@ -12,12 +12,12 @@ unfoldable pub cells : Triple → ℕ
 cells e = volume (sides e)
 
 -- 1 where the coordinate of cell p on an axis is odd, and else 0.
-unfoldable pub odd : Triple → ℕ → Axis → ℕ
-odd e p a = coord (place (sides e) p) a % 2
+unfoldable pub parity : Triple → ℕ → Axis → ℕ
+parity e p a = coord (place (sides e) p) a % 2
 
 -- "A cell with k odd coordinates has order 3−k": 3 is a voxel, 2 a face cell, 1 a curve cell, 0 a point cell.
 unfoldable pub order : Triple → ℕ → ℕ
-order e p = 3 - (odd e p X + odd e p Y + odd e p Z)
+order e p = 3 - (parity e p X + parity e p Y + parity e p Z)
 
 -- "Voxel (i,j,k) is cell (2i,2j,2k)": the cell of the voxel at place v of the code list.
 unfoldable pub voxelCell : Triple → ℕ → ℕ
@@ -33,5 +33,5 @@ along zero p step = []
 along (suc k) p step = (p - step) ∷ (p + step) ∷ []
 
 -- "The upper neighbours of a cell are its neighbours, one step along an odd axis" (document 003, Definition 1).
-unfoldable pub up : Triple → ℕ → List ℕ
-up e p = along (odd e p X) p (stride (sides e) X) ++ along (odd e p Y) p (stride (sides e) Y) ++ along (odd e p Z) p (stride (sides e) Z)
+unfoldable pub upperNeighbours : Triple → ℕ → List ℕ
+upperNeighbours e p = along (parity e p X) p (stride (sides e) X) ++ along (parity e p Y) p (stride (sides e) Y) ++ along (parity e p Z) p (stride (sides e) Z)

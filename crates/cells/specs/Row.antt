@@ -8,7 +8,7 @@ use lib.Dec.{eqb}
 use lib.ListN.{getD}
 use Rattle.lists.specs.Lists.{keep}
 use Rattle.cells.specs.Box.{Triple}
-use Rattle.cells.specs.Grid.{up}
+use Rattle.cells.specs.Grid.{upperNeighbours}
 
 -- How often v occurs.
 abbrev pub occurrences : ℕ → List ℕ → ℕ
@@ -24,9 +24,9 @@ abbrev pub insertAscending : ℕ → List ℕ → List ℕ
 insertAscending x [] = x ∷ []
 insertAscending x (y ∷ ys) = min x y ∷ insertAscending (max x y) ys
 
-abbrev pub sort : List ℕ → List ℕ
-sort [] = []
-sort (x ∷ xs) = insertAscending x (sort xs)
+abbrev pub sortAscending : List ℕ → List ℕ
+sortAscending [] = []
+sortAscending (x ∷ xs) = insertAscending x (sortAscending xs)
 
 -- The first n entries, filled with zeros.
 abbrev pub padTo : ℕ → List ℕ → List ℕ
@@ -36,11 +36,11 @@ padTo (suc n) (x ∷ xs) = x ∷ padTo n xs
 
 -- The row of a list of numbers.
 unfoldable pub rowOf : List ℕ → List ℕ
-rowOf xs = padTo 6 (sort (keep (once xs) xs))
+rowOf xs = padTo 6 (sortAscending (keep (once xs) xs))
 
 -- The row of a cell over the map m. A voxel has no upper neighbours, so its row is six zeros.
 unfoldable pub row : Triple → List ℕ → ℕ → List ℕ
-row e m p = rowOf (map (λ q. getD m q 0) (up e p))
+row e m p = rowOf (map (λ q. getD m q 0) (upperNeighbours e p))
 
 -- A row has an entry.
 unfoldable pub occupied : List ℕ → Bool

@@ -7,11 +7,11 @@ use mathlib.Core.List.{List, [], _∷_, _++_}
 use lib.Dec.{eqb}
 use lib.ListN.{getD}
 use Rattle.cells.specs.Box.{Triple, X, Y, Z}
-use Rattle.cells.specs.Grid.{odd}
+use Rattle.cells.specs.Grid.{parity}
 
 -- Which axes of cell p are odd: bit 0 for x, bit 1 for y, bit 2 for z.
 unfoldable pub pattern : Triple → ℕ → ℕ
-pattern e p = odd e p X + 2 * odd e p Y + 4 * odd e p Z
+pattern e p = parity e p X + 2 * parity e p Y + 4 * parity e p Z
 
 -- Both steps along an axis, where it is odd.
 abbrev pub stepsAlong : ℕ → ℕ → List ℕ
@@ -27,9 +27,9 @@ abbrev pub stepAt : ℕ → ℕ → ℕ
 stepAt b k = getD (stepsOf b) k 0
 
 -- How far a step goes, where a line of the grid has w cells and a layer wh.
-abbrev pub reach : ℕ → ℕ → ℕ → ℕ
-reach w wh s = getD (0 ∷ 1 ∷ 1 ∷ w ∷ w ∷ wh ∷ wh ∷ []) s 0
+abbrev pub stepLength : ℕ → ℕ → ℕ → ℕ
+stepLength w wh s = getD (0 ∷ 1 ∷ 1 ∷ w ∷ w ∷ wh ∷ wh ∷ []) s 0
 
 -- Where a step leads from position p.
 unfoldable pub moved : ℕ → ℕ → ℕ → ℕ → ℕ
-moved w wh p s = cond (eqb (s % 2) 0) (p + reach w wh s) (p - reach w wh s)
+moved w wh p s = cond (eqb (s % 2) 0) (p + stepLength w wh s) (p - stepLength w wh s)

@@ -11,7 +11,7 @@ use lib.Dec.{eqb, leb, ltb}
 use borrow.Author.Tests.{eq-eqb, eqb-true, leb-true, leb-false, ltb-true, ltb-false}
 use Rattle.closure.specs.Joined.{Edge, Linked, stay, along, back, via}
 use Rattle.closure.specs.Numbered.{countBelow, leader, numberBy, label}
-use Rattle.lists.proofs.Cases.{by-test, and-left, and-right}
+use Rattle.lists.proofs.Cases.{by-test, and-first, and-second}
 
 -- ---- `count`
 
@@ -92,10 +92,10 @@ pub record Nth (p : ℕ → Bool) (n k : ℕ) : Type 0 where
   pub passes : p at ≡ true
   pub before : countBelow p at ≡ k
 
-pub nth : (p : ℕ → Bool) (n k : ℕ) → k < countBelow p n → Nth p n k
+pub nth-passes : (p : ℕ → Bool) (n k : ℕ) → k < countBelow p n → Nth p n k
 unfolding countBelow
-nth p zero k h = absurd (omega arith)
-nth p (suc n) k h = go (p n) refl (λ l. nth p n k l)
+nth-passes p zero k h = absurd (omega arith)
+nth-passes p (suc n) k h = go (p n) refl (λ l. nth-passes p n k l)
   where
     later : Nth p n k → Nth p (suc n) k
     later r = record { at = r .at; less = omega (arith, r .less); passes = r .passes; before = r .before }
@@ -147,10 +147,10 @@ module _ (f : ℕ → ℕ) (act : ℕ → Bool) (H : Leaders f act) where
   pub label-earlier : (x k : ℕ) → act x ≡ true → 0 < k → k < label f act x → (q : ℕ) × (q < x) × (act q ≡ true) × (label f act q ≡ k)
   unfolding leader
   label-earlier x k a h l =
-      let r : Nth (leader f act) (f x) (k - 1) = nth (leader f act) (f x) (k - 1) (omega (arith, label-is x a)) in
+      let r : Nth (leader f act) (f x) (k - 1) = nth-passes (leader f act) (f x) (k - 1) (omega (arith, label-is x a)) in
       let q = r .at in
-      let b : act q ≡ true = and-left (act q) (eqb (f q) q) (r .passes) in
-      let g : f q ≡ q = eqb-true (f q) q (and-right (act q) (eqb (f q) q) (r .passes)) in
+      let b : act q ≡ true = and-first (act q) (eqb (f q) q) (r .passes) in
+      let g : f q ≡ q = eqb-true (f q) q (and-second (act q) (eqb (f q) q) (r .passes)) in
       (q, omega (arith, r .less, H .low x), b, omega (arith, label-leader q g b, r .before))
 
   -- No number of the first n ids is above the count of their leaders, which is one of them.
@@ -163,8 +163,8 @@ module _ (f : ℕ → ℕ) (act : ℕ → Bool) (H : Leaders f act) where
   pub label-last : (n : ℕ) → 0 < countBelow (leader f act) n → (q : ℕ) × (q < n) × (act q ≡ true) × (label f act q ≡ countBelow (leader f act) n)
   unfolding leader
   label-last n h =
-      let r : Nth (leader f act) n (countBelow (leader f act) n - 1) = nth (leader f act) n (countBelow (leader f act) n - 1) (omega arith) in
+      let r : Nth (leader f act) n (countBelow (leader f act) n - 1) = nth-passes (leader f act) n (countBelow (leader f act) n - 1) (omega arith) in
       let q = r .at in
-      let b : act q ≡ true = and-left (act q) (eqb (f q) q) (r .passes) in
-      let g : f q ≡ q = eqb-true (f q) q (and-right (act q) (eqb (f q) q) (r .passes)) in
+      let b : act q ≡ true = and-first (act q) (eqb (f q) q) (r .passes) in
+      let g : f q ≡ q = eqb-true (f q) q (and-second (act q) (eqb (f q) q) (r .passes)) in
       (q, r .less, b, omega (arith, label-leader q g b, r .before))

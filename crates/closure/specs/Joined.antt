@@ -21,17 +21,17 @@ pub data Linked (es : List Edge) : ℕ → ℕ → Type 0 where
   via : {x y z : ℕ} → Linked es x y → Linked es y z → Linked es x z
 
 -- The larger of p and q becomes the smaller; every other id stays.
-unfoldable pub merge : ℕ → ℕ → ℕ → ℕ
-merge p q v = cond (eqb v (max p q)) (min p q) v
+unfoldable pub mergeIds : ℕ → ℕ → ℕ → ℕ
+mergeIds p q v = cond (eqb v (max p q)) (min p q) v
 
 -- The classes of f, with those of a and b made one.
-unfoldable pub join : (ℕ → ℕ) → ℕ → ℕ → ℕ → ℕ
-join f a b x = merge (f a) (f b) (f x)
+unfoldable pub joinClasses : (ℕ → ℕ) → ℕ → ℕ → ℕ → ℕ
+joinClasses f a b x = mergeIds (f a) (f b) (f x)
 
 -- f with every edge of the list joined, in the order of the list.
 unfoldable pub joins : (ℕ → ℕ) → List Edge → ℕ → ℕ
 joins f [] x = f x
-joins f (e ∷ es) x = joins (join f (e .from) (e .to)) es x
+joins f (e ∷ es) x = joins (joinClasses f (e .from) (e .to)) es x
 
 -- The least id of the class of x, where the list's edges are joined.
 unfoldable pub rep : List Edge → ℕ → ℕ

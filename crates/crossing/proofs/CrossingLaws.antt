@@ -8,7 +8,7 @@ use native.Mathlib.Omega.{arith}
 use lib.Dec.{eqb}
 use borrow.Author.Tests.{eqb-true, eqb-false, eq-eqb, ne-eqb, not-true, not-false}
 use Rattle.lists.specs.Lists.{consecutive, allOf}
-use Rattle.lists.proofs.Cases.{by-test, and-left}
+use Rattle.lists.proofs.Cases.{by-test, and-first}
 use Rattle.lists.proofs.Lists.{consecutive-in, consecutive-out}
 use Rattle.lists.proofs.Tests.{all-in, all-out}
 use Rattle.union_find.specs.Links.{root}
@@ -26,7 +26,7 @@ use Rattle.steps.specs.declared.Entry.{Entry}
 use Rattle.steps.specs.Steps.{reachedOf, entryOf, mapStandsIn, linksStandIn, Advanced}
 use Rattle.steps.proofs.StepLaws.{or-first, or-then, reached-passed}
 use Rattle.crossing.specs.declared.Sizes.{Sizes}
-use Rattle.crossing.specs.Inner.{traysFit, crossedBut, numberable, standIn, restOf, refusalOf, JoinReady, TalliesFit, CurvesJoined}
+use Rattle.crossing.specs.Inner.{traysFit, crossedBut, numberable, standIn, laterRefusal, refusalOf, JoinReady, TalliesFit, CurvesJoined}
 
 -- ---- loops that ask the same of each of the first places
 
@@ -93,7 +93,7 @@ module _ (k : Cutting) (b : ℕ) (r : Block) (T : Tells k b r) (count : ℕ) (ma
 
 pub map-length : (e : Triple) (count faces curves : ℕ) (z : Sizes) (u : Bool) → u ≡ traysFit count e faces curves z → not u ≡ false → (n : ℕ) → z .map ≡ n → n ≡ cells e
 unfolding traysFit
-map-length e count faces curves z u h p n q = sym q ∙ eqb-true _ _ (and-left (eqb (z .map) (cells e)) _ (sym h ∙ not-false u p))
+map-length e count faces curves z u h p n q = sym q ∙ eqb-true _ _ (and-first (eqb (z .map) (cells e)) _ (sym h ∙ not-false u p))
 
 -- ---- the ladder of refusals
 
@@ -106,7 +106,7 @@ module _ (j : Job) (cx cy cz ticks : List ℕ) (z : Sizes) (table rows fl cl : L
   unfolding refusalOf
   cross-first q = rw (← f, ← e) (or-first r _ q)
 
-  pub cross-rest : r ≡ 0 → (x : ℕ) → x ≡ restOf (jobOf j cx cy cz) ticks z table rows fl cl b m → Refuses x
+  pub cross-rest : r ≡ 0 → (x : ℕ) → x ≡ laterRefusal (jobOf j cx cy cz) ticks z table rows fl cl b m → Refuses x
   unfolding refusalOf
   cross-rest q x h = rw (← f, ← e) (or-then r _ x q h)
 

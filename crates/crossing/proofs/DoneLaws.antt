@@ -10,16 +10,16 @@ use lib.Dec.{eqb}
 use lib.ListN.{getD, length}
 use borrow.Author.Tests.{eqb-true, eqb-false, not-true, not-false, ltb-true}
 use Rattle.lists.specs.Lists.{consecutive, allOf}
-use Rattle.lists.proofs.Cases.{and-left}
+use Rattle.lists.proofs.Cases.{and-first}
 use Rattle.cells.specs.Grid.{cells}
 use Rattle.cutting.specs.Cutting.{Cutting, blocks, blockExtents}
 use Rattle.cutting.proofs.CutLaws.{block-sized}
-use Rattle.joiner.specs.Job.{Kind, Face, Curve, Point, Stage, Points, Tables, State, tray, sameStage, stageNumber, fromOf, ticked, fits, blockTrays, linkTrays, foundTrays, numberTrays, firstTrays, listedTrays, kindTrays}
+use Rattle.joiner.specs.Job.{Kind, Face, Curve, Point, Stage, Points, Tables, State, tray, sameStage, stageNumber, fromOf, ticked, lengthsFit, blockTrays, linkTrays, foundTrays, numberTrays, firstTrays, listedTrays, kindTrays}
 use Rattle.joiner.specs.Job as joiner
 use Rattle.joiner.specs.Stages.{crossingStep, finished, stepsOf}
 use Rattle.joiner.specs.Calls.{cross, answer, mapsFit}
 use Rattle.joiner.specs.Declines.{adds, allLinksStand, lastCrossing, lentTo, mapStands, refusal, rowsStand, standsFor, talliesFit}
-use Rattle.joiner.specs.Entries.{CrossingDone, NumberedKind, Step, Merged, AtCrossing, Ticked, classOf, rowFinal}
+use Rattle.joiner.specs.Entries.{CrossingDone, NumberedKind, CallStep, Merged, AtCrossing, Ticked, classOf, rowFinal}
 use Rattle.joiner.proofs.Accepted.{stage-same}
 use Rattle.model.proofs.Facts.{Facts, facts, fits-at, tally-fits, faces-stand, curves-stand}
 use Rattle.crossings.proofs.MergeLaws.{crossing-merged}
@@ -33,7 +33,7 @@ use Rattle.steps.specs.Steps.{reachedOf, lateOf, entryOf, linksStandIn, mapStan
 use Rattle.steps.proofs.StepLaws.{or-none, or-six, six-none, refusal-reached, late-none, few-of, stands-is, links-is, ticked-by, numbered-kept, step-refused, step-accepted}
 use Rattle.crossing.specs.declared.Totals.{Totals}
 use Rattle.crossing.proofs.CrossingLaws.{map-length}
-use Rattle.crossing.specs.Inner.{lent, sizesOf, kindFits, traysFit, crossedBut, lastIn, rowsIn, allReady, numberable, standIn, restOf, refusalOf, Ready, JoinReady, TalliesFit, CurvesJoined, KindRoom, BothNumbered}
+use Rattle.crossing.specs.Inner.{lent, sizesOf, kindFits, traysFit, crossedBut, lastIn, rowsIn, allReady, numberable, standIn, laterRefusal, refusalOf, Ready, JoinReady, TalliesFit, CurvesJoined, KindRoom, BothNumbered}
 
 and-three : (a b c d : Bool) → (a && (b && (c && d))) ≡ ((a && (b && c)) && d)
 and-three true true c d = refl
@@ -64,7 +64,7 @@ module _ (s : State) (b : ℕ) (m : List ℕ) where
 
   -- ---- the tests by lengths are the joiner's
 
-  trays-is : (mapsFit k (cross b m) && fits (lentTo (s .job .told) (s .tables) (cross b m)))
+  trays-is : (mapsFit k (cross b m) && lengthsFit (lentTo (s .job .told) (s .tables) (cross b m)))
       ≡ traysFit (blocks k) (blockExtents k b) (s .job .told .entries Face) (s .job .told .entries Curve) (sizesOf (s .tables) (length m))
   unfolding blockTrays linkTrays kindTrays foundTrays numberTrays firstTrays listedTrays traysFit kindFits
   trays-is =
@@ -72,8 +72,8 @@ module _ (s : State) (b : ℕ) (m : List ℕ) where
       let t = s .tables in
       ap (λ (x : Bool). mapsFit k (cross b m) && x)
       (fits-append (blockTrays o t) (linkTrays o t ++ kindTrays o t Face ++ kindTrays o t Curve) ∙
-      ap (λ (x : Bool). fits (blockTrays o t) && x)
-      (fits-append (linkTrays o t) (kindTrays o t Face ++ kindTrays o t Curve) ∙ ap (λ (x : Bool). fits (linkTrays o t) && x) (fits-append (kindTrays o t Face) (kindTrays o t Curve))))
+      ap (λ (x : Bool). lengthsFit (blockTrays o t) && x)
+      (fits-append (linkTrays o t) (kindTrays o t Face ++ kindTrays o t Curve) ∙ ap (λ (x : Bool). lengthsFit (linkTrays o t) && x) (fits-append (kindTrays o t Face) (kindTrays o t Curve))))
 
   last-is : lastCrossing s b ≡ lastIn (s .tables .ticks) b (blocks k)
   unfolding lastCrossing finished stepsOf crossingStep ticked tickedIn lastIn crossedBut
@@ -97,9 +97,9 @@ module _ (s : State) (b : ℕ) (m : List ℕ) where
       (and-three (talliesFit (s .job)) (mapStandsIn (blockExtents k b) (entryOf (s .tables .blocks) b) (s .job .told .entries Face) (s .job .told .entries Curve) m)
       (linksStandIn (entryOf (s .tables .blocks) b) (s .tables .links Face) (s .tables .links Curve)) last-part)
 
-  none : (κ : Kind) → adds s (cross b m) κ ≡ 0
+  none-added : (κ : Kind) → adds s (cross b m) κ ≡ 0
   unfolding adds
-  none κ = refl
+  none-added κ = refl
 
   adds-none : (κ : Kind) → adds s (cross b m) κ ≡ byKind 0 0 0 κ
   unfolding adds
@@ -108,35 +108,35 @@ module _ (s : State) (b : ℕ) (m : List ℕ) where
   adds-none Point = refl
 
   pub refusal-is : refusal s (cross b m) ≡ refusalOf (s .job) (s .tables .ticks) (sizesOf (s .tables) (length m)) (s .tables .blocks) (s .tables .rows Curve) (s .tables .links Face) (s .tables .links Curve) b m
-  unfolding refusalOf restOf lateOf ticked tickedIn crossingStep
-  refusal-is = refusal-reached s (cross b m) refl b (6 * b + 4) refl refl ∙ rw (← in-two first-part last-part, ← trays-is, ← stand-is, ← late-none s (cross b m) none false)
+  unfolding refusalOf laterRefusal lateOf ticked tickedIn crossingStep
+  refusal-is = refusal-reached s (cross b m) refl b (6 * b + 4) refl refl ∙ rw (← in-two first-part last-part, ← trays-is, ← stand-is, ← late-none s (cross b m) none-added false)
 
   -- ---- what an accepted step has passed
 
   module _ (acc : Ready s b m) where
-    F : Facts s (cross b m)
-    F = facts s (cross b m) (refusal-is ∙ acc .none)
+    call-facts : Facts s (cross b m)
+    call-facts = facts s (cross b m) (refusal-is ∙ acc .none)
 
     at : (i : ℕ) → getD (lentTo (s .job .told) (s .tables) (cross b m)) i (tray 0 0) .has ≡ getD (lentTo (s .job .told) (s .tables) (cross b m)) i (tray 0 0) .states
-    at i = fits-at (lentTo (s .job .told) (s .tables) (cross b m)) i (F .lent)
+    at i = fits-at (lentTo (s .job .told) (s .tables) (cross b m)) i (call-facts .lent)
 
     tally : (κ : Kind) → s .job .sofar κ ≤ s .job .told .entries κ
-    tally = tally-fits (s .job) (F .tallies)
+    tally = tally-fits (s .job) (call-facts .tallies)
 
     stands : mapStands s (blockExtents k b) b m ≡ true
-    stands = and-left (mapStands s (blockExtents k b) b m) _ (F .stands)
+    stands = and-first (mapStands s (blockExtents k b) b m) _ (call-facts .stands)
 
     trays-fit : traysFit (blocks k) (blockExtents k b) (s .job .told .entries Face) (s .job .told .entries Curve) (sizesOf (s .tables) (length m)) ≡ true
-    unfolding refusalOf restOf
+    unfolding refusalOf laterRefusal
     trays-fit =
         let r = or-none (reachedOf (s .job) joiner.Crossing (s .tables .ticks) b (6 * b + 4)) _ (acc .none) .1 in
         six-none _ (or-none _ _ (sym (or-six (traysFit (blocks k) (blockExtents k b) (s .job .told .entries Face) (s .job .told .entries Curve) (sizesOf (s .tables) (length m))) _) ∙ r) .0)
 
-    whole : length m ≡ cells (blockExtents k b)
-    whole = map-length (blockExtents k b) (blocks k) _ _ (sizesOf (s .tables) (length m)) _ refl (ap not trays-fit) (length m) refl
+    map-whole : length m ≡ cells (blockExtents k b)
+    map-whole = map-length (blockExtents k b) (blocks k) _ _ (sizesOf (s .tables) (length m)) _ refl (ap not trays-fit) (length m) refl
 
     there : b < blocks k
-    there = ltb-true b (blocks k) (F .at)
+    there = ltb-true b (blocks k) (call-facts .at)
 
     -- what the tick and the joins require
     pub join-ready : s .job .told .entries Face < 4294967296 → s .job .told .entries Curve < 4294967296
@@ -147,10 +147,10 @@ module _ (s : State) (b : ℕ) (m : List ℕ) where
         let cs = curves-stand s (blockExtents k b) b m stands in
         record {
           within = omega (arith, there, at 0);
-          few = few-of k (F .cut);
+          few = few-of k (call-facts .cut);
           trays = record {
-            sized = block-sized k (F .cut) b there;
-            whole = whole;
+            sized = block-sized k (call-facts .cut) b there;
+            whole = map-whole;
             low = omega arith;
             high = omega arith;
             upper = record { most = omega (arith, fs .most, fs .behind, tally Face, at 2); fits = omega (arith, at 2, hf) };
@@ -178,13 +178,13 @@ module _ (s : State) (b : ℕ) (m : List ℕ) where
     told-number : number′ ≡ refusal s (cross b m)
     told-number = e ∙ sym refusal-is
 
-    pub cross-refused : (number′ ≡ 0 → ⊥) → Step s (cross b m) (answer number′ 0 []) s
+    pub cross-refused : (number′ ≡ 0 → ⊥) → CallStep s (cross b m) (answer number′ 0 []) s
     cross-refused = step-refused s (cross b m) number′ told-number
 
     pub ready : number′ ≡ 0 → Ready s b m
     ready z = record { none = sym e ∙ z }
 
-    pub cross-accepted : number′ ≡ 0 → (t : State) → CrossingDone s b m t → Step s (cross b m) (answer 0 0 []) t
+    pub cross-accepted : number′ ≡ 0 → (t : State) → CrossingDone s b m t → CallStep s (cross b m) (answer 0 0 []) t
     cross-accepted z t d = step-accepted s (cross b m) number′ told-number z (answer 0 0 []) t refl (refl, d)
 
 -- ---- what an accepted step leaves
@@ -217,8 +217,8 @@ module _ (j : Job) (cx cy cz ticks ticks′ table fl fl′ cl cl′ fk ck fr cr 
   unfolding fromOf entryOf
   curves-merged = crossing-merged (toldOf j cx cy cz .cutting) (before .tables) b m _ fl _ _ cl cl′ refl refl refl refl (J .crossed .joined)
 
-  kept : (κ : Kind) → jobOf q cx cy cz .numbered κ ≡ jobOf j cx cy cz .numbered κ
-  kept = numbered-kept j cx cy cz ticks ticks′ (6 * b + 4) 0 0 0 q (J .moved)
+  tally-kept : (κ : Kind) → jobOf q cx cy cz .numbered κ ≡ jobOf j cx cy cz .numbered κ
+  tally-kept = numbered-kept j cx cy cz ticks ticks′ (6 * b + 4) 0 0 0 q (J .moved)
 
   abbrev after : List ℕ → List ℕ → List ℕ → List ℕ → List ℕ → List ℕ → Tables
   after fn′ cn′ ff′ cf′ fs′ cs′ = lent ticks′ table fl′ cl′ fk ck fr cr fn′ cn′ ff′ cf′ fs′ cs′
@@ -237,8 +237,8 @@ module _ (j : Job) (cx cy cz ticks ticks′ table fl fl′ cl cl′ fk ck fr cr 
     curves = curves-merged;
     found = λ κ. record { keys = refl; rows = refl };
     last = λ p. absurd (not-stage (job.stageOf (q .stage)) Points (sym e ∙ not-true t n) p);
-    before = λ _. (record { numbered = kept Face; numbers = refl; firsts = refl; listed = refl }, record { numbered = kept Curve; numbers = refl; firsts = refl; listed = refl });
-    points = record { numbered = kept Point; numbers = refl; firsts = refl; listed = refl };
+    before = λ _. (record { numbered = tally-kept Face; numbers = refl; firsts = refl; listed = refl }, record { numbered = tally-kept Curve; numbers = refl; firsts = refl; listed = refl });
+    points = record { numbered = tally-kept Point; numbers = refl; firsts = refl; listed = refl };
   }
 
   -- the last
@@ -266,5 +266,5 @@ module _ (j : Job) (cx cy cz ticks ticks′ table fl fl′ cl cl′ fk ck fr cr 
           found = λ κ. record { keys = refl; rows = refl };
           last = λ _. (faces-numbered, curves-numbered);
           before = λ p. absurd (p (is-stage (job.stageOf (q .stage)) Points (sym e ∙ not-false t n)));
-          points = record { numbered = kept Point; numbers = refl; firsts = refl; listed = refl };
+          points = record { numbered = tally-kept Point; numbers = refl; firsts = refl; listed = refl };
         }

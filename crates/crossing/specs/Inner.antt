@@ -12,7 +12,7 @@ use Rattle.union_find.specs.Links.{root, soundBelow}
 use Rattle.cells.specs.Box.{Triple}
 use Rattle.cells.specs.Grid.{cells}
 use Rattle.cutting.specs.Cutting.{Cutting, intervals, blocks, blockExtents}
-use Rattle.joiner.specs.Job.{Face, Curve, Tables, State, fits}
+use Rattle.joiner.specs.Job.{Face, Curve, Tables, State, lengthsFit}
 use Rattle.joiner.specs.Job as joiner
 use Rattle.joiner.specs.Declines.{talliesFit}
 use Rattle.crossings.specs.Crossings.{crossEdges, Trays, Crossed}
@@ -21,7 +21,7 @@ use Rattle.job.specs.declared.Job.{Job}
 use Rattle.job.specs.Jobs.{tablesOf, toldOf, blockLengths, linkLengths, kindLengths}
 use Rattle.staging.specs.Staging.{tickedIn}
 use Rattle.steps.specs.declared.Entry.{Entry}
-use Rattle.steps.specs.Steps.{orElse, reachedOf, entryOf, mapStandsIn, linksStandIn, Advanced}
+use Rattle.steps.specs.Steps.{firstRefusal, reachedOf, entryOf, mapStandsIn, linksStandIn, Advanced}
 use Rattle.crossing.specs.declared.KindSizes.{KindSizes}
 use Rattle.crossing.specs.declared.Sizes.{Sizes}
 use Rattle.crossing.specs.declared.Totals.{Totals}
@@ -52,14 +52,14 @@ sizesOf t n =
 
 -- The tables of one kind, whose rows have w places, are those of n entries.
 unfoldable pub kindFits : ℕ → ℕ → KindSizes → Bool
-kindFits w n z = fits (kindLengths w n (z .keys) (z .rows) (z .numbers) (z .firsts) (z .listed))
+kindFits w n z = lengthsFit (kindLengths w n (z .keys) (z .rows) (z .numbers) (z .firsts) (z .listed))
 
 -- 6 denies it: the map of a block of e voxels, the tables of so many blocks, the links, and the tables of faces and curves.
 unfoldable pub traysFit : ℕ → Triple → ℕ → ℕ → Sizes → Bool
 traysFit count e faces curves z =
     eqb (z .map) (cells e) &&
-    (fits (blockLengths count (z .ticks) (z .blocks)) &&
-    (fits (linkLengths faces curves (z .«face_links») (z .«curve_links»)) && (kindFits 2 faces (z .faces) && kindFits 4 curves (z .curves))))
+    (lengthsFit (blockLengths count (z .ticks) (z .blocks)) &&
+    (lengthsFit (linkLengths faces curves (z .«face_links») (z .«curve_links»)) && (kindFits 2 faces (z .faces) && kindFits 4 curves (z .curves))))
 
 -- Block x is crossed, or is b.
 unfoldable pub crossedBut : List ℕ → ℕ → ℕ → Bool
@@ -86,8 +86,8 @@ unfoldable pub standIn : Bool → Triple → Entry → ℕ → ℕ → List ℕ 
 standIn tallies e d faces curves m fl cl = tallies && (mapStandsIn e d faces curves m && linksStandIn d fl cl)
 
 -- The refusal of a call that brings a block: 6, 8 or none. 9 and 10 cannot stand.
-unfoldable pub restOf : joiner.Job → List ℕ → Sizes → List ℕ → List ℕ → List ℕ → List ℕ → ℕ → List ℕ → ℕ
-restOf j ticks z table rows fl cl b m =
+unfoldable pub laterRefusal : joiner.Job → List ℕ → Sizes → List ℕ → List ℕ → List ℕ → List ℕ → ℕ → List ℕ → ℕ
+laterRefusal j ticks z table rows fl cl b m =
     let k : Cutting = j .told .cutting in
     cond (not (traysFit (blocks k) (blockExtents k b) (j .told .entries Face) (j .told .entries Curve) z)) 6
     (cond (not (standIn (talliesFit j) (blockExtents k b) (entryOf table b) (j .told .entries Face) (j .told .entries Curve) m fl cl)) 8
@@ -95,7 +95,7 @@ restOf j ticks z table rows fl cl b m =
 
 -- The refusal, 0 for none: the joiner's `refusal`.
 unfoldable pub refusalOf : joiner.Job → List ℕ → Sizes → List ℕ → List ℕ → List ℕ → List ℕ → ℕ → List ℕ → ℕ
-refusalOf j ticks z table rows fl cl b m = orElse (reachedOf j joiner.Crossing ticks b (6 * b + 4)) (restOf j ticks z table rows fl cl b m)
+refusalOf j ticks z table rows fl cl b m = firstRefusal (reachedOf j joiner.Crossing ticks b (6 * b + 4)) (laterRefusal j ticks z table rows fl cl b m)
 
 -- ---- what is stored
 

@@ -35,10 +35,10 @@ ghost use Rattle.cells.specs.Grid.{cells};
 ghost use Rattle.cutting.specs.Cutting.{blocks, goodCut};
 ghost use Rattle.joiner.specs.Calls.{cross, answer};
 ghost use Rattle.joiner.specs.Declines.{talliesFit};
-ghost use Rattle.joiner.specs.Entries.{Step, CrossingDone};
+ghost use Rattle.joiner.specs.Entries.{CallStep, CrossingDone};
 ghost use Rattle.blocks.specs.Blocks.{cutOf, sizeOf};
 ghost use Rattle.job.specs.Jobs.{anyCuts, jobOf, stateOf};
-ghost use Rattle.crossing.specs.Inner.{lent, kindFits, traysFit, crossedBut, lastIn, rowsIn, allReady, numberable, standIn, restOf, refusalOf, Ready, JoinReady, TalliesFit, CurvesJoined, KindRoom, BothNumbered};
+ghost use Rattle.crossing.specs.Inner.{lent, kindFits, traysFit, crossedBut, lastIn, rowsIn, allReady, numberable, standIn, laterRefusal, refusalOf, Ready, JoinReady, TalliesFit, CurvesJoined, KindRoom, BothNumbered};
 
 // What a crossing step answers: the number of its refusal, 0 for none, and the job.
 pub struct Crossed {
@@ -249,7 +249,7 @@ fn rest(
 ) -> u32
     requires { ⌜ (goodCut (cutOf (job .nx) (job .ny) (job .nz) (now cx) (now cy) (now cz)) ≡ true)
         × (b < blocks (cutOf (job .nx) (job .ny) (job .nz) (now cx) (now cy) (now cz))) × (sizes .map ≡ length (now m)) ⌝ }
-    ensures { λ r. ⌜ r ≡ restOf (jobOf job (now (cx .entry)) (now (cy .entry)) (now (cz .entry))) (now (ticks .entry)) sizes (now (table .entry)) (now (rows .entry)) (now («face_links» .entry)) (now («curve_links» .entry)) b (now (m .entry)) ⌝ }
+    ensures { λ r. ⌜ r ≡ laterRefusal (jobOf job (now (cx .entry)) (now (cy .entry)) (now (cz .entry))) (now (ticks .entry)) sizes (now (table .entry)) (now (rows .entry)) (now («face_links» .entry)) (now («curve_links» .entry)) b (now (m .entry)) ⌝ }
 {
     let block = block_at(cx, cy, cz, b as usize);
     let count = block_count(cx, cy, cz);
@@ -476,7 +476,7 @@ pub fn crossing(
     block: u32,
     m: &[u32],
 ) -> Crossed
-    ensures { λ r. ⌜ Step
+    ensures { λ r. ⌜ CallStep
         (stateOf job (now (cx .entry)) (now (cy .entry)) (now (cz .entry))
         (lent (now (ticks .entry)) (now (blocks .entry)) (now («face_links» .entry)) (now («curve_links» .entry)) (now («face_keys» .entry)) (now («curve_keys» .entry)) (now («face_rows» .entry)) (now («curve_rows» .entry))
         (now («face_numbers» .entry)) (now («curve_numbers» .entry)) (now («face_firsts» .entry)) (now («curve_firsts» .entry)) (now («face_listed» .entry)) (now («curve_listed» .entry))))

@@ -11,9 +11,9 @@ use borrow.Author.Tests.{eqb-true, eqb-false}
 use Rattle.lists.proofs.Cases.{by-test}
 use Rattle.union_find.specs.Links.{root}
 use Rattle.cells.specs.Box.{Triple}
-use Rattle.cells.specs.Grid.{cells, order, up}
+use Rattle.cells.specs.Grid.{cells, order, upperNeighbours}
 use Rattle.cells.specs.Row.{padTo}
-use Rattle.cells.proofs.GridLaws.{upper}
+use Rattle.cells.proofs.GridLaws.{upper-neighbour}
 use Rattle.labels.specs.Components.{largest}
 use Rattle.labels.proofs.CountLaws.{largest-bound}
 use Rattle.lines.specs.Lines.{odds, around}
@@ -23,9 +23,9 @@ use Rattle.crossings.specs.Inner.{Read, numbersAt, stridesOf, rowsAlong,
 use Rattle.crossings.proofs.ReadLaws.{kept-roots, kept-then}
 
 -- The number of an upper neighbour has a place.
-pub number-in : (e : Triple) (m : List ℕ) (t from size : ℕ) {q : ℕ} → t < cells e → Room e m (suc (order e t)) from size → List·Memᴰ q (up e t) → from + getD m q 0 ≤ size
+pub number-in : (e : Triple) (m : List ℕ) (t from size : ℕ) {q : ℕ} → t < cells e → Room e m (suc (order e t)) from size → List·Memᴰ q (upperNeighbours e t) → from + getD m q 0 ≤ size
 number-in e m t from size {q} h R i =
-    let u = upper e t h i in
+    let u = upper-neighbour e t h i in
     omega (arith, largest-bound e m q (u .within), ap (largest e m) (u .higher), R .most)
 
 -- the cells one stride down and up stand among those around
@@ -36,7 +36,7 @@ around-in p (r ∷ pre) s post = let i = around-in p pre s post in (List·Memᴰ
 
 module _ (e : Triple) (m : List ℕ) (from size : ℕ) (whole : length m ≡ cells e) where
   module _ (p : ℕ) (h : p < cells e) (pre : List ℕ) (s : ℕ) (post : List ℕ) (o : odds e p ≡ pre ++ s ∷ post) where
-    down-up : List·Memᴰ (p - s) (up e p) × List·Memᴰ (p + s) (up e p)
+    down-up : List·Memᴰ (p - s) (upperNeighbours e p) × List·Memᴰ (p + s) (upperNeighbours e p)
     down-up = rw (up-around e p, o) (around-in p pre s post)
 
     readable-at : Room e m (suc (order e p)) from size → Readable m p s from size
@@ -57,8 +57,8 @@ module _ (e : Triple) (m : List ℕ) (from size : ℕ) (whole : length m ≡ cel
     beside-at R =
         let f = flank-at e t h pre s post o in
         let i = down-up t h pre s post o in
-        let u = upper e t h (i .0) in
-        let v = upper e t h (i .1) in
+        let u = upper-neighbour e t h (i .0) in
+        let v = upper-neighbour e t h (i .1) in
         record {
           low = f .low;
           down = near-at (t - s) (u .within) curve x y (f .below ∙ k) (rw (u .higher) R);
@@ -98,12 +98,12 @@ module _ (e : Triple) (m : List ℕ) (n t a w b : ℕ) (M : Meeting e m n t a w 
 
   -- The numbers in six places.
   module _ (us vs : List ℕ) (x : us ≡ getD m (t - a) 0 ∷ getD m (t + a) 0 ∷ []) (y : vs ≡ getD m (t - b) 0 ∷ getD m (t + b) 0 ∷ []) where
-    pub numbers-two : n ≡ 2 → getD us 0 0 ∷ getD us 1 0 ∷ getD vs 0 0 ∷ getD vs 1 0 ∷ 0 ∷ 0 ∷ [] ≡ padTo 6 (numbersAt m (up e t))
+    pub numbers-two : n ≡ 2 → getD us 0 0 ∷ getD us 1 0 ∷ getD vs 0 0 ∷ getD vs 1 0 ∷ 0 ∷ 0 ∷ [] ≡ padTo 6 (numbersAt m (upperNeighbours e t))
     unfolding numbersAt around
     numbers-two k = rw (up-around e t, two-odd k, x, y)
 
     pub numbers-three : (ws : List ℕ) → ¬ (n ≡ 2) → ws ≡ getD m (t - w) 0 ∷ getD m (t + w) 0 ∷ []
-        → getD us 0 0 ∷ getD us 1 0 ∷ getD ws 0 0 ∷ getD ws 1 0 ∷ getD vs 0 0 ∷ getD vs 1 0 ∷ [] ≡ padTo 6 (numbersAt m (up e t))
+        → getD us 0 0 ∷ getD us 1 0 ∷ getD ws 0 0 ∷ getD ws 1 0 ∷ getD vs 0 0 ∷ getD vs 1 0 ∷ [] ≡ padTo 6 (numbersAt m (upperNeighbours e t))
     unfolding numbersAt around
     numbers-three ws k z = rw (up-around e t, three-odd k, x, y, z)
 
@@ -137,7 +137,7 @@ module _ (e : Triple) (m : List ℕ) (n t a w b : ℕ) (M : Meeting e m n t a w 
       along k l rs pre s post o curve x y q P = P .is ∙ rows-cells e m from size (M .whole) t (M .inside) pre s post o curve x y q (root k)
 
       pub rows-around-two : n ≡ 2 → Read c d us (rowsAlong m (root c) from t a (stridesOf false b b)) → Read d f vs (rowsAlong m (root d) from t b (stridesOf false a a))
-          → Read c f (getD us 0 [] ∷ getD us 1 [] ∷ getD vs 0 [] ∷ getD vs 1 [] ∷ padTo 6 [] ∷ padTo 6 [] ∷ []) (padRows 6 (cellRows e m (root c) from (up e t)))
+          → Read c f (getD us 0 [] ∷ getD us 1 [] ∷ getD vs 0 [] ∷ getD vs 1 [] ∷ padTo 6 [] ∷ padTo 6 [] ∷ []) (padRows 6 (cellRows e m (root c) from (upperNeighbours e t)))
       unfolding cellRows around stridesOf
       rows-around-two k P Q =
           let o = two-odd k in
@@ -148,7 +148,7 @@ module _ (e : Triple) (m : List ℕ) (n t a w b : ℕ) (M : Meeting e m n t a w 
 
       pub rows-around-three : ¬ (n ≡ 2) → Read c d us (rowsAlong m (root c) from t a (stridesOf true w b)) → Read d f vs (rowsAlong m (root d) from t w (stridesOf true a b))
           → Read f g ws (rowsAlong m (root f) from t b (stridesOf true a w))
-          → Read c g (getD us 0 [] ∷ getD us 1 [] ∷ getD vs 0 [] ∷ getD vs 1 [] ∷ getD ws 0 [] ∷ getD ws 1 [] ∷ []) (padRows 6 (cellRows e m (root c) from (up e t)))
+          → Read c g (getD us 0 [] ∷ getD us 1 [] ∷ getD vs 0 [] ∷ getD vs 1 [] ∷ getD ws 0 [] ∷ getD ws 1 [] ∷ []) (padRows 6 (cellRows e m (root c) from (upperNeighbours e t)))
       unfolding cellRows around stridesOf
       rows-around-three k P Q S =
           let o = three-odd k in

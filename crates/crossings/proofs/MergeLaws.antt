@@ -8,12 +8,12 @@ use Prim.Native.Nat.{ℕ, _-_}
 use lib.Dec.{eqb}
 use lib.ListN.{getD}
 use borrow.Author.Tests.{eqb-false, ne-eqb, not-true}
-use Rattle.lists.proofs.Cases.{by-test, and-left, and-right}
+use Rattle.lists.proofs.Cases.{by-test, and-first, and-second}
 use Rattle.closure.specs.Joined.{Edge, edge, joins}
 use Rattle.closure.proofs.Classes.{joins-edge}
 use Rattle.union_find.specs.Links.{root, Rooted}
 use Rattle.cells.specs.Box.{Triple}
-use Rattle.cells.specs.Grid.{up}
+use Rattle.cells.specs.Grid.{upperNeighbours}
 use Rattle.cells.specs.Row.{sameRow}
 use Rattle.cells.proofs.RowLaws.{row-same, same-row}
 use Rattle.labels.specs.Number.{pairs}
@@ -21,7 +21,7 @@ use Rattle.labels.specs.Components.{ofOrder}
 use Rattle.labels.proofs.NumberLaws.{pairs-in, pairs-out}
 use Rattle.cutting.specs.Cutting.{Cutting, blockExtents}
 use Rattle.joiner.specs.Job.{Face, Curve, Tables, fromOf, node}
-use Rattle.joiner.specs.Entries.{AtCrossing, Merged, joined, through, joinedRow}
+use Rattle.joiner.specs.Entries.{AtCrossing, Merged, joined, throughLinks, joinedRow}
 use Rattle.model.proofs.Merging.{joins-merged-by}
 use Rattle.crossings.specs.Crossings.{placeOf, readThrough, numbersThrough, rowThrough, edgeIf, crossPair, crossAt, crossEdges}
 use Rattle.crossings.proofs.FlatLaws.{flat-in, flat-out}
@@ -33,11 +33,11 @@ pub record Crossing (e : Triple) (m : List ℕ) (j : ℕ) (f : ℕ → ℕ) (sta
   pub p : ℕ
   pub q : ℕ
   pub cell : List·Memᴰ at (ofOrder e (j - 1))
-  pub up-p : List·Memᴰ p (up e at)
-  pub up-q : List·Memᴰ q (up e at)
+  pub up-p : List·Memᴰ p (upperNeighbours e at)
+  pub up-q : List·Memᴰ q (upperNeighbours e at)
   pub one : getD m p 0 ≢ 0
   pub two : getD m q 0 ≢ 0
-  pub rows : rowThrough m f start (up e p) ≡ rowThrough m f start (up e q)
+  pub rows : rowThrough m f start (upperNeighbours e p) ≡ rowThrough m f start (upperNeighbours e q)
   pub x-is : x ≡ placeOf from (getD m p 0)
   pub y-is : y ≡ placeOf from (getD m q 0)
 
@@ -59,11 +59,11 @@ unfolding edgeIf
 if-out from x y r s d i =
     by-test (not (eqb x 0) && (not (eqb y 0) && sameRow r s))
     (λ t.
-    let u = and-right (not (eqb x 0)) (not (eqb y 0) && sameRow r s) t in
+    let u = and-second (not (eqb x 0)) (not (eqb y 0) && sameRow r s) t in
     record {
-      one = eqb-false x 0 (not-true (eqb x 0) (and-left (not (eqb x 0)) (not (eqb y 0) && sameRow r s) t));
-      two = eqb-false y 0 (not-true (eqb y 0) (and-left (not (eqb y 0)) (sameRow r s) u));
-      rows = same-row r s (and-right (not (eqb y 0)) (sameRow r s) u);
+      one = eqb-false x 0 (not-true (eqb x 0) (and-first (not (eqb x 0)) (not (eqb y 0) && sameRow r s) t));
+      two = eqb-false y 0 (not-true (eqb y 0) (and-first (not (eqb y 0)) (sameRow r s) u));
+      rows = same-row r s (and-second (not (eqb y 0)) (sameRow r s) u);
       is = List·Memᴰ·eq-of-singleton (rw t at i);
     })
     (λ t. absurd (List·Memᴰ·not-nil (rw t at i)))
@@ -71,22 +71,22 @@ if-out from x y r s d i =
 -- ---- all cells of the order below
 
 module _ (e : Triple) (m : List ℕ) (j : ℕ) (f : ℕ → ℕ) (start from : ℕ) where
-  edge-in : (t p q : ℕ) → List·Memᴰ t (ofOrder e (j - 1)) → List·Memᴰ (edge p q) (pairs (up e t)) → getD m p 0 ≢ 0 → getD m q 0 ≢ 0
-      → rowThrough m f start (up e p) ≡ rowThrough m f start (up e q) → List·Memᴰ (edge (placeOf from (getD m p 0)) (placeOf from (getD m q 0))) (crossEdges e m j f start from)
+  edge-in : (t p q : ℕ) → List·Memᴰ t (ofOrder e (j - 1)) → List·Memᴰ (edge p q) (pairs (upperNeighbours e t)) → getD m p 0 ≢ 0 → getD m q 0 ≢ 0
+      → rowThrough m f start (upperNeighbours e p) ≡ rowThrough m f start (upperNeighbours e q) → List·Memᴰ (edge (placeOf from (getD m p 0)) (placeOf from (getD m q 0))) (crossEdges e m j f start from)
   unfolding crossEdges crossAt crossPair
   edge-in t p q c i h k r =
-      flat-in (crossAt e m f start from) (ofOrder e (j - 1)) c (flat-in (crossPair e m f start from) (pairs (up e t)) i (if-in from (getD m p 0) (getD m q 0) _ _ h k r))
+      flat-in (crossAt e m f start from) (ofOrder e (j - 1)) c (flat-in (crossPair e m f start from) (pairs (upperNeighbours e t)) i (if-in from (getD m p 0) (getD m q 0) _ _ h k r))
 
   -- What crosses is joined.
-  pub crossing-joined : (g : ℕ → ℕ) (t p q : ℕ) → List·Memᴰ t (ofOrder e (j - 1)) → List·Memᴰ p (up e t) → List·Memᴰ q (up e t) → getD m p 0 ≢ 0 → getD m q 0 ≢ 0
-      → rowThrough m f start (up e p) ≡ rowThrough m f start (up e q)
+  pub crossing-joined : (g : ℕ → ℕ) (t p q : ℕ) → List·Memᴰ t (ofOrder e (j - 1)) → List·Memᴰ p (upperNeighbours e t) → List·Memᴰ q (upperNeighbours e t) → getD m p 0 ≢ 0 → getD m q 0 ≢ 0
+      → rowThrough m f start (upperNeighbours e p) ≡ rowThrough m f start (upperNeighbours e q)
       → joins g (crossEdges e m j f start from) (placeOf from (getD m p 0)) ≡ joins g (crossEdges e m j f start from) (placeOf from (getD m q 0))
-  crossing-joined g t p q c u v h k r = go (pairs-in (up e t) u v)
+  crossing-joined g t p q c u v h k r = go (pairs-in (upperNeighbours e t) u v)
     where
       es : List Edge
       es = crossEdges e m j f start from
 
-      go : (p ≡ q) ⊎ (List·Memᴰ (edge p q) (pairs (up e t)) ⊎ List·Memᴰ (edge q p) (pairs (up e t))) → joins g es (placeOf from (getD m p 0)) ≡ joins g es (placeOf from (getD m q 0))
+      go : (p ≡ q) ⊎ (List·Memᴰ (edge p q) (pairs (upperNeighbours e t)) ⊎ List·Memᴰ (edge q p) (pairs (upperNeighbours e t))) → joins g es (placeOf from (getD m p 0)) ≡ joins g es (placeOf from (getD m q 0))
       go (inl s) = ap (λ (z : ℕ). joins g es (placeOf from (getD m z 0))) s
       go (inr (inl i)) = joins-edge es g (edge-in t p q c i h k r)
       go (inr (inr i)) = sym (joins-edge es g (edge-in t q p c i k h (sym r)))
@@ -96,9 +96,9 @@ module _ (e : Triple) (m : List ℕ) (j : ℕ) (f : ℕ → ℕ) (start from : �
   unfolding crossEdges crossAt crossPair
   edge-crossing d i =
       let s = flat-out (crossAt e m f start from) (ofOrder e (j - 1)) i in
-      let u = flat-out (crossPair e m f start from) (pairs (up e (s .0))) (s .2) in
+      let u = flat-out (crossPair e m f start from) (pairs (upperNeighbours e (s .0))) (s .2) in
       let b : Edge = u .0 in
-      let w = pairs-out (up e (s .0)) {p = b .from} {q = b .to} (u .1) in
+      let w = pairs-out (upperNeighbours e (s .0)) {p = b .from} {q = b .to} (u .1) in
       let z = if-out from (getD m (b .from) 0) (getD m (b .to) 0) _ _ d (u .2) in
       record {
         at = s .0;
@@ -121,12 +121,12 @@ module _ (k : Cutting) (t : Tables) (b : ℕ) (m : List ℕ) where
   curves = crossEdges (blockExtents k b) m 1 (root (t .links Face)) (fromOf t Face b) (fromOf t Curve b)
 
   curves-joined : (g : ℕ → ℕ) (x y : ℕ) → AtCrossing k t b m x y → joins g curves x ≡ joins g curves y
-  unfolding joinedRow through node rowThrough numbersThrough readThrough placeOf
+  unfolding joinedRow throughLinks node rowThrough numbersThrough readThrough placeOf
   curves-joined g x y c =
       rw (c .x-is, c .y-is) (crossing-joined (blockExtents k b) m 1 (root (t .links Face)) (fromOf t Face b) (fromOf t Curve b) g (c .at) (c .p) (c .q) (c .cell) (c .up-p) (c .up-q) (c .one) (c .two) (c .rows))
 
   curve-edge : (d : Edge) → List·Memᴰ d curves → AtCrossing k t b m (d .from) (d .to)
-  unfolding joinedRow through node rowThrough numbersThrough readThrough placeOf
+  unfolding joinedRow throughLinks node rowThrough numbersThrough readThrough placeOf
   curve-edge d i =
       let c = edge-crossing (blockExtents k b) m 1 (root (t .links Face)) (fromOf t Face b) (fromOf t Curve b) d i in
       record {

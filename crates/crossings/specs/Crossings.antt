@@ -11,7 +11,7 @@ use Rattle.closure.specs.Joined.{Edge, edge, joins}
 use Rattle.union_find.specs.Links.{root, Rooted}
 use Rattle.cells.specs.Box.{Triple}
 use Rattle.cells.specs.Extents.{Sized}
-use Rattle.cells.specs.Grid.{cells, up}
+use Rattle.cells.specs.Grid.{cells, upperNeighbours}
 use Rattle.cells.specs.Row.{rowOf, sameRow}
 use Rattle.labels.specs.Number.{pairs}
 use Rattle.labels.specs.Components.{ofOrder, largest}
@@ -39,11 +39,11 @@ edgeIf from x y r s = cond (not (eqb x 0) && (not (eqb y 0) && sameRow r s)) (ed
 -- .. between the numbers of two cells. The components of the order above stand from `start` on.
 unfoldable pub crossPair : Triple → List ℕ → (ℕ → ℕ) → ℕ → ℕ → Edge → List Edge
 crossPair e m f start from d =
-    edgeIf from (getD m (d .from) 0) (getD m (d .to) 0) (rowThrough m f start (up e (d .from))) (rowThrough m f start (up e (d .to)))
+    edgeIf from (getD m (d .from) 0) (getD m (d .to) 0) (rowThrough m f start (upperNeighbours e (d .from))) (rowThrough m f start (upperNeighbours e (d .to)))
 
 -- .. between the upper neighbours of cell t, whether t is active or not.
 unfoldable pub crossAt : Triple → List ℕ → (ℕ → ℕ) → ℕ → ℕ → ℕ → List Edge
-crossAt e m f start from t = flatMap (crossPair e m f start from) (pairs (up e t))
+crossAt e m f start from t = flatMap (crossPair e m f start from) (pairs (upperNeighbours e t))
 
 -- Cells of order j meet at the cells of the order below.
 unfoldable pub crossEdges : Triple → List ℕ → ℕ → (ℕ → ℕ) → ℕ → ℕ → List Edge

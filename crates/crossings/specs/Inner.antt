@@ -10,7 +10,7 @@ use Rattle.lists.specs.Lists.{consecutive, keep}
 use Rattle.closure.specs.Joined.{Edge}
 use Rattle.union_find.specs.Links.{root, Rooted}
 use Rattle.cells.specs.Box.{Triple}
-use Rattle.cells.specs.Grid.{sides, cells, order, up}
+use Rattle.cells.specs.Grid.{sides, cells, order, upperNeighbours}
 use Rattle.cells.specs.Row.{padTo}
 use Rattle.lines.specs.Lines.{Strided, around}
 use Rattle.crossings.specs.Crossings.{edgeIf, rowThrough, Room}
@@ -38,7 +38,7 @@ rowsAlong m f from t s ss = activeRow m f from (t - s) (around (t - s) ss) ∷ a
 
 -- .. of cell p of a block.
 unfoldable pub cellRow : Triple → List ℕ → (ℕ → ℕ) → ℕ → ℕ → List ℕ
-cellRow e m f from p = activeRow m f from p (up e p)
+cellRow e m f from p = activeRow m f from p (upperNeighbours e p)
 
 -- .. of the cells ps.
 unfoldable pub cellRows : Triple → List ℕ → (ℕ → ℕ) → ℕ → List ℕ → List (List ℕ)

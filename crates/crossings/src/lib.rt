@@ -17,7 +17,7 @@ ghost use lib.ListN.{length, getD, drop};
 ghost use Rattle.closure.specs.Joined.{joins};
 ghost use Rattle.union_find.specs.Links.{root, Rooted};
 ghost use Rattle.cells.specs.Box.{triple};
-ghost use Rattle.cells.specs.Grid.{order, up};
+ghost use Rattle.cells.specs.Grid.{order, upperNeighbours};
 ghost use Rattle.cells.specs.Row.{padTo};
 ghost use Rattle.lines.specs.Lines.{around, lineCount};
 ghost use Rattle.crossings.specs.Crossings.{readThrough, numbersThrough, edgeIf, crossAt, crossEdges, Room, Trays, Crossed};
@@ -112,7 +112,7 @@ fn rows_around(
     from: u32,
 ) -> [[u32; 6]; 6]
     requires { ⌜ Meeting (triple nx ny nz) (now map) n t a w b × Room (triple nx ny nz) (now map) (suc (suc (order (triple nx ny nz) t))) from (length (now above)) ⌝ }
-    ensures { λ r. ⌜ Read (now (above .entry)) (now (above .exit)) r (padRows 6 (cellRows (triple nx ny nz) (now (map .entry)) (root (now (above .entry))) from (up (triple nx ny nz) t))) ⌝ }
+    ensures { λ r. ⌜ Read (now (above .entry)) (now (above .exit)) r (padRows 6 (cellRows (triple nx ny nz) (now (map .entry)) (root (now (above .entry))) from (upperNeighbours (triple nx ny nz) t))) ⌝ }
 {
     let none = [0u32; 6];
     if n == 2 {
@@ -139,7 +139,7 @@ fn numbers_around(
     b: usize,
 ) -> [u32; 6]
     requires { ⌜ Meeting (triple nx ny nz) (now map) n t a w b ⌝ }
-    ensures { λ r. ⌜ r ≡ padTo 6 (numbersAt (now (map .entry)) (up (triple nx ny nz) t)) ⌝ }
+    ensures { λ r. ⌜ r ≡ padTo 6 (numbersAt (now (map .entry)) (upperNeighbours (triple nx ny nz) t)) ⌝ }
 {
     let u = numbers_along(map, t, a);
     let v = numbers_along(map, t, b);

@@ -13,7 +13,7 @@ use Rattle.cells.specs.Grid.{cells, order}
 use Rattle.cells.specs.Row.{active}
 use Rattle.labels.specs.Components.{firstCell}
 use Rattle.cutting.specs.Cutting.{Cutting, goodCut, blocks, blockExtents, blockCodes, embed}
-use Rattle.cutting.specs.Nodes.{whole, part, Sees, Tied}
+use Rattle.cutting.specs.Nodes.{uncutMap, part, Sees, Tied}
 use Rattle.lists.proofs.Cases.{by-test}
 use Rattle.labels.proofs.LabelLaws.{labels-numbering, numbered-active}
 use Rattle.labels.proofs.ComponentLaws.{Belongs, least-at, belongs-at}
@@ -26,7 +26,7 @@ pub record Earliest (k : Cutting) (codes : List ℕ) (j b n N : ℕ) : Type 0 wh
   pub c : ℕ
   pub o : ℕ
   pub tied : Tied k codes j true b n c o
-  pub is : embed k c (firstCell (blockExtents k c) (part k codes c) j o) ≡ firstCell (k .extents) (whole k codes) j N
+  pub is : embed k c (firstCell (blockExtents k c) (part k codes c) j o) ≡ firstCell (k .extents) (uncutMap k codes) j N
 
 module _ (k : Cutting) (good : goodCut k ≡ true) (codes : List ℕ) (j : ℕ) (lo : 0 < j) (hi : j < 3) where
   -- the first cell of a node, as a cell that the node sees
@@ -45,31 +45,31 @@ module _ (k : Cutting) (good : goodCut k ≡ true) (codes : List ℕ) (j : ℕ) 
 
   -- the component begins nowhere later than a node of it
   pub node-first : {b n p : ℕ} → Sees k codes j b n p
-      → firstCell (k .extents) (whole k codes) j (getD (whole k codes) (embed k b p) 0) ≤ embed k b (firstCell (blockExtents k b) (part k codes b) j n)
+      → firstCell (k .extents) (uncutMap k codes) j (getD (uncutMap k codes) (embed k b p) 0) ≤ embed k b (firstCell (blockExtents k b) (part k codes b) j n)
   node-first {b} {n} {p} s =
       let f = first-seen s in
-      least-at (k .extents) (whole k codes) j (getD (whole k codes) (embed k b p) 0) (embed k b (firstCell (blockExtents k b) (part k codes b) j n))
+      least-at (k .extents) (uncutMap k codes) j (getD (uncutMap k codes) (embed k b p) 0) (embed k b (firstCell (blockExtents k b) (part k codes b) j n))
       (sees-in k good codes j lo hi f) (sees-order k good codes j lo hi f) (node-same k good codes j lo hi f s)
 
   -- and it begins where one of its nodes does
-  pub first-node : {b n p : ℕ} → Sees k codes j b n p → Earliest k codes j b n (getD (whole k codes) (embed k b p) 0)
+  pub first-node : {b n p : ℕ} → Sees k codes j b n p → Earliest k codes j b n (getD (uncutMap k codes) (embed k b p) 0)
   first-node {b} {n} {p} s =
       record {
         c = d;
         o = o;
         tied = node-tied k good codes j lo hi s u .0 (sym N-is);
         is = le-antisymm (rw (← w .held .is) (embed-le k good d (w .listed) (firstCell (blockExtents k d) (part k codes d) j o) q (least-at (blockExtents k d) (part k codes d) j o q (u .within) (u .level) refl) (u .within)))
-            (subst (λ (x : ℕ). firstCell (k .extents) (whole k codes) j x ≤ embed k d (firstCell (blockExtents k d) (part k codes d) j o)) N-is (node-first u));
+            (subst (λ (x : ℕ). firstCell (k .extents) (uncutMap k codes) j x ≤ embed k d (firstCell (blockExtents k d) (part k codes d) j o)) N-is (node-first u));
       }
     where
       N : ℕ
-      N = getD (whole k codes) (embed k b p) 0
+      N = getD (uncutMap k codes) (embed k b p) 0
 
       F : ℕ
-      F = firstCell (k .extents) (whole k codes) j N
+      F = firstCell (k .extents) (uncutMap k codes) j N
 
-      f : Belongs (k .extents) (whole k codes) j N F
-      f = belongs-at (k .extents) (whole k codes) j N (embed k b p) (sees-in k good codes j lo hi s) (sees-order k good codes j lo hi s) refl
+      f : Belongs (k .extents) (uncutMap k codes) j N F
+      f = belongs-at (k .extents) (uncutMap k codes) j N (embed k b p) (sees-in k good codes j lo hi s) (sees-order k good codes j lo hi s) refl
 
       w : InBlock k F
       w = blocks-cover k good F (f .within)
@@ -86,7 +86,7 @@ module _ (k : Cutting) (good : goodCut k ≡ true) (codes : List ℕ) (j : ℕ) 
       positive : 0 < N
       positive = labels-numbering (k .extents) codes .positive (embed k b p) (sees-in k good codes j lo hi s) (sees-active k good codes j lo hi s)
 
-      act : active (k .extents) (whole k codes) F ≡ true
+      act : active (k .extents) (uncutMap k codes) F ≡ true
       act = numbered-active (k .extents) codes F (f .within) (omega (arith, f .level)) (omega (arith, f .has, positive))
 
       level : order (blockExtents k d) q ≡ j
@@ -98,9 +98,9 @@ module _ (k : Cutting) (good : goodCut k ≡ true) (codes : List ℕ) (j : ℕ) 
             listed = w .listed;
             within = w .held .within;
             level = level;
-            act = carried k good codes j lo hi d (w .listed) .act q (w .held .within) level ∙ ap (active (k .extents) (whole k codes)) (w .held .is) ∙ act;
+            act = carried k good codes j lo hi d (w .listed) .act q (w .held .within) level ∙ ap (active (k .extents) (uncutMap k codes)) (w .held .is) ∙ act;
             has = refl;
           }
 
-      N-is : getD (whole k codes) (embed k d q) 0 ≡ N
-      N-is = ap (λ (x : ℕ). getD (whole k codes) x 0) (w .held .is) ∙ f .has
+      N-is : getD (uncutMap k codes) (embed k d q) 0 ≡ N
+      N-is = ap (λ (x : ℕ). getD (uncutMap k codes) x 0) (w .held .is) ∙ f .has

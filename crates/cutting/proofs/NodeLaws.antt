@@ -15,9 +15,9 @@ use Rattle.cells.specs.Grid.{cells, order}
 use Rattle.cells.specs.Row.{row, active, occupied}
 use Rattle.labels.specs.Numbering.{here, step}
 use Rattle.cutting.specs.Cutting.{Cutting, goodCut, blocks, blockExtents, blockCodes, embed}
-use Rattle.cutting.specs.Nodes.{whole, part, Held, SeamPath, stay, next, last, Sees, AtCrossing, Tied, done, over, under, crossed}
+use Rattle.cutting.specs.Nodes.{uncutMap, part, Held, SeamPath, stay, next, last, Sees, AtCrossing, Tied, done, over, under, crossed}
 use Rattle.lists.proofs.Cases.{by-test}
-use Rattle.cells.proofs.GridLaws.{Upper, upper}
+use Rattle.cells.proofs.GridLaws.{Upper, upper-neighbour}
 use Rattle.labels.proofs.LabelLaws.{labels-numbering}
 use Rattle.cutting.proofs.CutLaws.{embed-inside, embed-order, embed-same}
 use Rattle.cutting.proofs.BlockLaws.{MeetIn, meet-embed, face-row, Carried, carried, same-up}
@@ -45,22 +45,22 @@ module _ (k : Cutting) (good : goodCut k ≡ true) (codes : List ℕ) (j : ℕ) 
   pub sees-order : {b n p : ℕ} → Sees k codes j b n p → order (k .extents) (embed k b p) ≡ j
   sees-order {b} {n} {p} s = embed-order k good b (s .listed) p (s .within) ∙ s .level
 
-  pub sees-active : {b n p : ℕ} → Sees k codes j b n p → active (k .extents) (whole k codes) (embed k b p) ≡ true
+  pub sees-active : {b n p : ℕ} → Sees k codes j b n p → active (k .extents) (uncutMap k codes) (embed k b p) ≡ true
   sees-active {b} {n} {p} s = sym (c b (s .listed) .act p (s .within) (s .level)) ∙ s .act
 
   -- cells of one node have one number in the volume
-  pub node-same : {b n p q : ℕ} → Sees k codes j b n p → Sees k codes j b n q → getD (whole k codes) (embed k b p) 0 ≡ getD (whole k codes) (embed k b q) 0
+  pub node-same : {b n p q : ℕ} → Sees k codes j b n p → Sees k codes j b n q → getD (uncutMap k codes) (embed k b p) 0 ≡ getD (uncutMap k codes) (embed k b q) 0
   node-same {b} {n} {p} {q} s t = same-up k good codes b (s .listed) j hi (c b (s .listed)) p q (s .within) (t .within) (s .level) (t .level) (s .has ∙ sym (t .has))
 
-  crossing-same : {b m n : ℕ} (r : AtCrossing k codes j b m n) → getD (whole k codes) (embed k b (r .p)) 0 ≡ getD (whole k codes) (embed k b (r .q)) 0
+  crossing-same : {b m n : ℕ} (r : AtCrossing k codes j b m n) → getD (uncutMap k codes) (embed k b (r .p)) 0 ≡ getD (uncutMap k codes) (embed k b (r .q)) 0
   crossing-same {b} r =
       labels-numbering (k .extents) codes .shared (embed k b (r .p)) (embed k b (r .q)) (sees-in (r .one)) (sees-in (r .two)) (sees-order (r .one) ∙ sym (sees-order (r .two))) (sees-active (r .one)) (sees-active (r .two)) .1
       (step (meet-embed k good b (r .one .listed) (r .meet)) (sees-active (r .one)) (r .same) here)
 
-  pub tied-same : {b m d o p q : ℕ} → Tied k codes j true b m d o → Sees k codes j b m p → Sees k codes j d o q → getD (whole k codes) (embed k b p) 0 ≡ getD (whole k codes) (embed k d q) 0
+  pub tied-same : {b m d o p q : ℕ} → Tied k codes j true b m d o → Sees k codes j b m p → Sees k codes j d o q → getD (uncutMap k codes) (embed k b p) 0 ≡ getD (uncutMap k codes) (embed k d q) 0
   tied-same done s t = node-same s t
-  tied-same (over r l) s t = node-same s (r .one) ∙ ap (λ (x : ℕ). getD (whole k codes) x 0) (r .same) ∙ tied-same l (r .two) t
-  tied-same (under r l) s t = node-same s (r .two) ∙ ap (λ (x : ℕ). getD (whole k codes) x 0) (sym (r .same)) ∙ tied-same l (r .one) t
+  tied-same (over r l) s t = node-same s (r .one) ∙ ap (λ (x : ℕ). getD (uncutMap k codes) x 0) (r .same) ∙ tied-same l (r .two) t
+  tied-same (under r l) s t = node-same s (r .two) ∙ ap (λ (x : ℕ). getD (uncutMap k codes) x 0) (sym (r .same)) ∙ tied-same l (r .one) t
   tied-same (crossed x r l) s t = node-same s (r .one) ∙ crossing-same r ∙ tied-same l (r .two) t
 
   -- one cell seen from two blocks: its nodes are tied by seams
@@ -71,7 +71,7 @@ module _ (k : Cutting) (good : goodCut k ≡ true) (codes : List ℕ) (j : ℕ) 
         listed = hd;
         within = h .within;
         level = o;
-        act = c d hd .act (h .p) (h .within) o ∙ ap (active (k .extents) (whole k codes)) (h .is) ∙ sees-active s;
+        act = c d hd .act (h .p) (h .within) o ∙ ap (active (k .extents) (uncutMap k codes)) (h .is) ∙ sees-active s;
         has = refl;
       }
 
@@ -102,21 +102,21 @@ module _ (k : Cutting) (good : goodCut k ≡ true) (codes : List ℕ) (j : ℕ) 
       tied-link (one-cell s v (e ∙ sym (r .p-is))) (chained-tied l w (r .q-is) u f)
   chained-tied {x} (cross {y = y} r l) {b} {m} {p} s e u f =
       let w : MeetIn k x y = r .met in
-      let a : Upper (blockExtents k (w .b)) (w .meet .at) (w .one) = upper (blockExtents k (w .b)) (w .meet .at) (w .meet .inside) (w .meet .one) in
-      let z : Upper (blockExtents k (w .b)) (w .meet .at) (w .two) = upper (blockExtents k (w .b)) (w .meet .at) (w .meet .inside) (w .meet .two) in
+      let a : Upper (blockExtents k (w .b)) (w .meet .at) (w .one) = upper-neighbour (blockExtents k (w .b)) (w .meet .at) (w .meet .inside) (w .meet .one) in
+      let z : Upper (blockExtents k (w .b)) (w .meet .at) (w .two) = upper-neighbour (blockExtents k (w .b)) (w .meet .at) (w .meet .inside) (w .meet .two) in
       let one : Sees k codes j (w .b) (getD (part k codes (w .b)) (w .one) 0) (w .one) =
       held-sees s (w .b) (w .listed) (record { p = w .one; within = a .within; is = w .one-is ∙ sym e }) in
-      let rows : row (k .extents) (whole k codes) (embed k (w .b) (w .one)) ≡ row (k .extents) (whole k codes) (embed k (w .b) (w .two)) =
-      ap (row (k .extents) (whole k codes)) (w .one-is) ∙ r .same ∙ ap (row (k .extents) (whole k codes)) (sym (w .two-is)) in
+      let rows : row (k .extents) (uncutMap k codes) (embed k (w .b) (w .one)) ≡ row (k .extents) (uncutMap k codes) (embed k (w .b) (w .two)) =
+      ap (row (k .extents) (uncutMap k codes)) (w .one-is) ∙ r .same ∙ ap (row (k .extents) (uncutMap k codes)) (sym (w .two-is)) in
       let level : order (blockExtents k (w .b)) (w .two) ≡ j = z .higher ∙ sym (a .higher) ∙ one .level in
       let two : Sees k codes j (w .b) (getD (part k codes (w .b)) (w .two) 0) (w .two) =
-      record { listed = w .listed; within = z .within; level = level; act = c (w .b) (w .listed) .act (w .two) (z .within) level ∙ active-row (k .extents) (whole k codes) (embed k (w .b) (w .one)) (embed k (w .b) (w .two)) rows (sees-active one); has = refl } in
+      record { listed = w .listed; within = z .within; level = level; act = c (w .b) (w .listed) .act (w .two) (z .within) level ∙ active-row (k .extents) (uncutMap k codes) (embed k (w .b) (w .one)) (embed k (w .b) (w .two)) rows (sees-active one); has = refl } in
       tied-link (one-cell s one (e ∙ sym (w .one-is)))
       (crossed refl (record { p = w .one; q = w .two; one = one; two = two; meet = w .meet; same = rows }) (chained-tied l two (w .two-is) u f))
 
   -- nodes are tied exactly when their cells have one number in the volume
   pub node-tied : {b m p d o q : ℕ} → Sees k codes j b m p → Sees k codes j d o q
-      → (getD (whole k codes) (embed k b p) 0 ≡ getD (whole k codes) (embed k d q) 0) ↔ Tied k codes j true b m d o
+      → (getD (uncutMap k codes) (embed k b p) 0 ≡ getD (uncutMap k codes) (embed k d q) 0) ↔ Tied k codes j true b m d o
   node-tied {b} {m} {p} {d} {o} {q} s u = (
     (λ e. chained-tied (number-chained k good codes j lo hi (embed k b p) (embed k d q) (sees-in s) (sees-in u) (sees-order s) (sees-order u) (sees-active s) (sees-active u) .0 e) s refl u refl),
     (λ l. tied-same l s u),
@@ -140,7 +140,7 @@ seams-tied (crossed x r l) = crossed refl r (seams-tied l)
 
 -- so faces are tied by seams alone
 pub faces-seamed : (k : Cutting) → goodCut k ≡ true → (codes : List ℕ) {b m p d o q : ℕ} → Sees k codes 2 b m p → Sees k codes 2 d o q
-    → (getD (whole k codes) (embed k b p) 0 ≡ getD (whole k codes) (embed k d q) 0) ↔ Tied k codes 2 false b m d o
+    → (getD (uncutMap k codes) (embed k b p) 0 ≡ getD (uncutMap k codes) (embed k d q) 0) ↔ Tied k codes 2 false b m d o
 faces-seamed k good codes s u =
     let r = node-tied k good codes 2 (omega arith) (omega arith) s u in
     ((λ e. seams-only (r .0 e)), (λ l. r .1 (seams-tied l)))

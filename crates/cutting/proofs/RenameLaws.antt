@@ -10,7 +10,7 @@ use lib.Dec.{eqb, leb}
 use lib.ListN.{length}
 use borrow.Author.Tests.{eqb-true, eqb-false, eq-eqb, ne-eqb, leb-true, leb-false}
 use mathlib.Core.Bool.{cond}
-use Rattle.cells.specs.Row.{occurrences, once, insertAscending, sort, padTo, rowOf, occupied}
+use Rattle.cells.specs.Row.{occurrences, once, insertAscending, sortAscending, padTo, rowOf, occupied}
 use Rattle.cells.proofs.RowLaws.{Positive, row-positive}
 use Rattle.lists.specs.Lists.{keep}
 use Rattle.lists.proofs.Tests.{keep-same}
@@ -41,7 +41,7 @@ insert-insert a b (y ∷ l) =
     let h = leb-false y (max a b) t in
     rw (least a b y, middle-two a b y h, greatest a b y h))
 
-sort-insert : (g : ℕ → ℕ) (x : ℕ) (l : List ℕ) → sort (map g (insertAscending x l)) ≡ insertAscending (g x) (sort (map g l))
+sort-insert : (g : ℕ → ℕ) (x : ℕ) (l : List ℕ) → sortAscending (map g (insertAscending x l)) ≡ insertAscending (g x) (sortAscending (map g l))
 sort-insert g x [] = refl
 sort-insert g x (y ∷ l) =
     ap (insertAscending (g (min x y))) (sort-insert g (max x y) l)
@@ -55,11 +55,11 @@ sort-insert g x (y ∷ l) =
     let h = leb-false x y t in
     let p : min x y ≡ y = omega arith in
     let q : max x y ≡ x = omega arith in
-    rw (p, q) (insert-insert (g y) (g x) (sort (map g l))))
+    rw (p, q) (insert-insert (g y) (g x) (sortAscending (map g l))))
 
-pub sort-map : (g : ℕ → ℕ) (l : List ℕ) → sort (map g (sort l)) ≡ sort (map g l)
+pub sort-map : (g : ℕ → ℕ) (l : List ℕ) → sortAscending (map g (sortAscending l)) ≡ sortAscending (map g l)
 sort-map g [] = refl
-sort-map g (x ∷ l) = sort-insert g x (sort l) ∙ ap (insertAscending (g x)) (sort-map g l)
+sort-map g (x ∷ l) = sort-insert g x (sortAscending l) ∙ ap (insertAscending (g x)) (sort-map g l)
 
 -- ---- six places hold a short list of numbers above 0 whole
 
@@ -71,9 +71,9 @@ length-insert : (x : ℕ) (l : List ℕ) → length (insertAscending x l) ≡ su
 length-insert x [] = refl
 length-insert x (y ∷ l) = ap suc (length-insert (max x y) l)
 
-pub length-sort : (l : List ℕ) → length (sort l) ≡ length l
+pub length-sort : (l : List ℕ) → length (sortAscending l) ≡ length l
 length-sort [] = refl
-length-sort (x ∷ l) = length-insert x (sort l) ∙ ap suc (length-sort l)
+length-sort (x ∷ l) = length-insert x (sortAscending l) ∙ ap suc (length-sort l)
 
 places-same : (n : ℕ) (a b : List ℕ) → length a ≤ n → length b ≤ n → Positive a → Positive b → padTo n a ≡ padTo n b → a ≡ b
 places-same n [] [] h k s t e = refl
@@ -85,10 +85,10 @@ places-same (suc n) (x ∷ a) (y ∷ b) h k s t e =
     ap₂ {C = List ℕ} (λ u r. u ∷ r) (head-eq-of-cons-eq e) (places-same n a b (omega arith) (omega arith) (s .1) (t .1) (tail-eq-of-cons-eq e))
 
 -- equal rows list the same numbers
-row-entries : (xs ys : List ℕ) → length xs ≤ 6 → length ys ≤ 6 → rowOf xs ≡ rowOf ys → sort (keep (once xs) xs) ≡ sort (keep (once ys) ys)
+row-entries : (xs ys : List ℕ) → length xs ≤ 6 → length ys ≤ 6 → rowOf xs ≡ rowOf ys → sortAscending (keep (once xs) xs) ≡ sortAscending (keep (once ys) ys)
 unfolding rowOf
 row-entries xs ys h k e =
-    places-same 6 (sort (keep (once xs) xs)) (sort (keep (once ys) ys))
+    places-same 6 (sortAscending (keep (once xs) xs)) (sortAscending (keep (once ys) ys))
     (omega (arith, length-sort (keep (once xs) xs), length-keep (once xs) xs))
     (omega (arith, length-sort (keep (once ys) ys), length-keep (once ys) ys))
     (row-positive xs xs) (row-positive ys ys) e
@@ -126,11 +126,11 @@ pub row-renamed : (g : ℕ → ℕ) (xs ys : List ℕ) → Tells g xs → Tells 
 unfolding rowOf
 row-renamed g xs ys r s h k e =
     ap (padTo 6)
-    (ap sort (once-list g xs r)
+    (ap sortAscending (once-list g xs r)
     ∙ sym (sort-map g (keep (once xs) xs))
-    ∙ ap (λ (l : List ℕ). sort (map g l)) (row-entries xs ys h k e)
+    ∙ ap (λ (l : List ℕ). sortAscending (map g l)) (row-entries xs ys h k e)
     ∙ sort-map g (keep (once ys) ys)
-    ∙ sym (ap sort (once-list g ys s)))
+    ∙ sym (ap sortAscending (once-list g ys s)))
 
 -- an occupied row stays occupied, and an empty one empty
 some : List ℕ → Bool
@@ -142,10 +142,10 @@ unfolding some
 some-insert x [] = refl
 some-insert x (y ∷ l) = refl
 
-some-sort : (l : List ℕ) → some (sort l) ≡ some l
+some-sort : (l : List ℕ) → some (sortAscending l) ≡ some l
 unfolding some
 some-sort [] = refl
-some-sort (x ∷ l) = some-insert x (sort l)
+some-sort (x ∷ l) = some-insert x (sortAscending l)
 
 some-map : (g : ℕ → ℕ) (l : List ℕ) → some (map g l) ≡ some l
 unfolding some
@@ -159,7 +159,7 @@ occupied-some (x ∷ l) s = ap not (ne-eqb x 0 (λ q. omega (arith, s .0)))
 
 row-some : (xs : List ℕ) → occupied (rowOf xs) ≡ some (keep (once xs) xs)
 unfolding rowOf
-row-some xs = occupied-some (sort (keep (once xs) xs)) (row-positive xs xs) ∙ some-sort (keep (once xs) xs)
+row-some xs = occupied-some (sortAscending (keep (once xs) xs)) (row-positive xs xs) ∙ some-sort (keep (once xs) xs)
 
 pub occupied-renamed : (g : ℕ → ℕ) (xs : List ℕ) → Tells g xs → occupied (rowOf (map g xs)) ≡ occupied (rowOf xs)
 occupied-renamed g xs r = row-some (map g xs) ∙ ap some (once-list g xs r) ∙ some-map g (keep (once xs) xs) ∙ sym (row-some xs)

@@ -10,10 +10,10 @@ use lib.Dec.{eqb, ltb}
 use lib.ListN.{getD, length}
 use borrow.Author.Tests.{eqb-true, eqb-false, eq-eqb, ltb-true, ltb-false, lt-ltb}
 use Rattle.cells.specs.Box.{Triple, Axis, X, Y, Z, triple, coord, index, place}
-use Rattle.cells.specs.Grid.{sides, odd, order}
-use Rattle.cutting.specs.Cutting.{Cutting, cuts, ascends, cutList, intervals, low, high, blockSides, blocks, goodCut, interval, follows, level, seam}
+use Rattle.cells.specs.Grid.{sides, parity, order}
+use Rattle.cutting.specs.Cutting.{Cutting, cuts, ascends, cutList, intervals, lowEnd, highEnd, blockSides, blocks, goodCut, interval, follows, sameInterval, seam}
 use Rattle.cutting.specs.Nodes.{Held, SeamPath, stay, next, last}
-use Rattle.lists.proofs.Cases.{by-test, and-right, and-both, or-left, or-right}
+use Rattle.lists.proofs.Cases.{by-test, and-second, and-both, or-left, or-right}
 use Rattle.cells.proofs.BoxLaws.{Inside, index-place, place-index, place-inside, raised, same-triple}
 use Rattle.cutting.proofs.CutLaws.{step-up, step-rest, cut-on, Spans, held-spans, spans-held, block-in, interval-at, interval-is, block-sides-on}
 
@@ -24,8 +24,8 @@ ascends-above n c [] t i h = absurd (omega arith)
 ascends-above n c (d ∷ l) t zero h = step-up n c d l t
 ascends-above n c (d ∷ l) t (suc i) h = omega (arith, step-up n c d l t, ascends-above n d l (step-rest n c d l t) i (omega arith))
 
-later : (n c : ℕ) (l : List ℕ) → ascends n c l ≡ true → (i j : ℕ) → suc i < j → j < intervals (c ∷ l) → high (c ∷ l) i < low (c ∷ l) j
-unfolding intervals low high
+later : (n c : ℕ) (l : List ℕ) → ascends n c l ≡ true → (i j : ℕ) → suc i < j → j < intervals (c ∷ l) → highEnd (c ∷ l) i < lowEnd (c ∷ l) j
+unfolding intervals lowEnd highEnd
 later n c [] t i j h k = absurd (omega arith)
 later n c (d ∷ l) t zero zero h k = absurd (omega arith)
 later n c (d ∷ l) t zero (suc zero) h k = absurd (omega arith)
@@ -33,10 +33,10 @@ later n c (d ∷ l) t zero (suc (suc j)) h k = ascends-above n d l (step-rest n 
 later n c (d ∷ l) t (suc i) zero h k = absurd (omega arith)
 later n c (d ∷ l) t (suc i) (suc j) h k = later n d l (step-rest n c d l t) i j (omega arith) (omega arith)
 
-cut-later : (n : ℕ) (c : List ℕ) → cutList n c ≡ true → (i j : ℕ) → suc i < j → j < intervals c → high c i < low c j
+cut-later : (n : ℕ) (c : List ℕ) → cutList n c ≡ true → (i j : ℕ) → suc i < j → j < intervals c → highEnd c i < lowEnd c j
 unfolding cutList
 cut-later n [] t i j h k = absurd (true≢false (sym t))
-cut-later n (c ∷ l) t i j h k = later n c l (and-right (eqb c 0) (ascends n c l) t) i j h k
+cut-later n (c ∷ l) t i j h k = later n c l (and-second (eqb c 0) (ascends n c l) t) i j h k
 
 -- equal, the next, or the one before
 abbrev Near : ℕ → ℕ → Type 0
@@ -60,14 +60,14 @@ near n c t i j x hi hj u v =
 
 -- a block and the next one along an axis are a seam
 pub seam-raised : (k : Cutting) (b c : ℕ) (a : Axis) → b < blocks k → c < blocks k → ((d : Axis) → interval k c d ≡ coord (raised a (place (blockSides k) b)) d) → seam k b c ≡ true
-unfolding seam follows level interval raised
+unfolding seam follows sameInterval interval raised
 seam-raised k b c a hb hc h = and-both (ltb b (blocks k) && ltb c (blocks k)) _ (and-both (ltb b (blocks k)) (ltb c (blocks k)) (lt-ltb b (blocks k) hb) (lt-ltb c (blocks k) hc)) (go a h)
   where
     F : Axis → Bool
     F d = follows k b c d
 
     L : Axis → Bool
-    L d = level k b c d
+    L d = sameInterval k b c d
 
     go : (a : Axis) → ((d : Axis) → interval k c d ≡ coord (raised a (place (blockSides k) b)) d) → ((F X && L Y && L Z) || (L X && F Y && L Z) || (L X && L Y && F Z)) ≡ true
     go X h = or-left ((F X && L Y && L Z) || (L X && F Y && L Z)) (L X && L Y && F Z) (or-left (F X && L Y && L Z) (L X && F Y && L Z) (and-both (F X && L Y) (L Z) (and-both (F X) (L Y) (eq-eqb _ _ (h X)) (eq-eqb _ _ (h Y))) (eq-eqb _ _ (h Z))))
@@ -172,16 +172,16 @@ module _ (k : Cutting) (good : goodCut k ≡ true) (t : ℕ) where
 
 -- ---- a point cell lies in one block only
 
-meeting-ends : (n c : ℕ) (l : List ℕ) → ascends n c l ≡ true → (i : ℕ) → suc i < intervals (c ∷ l) → high (c ∷ l) i ≡ low (c ∷ l) (suc i)
-unfolding intervals low high
+meeting-ends : (n c : ℕ) (l : List ℕ) → ascends n c l ≡ true → (i : ℕ) → suc i < intervals (c ∷ l) → highEnd (c ∷ l) i ≡ lowEnd (c ∷ l) (suc i)
+unfolding intervals lowEnd highEnd
 meeting-ends n c [] t i h = absurd (omega arith)
 meeting-ends n c (d ∷ l) t zero h = refl
 meeting-ends n c (d ∷ l) t (suc i) h = meeting-ends n d l (step-rest n c d l t) i (omega arith)
 
-pub cut-ends : (n : ℕ) (c : List ℕ) → cutList n c ≡ true → (i : ℕ) → suc i < intervals c → high c i ≡ low c (suc i)
+pub cut-ends : (n : ℕ) (c : List ℕ) → cutList n c ≡ true → (i : ℕ) → suc i < intervals c → highEnd c i ≡ lowEnd c (suc i)
 unfolding cutList
 cut-ends n [] t i h = absurd (true≢false (sym t))
-cut-ends n (c ∷ l) t i h = meeting-ends n c l (and-right (eqb c 0) (ascends n c l) t) i h
+cut-ends n (c ∷ l) t i h = meeting-ends n c l (and-second (eqb c 0) (ascends n c l) t) i h
 
 -- an odd coordinate lies in one interval only
 odd-interval : (n : ℕ) (c : List ℕ) → cutList n c ≡ true → (i j x : ℕ) → i < intervals c → j < intervals c → Spans c i x → Spans c j x → 0 < x % 2 → i ≡ j
@@ -189,11 +189,11 @@ odd-interval n c t i j x hi hj u v o = go (near n c t i j x hi hj u v)
   where
     go : Near i j → i ≡ j
     go (inl e) = sym e
-    go (inr (inl e)) = absurd (omega (arith, cut-ends n c t i (omega arith), ap (low c) e, u .below, v .above))
-    go (inr (inr e)) = absurd (omega (arith, cut-ends n c t j (omega arith), ap (low c) e, v .below, u .above))
+    go (inr (inl e)) = absurd (omega (arith, cut-ends n c t i (omega arith), ap (lowEnd c) e, u .below, v .above))
+    go (inr (inr e)) = absurd (omega (arith, cut-ends n c t j (omega arith), ap (lowEnd c) e, v .below, u .above))
 
 pub point-block : (k : Cutting) → goodCut k ≡ true → (t b c : ℕ) → order (k .extents) t ≡ 0 → b < blocks k → c < blocks k → Held k b t → Held k c t → b ≡ c
-unfolding order odd blocks Fits
+unfolding order parity blocks Fits
 point-block k good t b c o hb hc u v = sym (index-place (blockSides k) b) ∙ ap (index (blockSides k)) (same-triple m n same) ∙ index-place (blockSides k) c
   where
     m : Triple

@@ -36,11 +36,11 @@ unfoldable pub intervals : List ℕ → ℕ
 intervals c = max 1 (length c - 1)
 
 -- "An interval takes in both its ends": the first and the last voxel of interval i.
-unfoldable pub low : List ℕ → ℕ → ℕ
-low c i = getD c i 0
+unfoldable pub lowEnd : List ℕ → ℕ → ℕ
+lowEnd c i = getD c i 0
 
-unfoldable pub high : List ℕ → ℕ → ℕ
-high c i = getD c (suc i) (low c i)
+unfoldable pub highEnd : List ℕ → ℕ → ℕ
+highEnd c i = getD c (suc i) (lowEnd c i)
 
 -- "Blocks are all products of intervals, numbered x fastest": how many there are on each axis, and in all.
 unfoldable pub blockSides : Cutting → Triple
@@ -59,10 +59,10 @@ interval k b a = coord (place (blockSides k) b) a
 
 -- The first voxel of block b, and its extents in voxels.
 unfoldable pub origin : Cutting → ℕ → Triple
-origin k b = each (λ a. low (cuts k a) (interval k b a))
+origin k b = each (λ a. lowEnd (cuts k a) (interval k b a))
 
 unfoldable pub blockExtents : Cutting → ℕ → Triple
-blockExtents k b = each (λ a. high (cuts k a) (interval k b a) - low (cuts k a) (interval k b a) + 1)
+blockExtents k b = each (λ a. highEnd (cuts k a) (interval k b a) - lowEnd (cuts k a) (interval k b a) + 1)
 
 -- The position in the volume of cell p of block b.
 unfoldable pub embed : Cutting → ℕ → ℕ → ℕ
@@ -78,11 +78,11 @@ blockCodes k b codes =
 unfoldable pub follows : Cutting → ℕ → ℕ → Axis → Bool
 follows k b c a = eqb (interval k c a) (suc (interval k b a))
 
-unfoldable pub level : Cutting → ℕ → ℕ → Axis → Bool
-level k b c a = eqb (interval k c a) (interval k b a)
+unfoldable pub sameInterval : Cutting → ℕ → ℕ → Axis → Bool
+sameInterval k b c a = eqb (interval k c a) (interval k b a)
 
 -- "Two blocks share a side if they differ by one on one axis only; such a pair, lower block first, is a seam."
 unfoldable pub seam : Cutting → ℕ → ℕ → Bool
 seam k b c =
     ltb b (blocks k) && ltb c (blocks k) &&
-    ((follows k b c X && level k b c Y && level k b c Z) || (level k b c X && follows k b c Y && level k b c Z) || (level k b c X && level k b c Y && follows k b c Z))
+    ((follows k b c X && sameInterval k b c Y && sameInterval k b c Z) || (sameInterval k b c X && follows k b c Y && sameInterval k b c Z) || (sameInterval k b c X && sameInterval k b c Y && follows k b c Z))

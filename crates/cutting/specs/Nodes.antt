@@ -12,8 +12,8 @@ use Rattle.labels.specs.Numbering.{Meet}
 use Rattle.cutting.specs.Cutting.{Cutting, blocks, blockExtents, blockCodes, embed, seam}
 
 -- The map of the uncut volume, and of its block b.
-abbrev pub whole : Cutting → List ℕ → List ℕ
-whole k codes = labels (k .extents) codes
+abbrev pub uncutMap : Cutting → List ℕ → List ℕ
+uncutMap k codes = labels (k .extents) codes
 
 abbrev pub part : Cutting → List ℕ → ℕ → List ℕ
 part k codes b = labels (blockExtents k b) (blockCodes k b codes)
@@ -54,7 +54,7 @@ pub record AtCrossing (k : Cutting) (codes : List ℕ) (j b m n : ℕ) : Type 0 
   pub one : Sees k codes j b m p
   pub two : Sees k codes j b n q
   pub meet : Meet (blockExtents k b) p q
-  pub same : row (k .extents) (whole k codes) (embed k b p) ≡ row (k .extents) (whole k codes) (embed k b q)
+  pub same : row (k .extents) (uncutMap k codes) (embed k b p) ≡ row (k .extents) (uncutMap k codes) (embed k b q)
 
 -- Nodes tied by seams and, if told so, by crossings.
 pub data Tied (k : Cutting) (codes : List ℕ) (j : ℕ) (crossings : Bool) : ℕ → ℕ → ℕ → ℕ → Type 0 where

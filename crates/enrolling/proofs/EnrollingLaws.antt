@@ -11,19 +11,19 @@ use lib.Dec.{eqb, leb, ltb}
 use lib.ListN.{getD, length, set}
 use borrow.Author.Tests.{eqb-true, leb-true, ltb-false, le-ltb, not-true, not-false}
 use Rattle.lists.specs.Lists.{overlay}
-use Rattle.lists.proofs.Cases.{and-left, and-right, neither}
+use Rattle.lists.proofs.Cases.{and-first, and-second, neither}
 use Rattle.lists.proofs.Overlay.{length-overlay, overlay-same}
 use Rattle.cells.specs.Box.{Triple, triple}
 use Rattle.cells.specs.Extents.{Sized}
 use Rattle.cells.specs.Grid.{cells}
 use Rattle.labels.specs.Components.{largest}
 use Rattle.cutting.specs.Cutting.{Cutting, intervals, blocks, blockExtents, goodCut}
-use Rattle.joiner.specs.Job.{Kind, Face, Curve, Point, Tables, State, tray, ticked, fits, blockTrays, linkTrays, foundTrays}
+use Rattle.joiner.specs.Job.{Kind, Face, Curve, Point, Tables, State, tray, ticked, lengthsFit, blockTrays, linkTrays, foundTrays}
 use Rattle.joiner.specs.Job as joiner
 use Rattle.joiner.specs.Stages.{enrolStep}
 use Rattle.joiner.specs.Calls.{enrol, answer, full, overfull}
 use Rattle.joiner.specs.Declines.{talliesFit, tallyFits, filled, stray, adds, refusal}
-use Rattle.joiner.specs.Entries.{enrolledRow, EnrolDone, blockEntry, Step}
+use Rattle.joiner.specs.Entries.{enrolledRow, EnrolDone, blockEntry, CallStep}
 use Rattle.blocks.specs.Blocks.{cutOf, anyExtents, sizeOf, Tells}
 use Rattle.blocks.specs.declared.Block.{Block}
 use Rattle.blocks.proofs.BlockLaws.{good-few, told-sized}
@@ -35,7 +35,7 @@ use Rattle.job.specs.declared.Job.{Job}
 use Rattle.job.specs.Jobs.{byKind, anyCuts, toldOf, jobOf, tablesOf, stateOf}
 use Rattle.job.proofs.JobLaws.{fits-append}
 use Rattle.staging.specs.Staging.{tickedIn}
-use Rattle.steps.specs.Steps.{orElse, reachedOf, Advanced}
+use Rattle.steps.specs.Steps.{firstRefusal, reachedOf, Advanced}
 use Rattle.steps.specs.Steps as steps
 use Rattle.steps.proofs.StepLaws.{or-first, or-then, or-none, or-else-assoc, or-six, six-none, reached-passed, refusal-reached, ticked-by, numbered-kept, step-refused, step-accepted}
 use Rattle.surveys.specs.declared.Survey.{Survey}
@@ -74,8 +74,8 @@ module _ (j : Job) (f : Bool) (faces curves : ℕ) (t : Bool) (e : anyCuts (λ c
     unfolding talliesFit tallyFits
     late-points =
         let k = jobOf j [] [] [] in
-        let a = and-right (tallyFits k Curve) (tallyFits k Point) (and-right (tallyFits k Face) (tallyFits k Curve && tallyFits k Point) (sym (e [] [] []) ∙ not-false t q)) in
-        leb-true _ _ (and-left (leb (j .points) (j .«point_entries»)) (leb (j .«numbered_points») (j .points)) a)
+        let a = and-second (tallyFits k Curve) (tallyFits k Point) (and-second (tallyFits k Face) (tallyFits k Curve && tallyFits k Point) (sym (e [] [] []) ∙ not-false t q)) in
+        leb-true _ _ (and-first (leb (j .points) (j .«point_entries»)) (leb (j .«numbered_points») (j .points)) a)
 
     pub late-filled : not f ≡ true → Late 8
     unfolding lateOf
@@ -94,25 +94,25 @@ module _ (j : Job) (f : Bool) (faces curves : ℕ) (t : Bool) (e : anyCuts (λ c
 -- ---- the lengths
 
 module _ (j : Job) (cx cy cz : List ℕ) (b : ℕ) where
-  abbrev cut : Cutting
-  cut = cutOf (j .nx) (j .ny) (j .nz) cx cy cz
+  abbrev cut-as : Cutting
+  cut-as = cutOf (j .nx) (j .ny) (j .nz) cx cy cz
 
-  module _ (P : (goodCut cut ≡ true) × (b < blocks cut)) where
+  module _ (P : (goodCut cut-as ≡ true) × (b < blocks cut-as)) where
     pub lent-few : intervals cx * intervals cy * intervals cz ≤ 16384
-    lent-few = good-few cut (P .0)
+    lent-few = good-few cut-as (P .0)
 
     pub lent-blocks : (i : ℕ) → anyExtents cx cy cz (λ k. i ≡ blocks k) → i ≤ 16384
-    lent-blocks i e = rw (e (j .nx) (j .ny) (j .nz), blocks-are cut) lent-few
+    lent-blocks i e = rw (e (j .nx) (j .ny) (j .nz), blocks-are cut-as) lent-few
 
     module _ (r : Block) (T : anyExtents cx cy cz (λ k. Tells k b r)) where
-      abbrev told-here : Tells cut b r
+      abbrev told-here : Tells cut-as b r
       told-here = T (j .nx) (j .ny) (j .nz)
 
       pub lent-sized : Sized 64 (sizeOf r)
-      lent-sized = told-sized cut b r told-here (P .0) (P .1)
+      lent-sized = told-sized cut-as b r told-here (P .0) (P .1)
 
       module _ (z : Sizes) (n : ℕ) (t : Bool) (e : t ≡ eqb n (cells (sizeOf r))) where
-        map-told : t ≡ eqb n (cells (blockExtents cut b))
+        map-told : t ≡ eqb n (cells (blockExtents cut-as b))
         map-told = e ∙ ap (λ (v : Triple). eqb n (cells v)) (told-here .size)
 
         pub lent-map : not t ≡ true → false ≡ lentFit (toldOf j cx cy cz) z b n
@@ -169,7 +169,7 @@ early-passed j ticks z b n e =
     let o = or-none (reachedOf j joiner.Enrol ticks b (enrolStep b)) (cond (not (u && v)) 6 0) e in
     let p = reached-passed j joiner.Enrol ticks b (enrolStep b) (o .0) in
     let f = six-none (u && v) (o .1) in
-    record { sized = p .0 .sized; good = p .0 .good; there = p .1; size = eqb-true n (cells (blockExtents k b)) (and-left u v f); tables = and-right u v f }
+    record { sized = p .0 .sized; good = p .0 .good; there = p .1; size = eqb-true n (cells (blockExtents k b)) (and-first u v f); tables = and-second u v f }
 
 -- ---- the ways of `judge`
 
@@ -215,11 +215,11 @@ sizesOf t =
       «curve_rows» = length (t .rows Curve);
     }
 
-two-fit : (x y u v : ℕ) → fits (tray x y ∷ tray u v ∷ []) ≡ true → (x ≡ y) × (u ≡ v)
-unfolding fits
+two-fit : (x y u v : ℕ) → lengthsFit (tray x y ∷ tray u v ∷ []) ≡ true → (x ≡ y) × (u ≡ v)
+unfolding lengthsFit
 two-fit x y u v h =
-    let i = and-right (eqb x y) (eqb u v && true) h in
-    (eqb-true x y (and-left (eqb x y) (eqb u v && true) h), eqb-true u v (and-left (eqb u v) true i))
+    let i = and-second (eqb x y) (eqb u v && true) h in
+    (eqb-true x y (and-first (eqb x y) (eqb u v && true) h), eqb-true u v (and-first (eqb u v) true i))
 
 late-room : (j : joiner.Job) (f : Bool) (more : Kind → ℕ) → lateOf j f more ≡ 0 → full (j .told .entries) (j .sofar) more ≡ false
 unfolding lateOf
@@ -234,26 +234,26 @@ module _ (s : State) (b : ℕ) (m : List ℕ) where
   abbrev k : Cutting
   k = s .job .told .cutting
 
-  lent-is : fits (blockTrays (s .job .told) (s .tables) ++ linkTrays (s .job .told) (s .tables) ++ foundTrays (s .job .told) (s .tables) Face ++ foundTrays (s .job .told) (s .tables) Curve)
+  lent-is : lengthsFit (blockTrays (s .job .told) (s .tables) ++ linkTrays (s .job .told) (s .tables) ++ foundTrays (s .job .told) (s .tables) Face ++ foundTrays (s .job .told) (s .tables) Curve)
       ≡ tablesFit (blocks k) (s .job .told .entries Face) (s .job .told .entries Curve) (sizesOf (s .tables))
   unfolding blockTrays linkTrays foundTrays tablesFit
   lent-is =
       let o = s .job .told in
       let t = s .tables in
       fits-append (blockTrays o t) (linkTrays o t ++ foundTrays o t Face ++ foundTrays o t Curve) ∙
-      ap (λ (c : Bool). fits (blockTrays o t) && c)
+      ap (λ (c : Bool). lengthsFit (blockTrays o t) && c)
       (fits-append (linkTrays o t) (foundTrays o t Face ++ foundTrays o t Curve) ∙
-      ap (λ (c : Bool). fits (linkTrays o t) && c) (fits-append (foundTrays o t Face) (foundTrays o t Curve)))
+      ap (λ (c : Bool). lengthsFit (linkTrays o t) && c) (fits-append (foundTrays o t Face) (foundTrays o t Curve)))
 
   late-is : steps.lateOf s (enrol b m)
-      ≡ orElse (cond (not (lentFit (s .job .told) (sizesOf (s .tables)) b (length m))) 6 0)
+      ≡ firstRefusal (cond (not (lentFit (s .job .told) (sizesOf (s .tables)) b (length m))) 6 0)
       (lateOf (s .job) (filled (blockExtents k b) m) (byKind (largest (blockExtents k b) m 2) (largest (blockExtents k b) m 1) 0))
   unfolding steps.lateOf lentFit lateOf stray full overfull adds
   late-is = rw lent-is (or-six (eqb (length m) (cells (blockExtents k b)) && tablesFit (blocks k) (s .job .told .entries Face) (s .job .told .entries Curve) (sizesOf (s .tables))) _)
 
   pub refusal-is : refusal s (enrol b m) ≡ refusalOf (s .job) (s .tables .ticks) (sizesOf (s .tables)) b m
   unfolding refusalOf earlyOf ticked tickedIn
-  refusal-is = refusal-reached s (enrol b m) refl b (enrolStep b) refl refl ∙ ap (orElse (reachedOf (s .job) joiner.Enrol (s .tables .ticks) b (enrolStep b))) late-is ∙ or-else-assoc _ _ _
+  refusal-is = refusal-reached s (enrol b m) refl b (enrolStep b) refl refl ∙ ap (firstRefusal (reachedOf (s .job) joiner.Enrol (s .tables .ticks) b (enrolStep b))) late-is ∙ or-else-assoc _ _ _
 
   -- what an accepted call passed
   pub ready-of : refusalOf (s .job) (s .tables .ticks) (sizesOf (s .tables)) b m ≡ 0 → Ready s b m
@@ -264,16 +264,16 @@ module _ (s : State) (b : ℕ) (m : List ℕ) where
       let j = s .job in
       let n = or-none (earlyOf j (s .tables .ticks) z b (length m)) (lateOf j (filled (blockExtents k b) m) (byKind (largest (blockExtents k b) m 2) (largest (blockExtents k b) m 1) 0)) h in
       let p = early-passed j (s .tables .ticks) z b (length m) (n .0) in
-      let f1 = fits (tray (z .ticks) (6 * blocks k) ∷ tray (z .blocks) (5 * blocks k) ∷ []) in
-      let f2 = fits (tray (z .«face_links») (o .entries Face) ∷ tray (z .«curve_links») (o .entries Curve) ∷ []) in
-      let f3 = fits (tray (z .«face_keys») (o .entries Face) ∷ tray (z .«face_rows») (2 * o .entries Face) ∷ []) in
-      let f4 = fits (tray (z .«curve_keys») (o .entries Curve) ∷ tray (z .«curve_rows») (4 * o .entries Curve) ∷ []) in
-      let t1 = and-right f1 (f2 && (f3 && f4)) (p .tables) in
-      let t2 = and-right f2 (f3 && f4) t1 in
-      let g1 = two-fit _ _ _ _ (and-left f1 (f2 && (f3 && f4)) (p .tables)) in
-      let g2 = two-fit _ _ _ _ (and-left f2 (f3 && f4) t1) in
-      let g3 = two-fit _ _ _ _ (and-left f3 f4 t2) in
-      let g4 = two-fit _ _ _ _ (and-right f3 f4 t2) in
+      let f1 = lengthsFit (tray (z .ticks) (6 * blocks k) ∷ tray (z .blocks) (5 * blocks k) ∷ []) in
+      let f2 = lengthsFit (tray (z .«face_links») (o .entries Face) ∷ tray (z .«curve_links») (o .entries Curve) ∷ []) in
+      let f3 = lengthsFit (tray (z .«face_keys») (o .entries Face) ∷ tray (z .«face_rows») (2 * o .entries Face) ∷ []) in
+      let f4 = lengthsFit (tray (z .«curve_keys») (o .entries Curve) ∷ tray (z .«curve_rows») (4 * o .entries Curve) ∷ []) in
+      let t1 = and-second f1 (f2 && (f3 && f4)) (p .tables) in
+      let t2 = and-second f2 (f3 && f4) t1 in
+      let g1 = two-fit _ _ _ _ (and-first f1 (f2 && (f3 && f4)) (p .tables)) in
+      let g2 = two-fit _ _ _ _ (and-first f2 (f3 && f4) t1) in
+      let g3 = two-fit _ _ _ _ (and-first f3 f4 t2) in
+      let g4 = two-fit _ _ _ _ (and-second f3 f4 t2) in
       let r = late-room j (filled (blockExtents k b) m) (byKind (largest (blockExtents k b) m 2) (largest (blockExtents k b) m 1) 0) (n .1) in
       let a1 = ltb (o .entries Face) (j .sofar Face + largest (blockExtents k b) m 2) in
       let a2 = ltb (o .entries Curve) (j .sofar Curve + largest (blockExtents k b) m 1) in
@@ -418,12 +418,12 @@ module _ (j : Job) (cx cy cz tk bl fl cl fk ck fr cr : List ℕ) (b : ℕ) (m : 
   refusal-told : p .refusal ≡ refusal start (enrol b m)
   refusal-told = J .told ∙ sym (refusal-is start b m)
 
-  pub enrol-refused : (p .refusal ≡ 0 → ⊥) → Step start (enrol b m) (answer (p .refusal) 0 []) start
+  pub enrol-refused : (p .refusal ≡ 0 → ⊥) → CallStep start (enrol b m) (answer (p .refusal) 0 []) start
   enrol-refused = step-refused start (enrol b m) (p .refusal) refusal-told
 
   module _ (z : p .refusal ≡ 0) where
     pub enrol-ready : Ready start b m × Planned (jobOf j cx cy cz) b m p
     enrol-ready = (ready-of start b m (sym (J .told) ∙ z), J .plan z)
 
-    pub enrol-accepted : (t : State) → EnrolDone start b m t → Step start (enrol b m) (answer 0 0 []) t
+    pub enrol-accepted : (t : State) → EnrolDone start b m t → CallStep start (enrol b m) (answer 0 0 []) t
     enrol-accepted t D = step-accepted start (enrol b m) (p .refusal) refusal-told z (answer 0 0 []) t refl (refl, D)

@@ -13,7 +13,7 @@ use Rattle.cells.specs.Extents.{Sized}
 use Rattle.cells.specs.Grid.{cells}
 use Rattle.labels.specs.Components.{largest}
 use Rattle.cutting.specs.Cutting.{blocks, blockExtents, goodCut}
-use Rattle.joiner.specs.Job.{Kind, Face, Curve, Point, Told, State, fits}
+use Rattle.joiner.specs.Job.{Kind, Face, Curve, Point, Told, State, lengthsFit}
 use Rattle.joiner.specs.Job as joiner
 use Rattle.joiner.specs.Stages.{enrolStep}
 use Rattle.joiner.specs.Calls.{full}
@@ -22,17 +22,17 @@ use Rattle.blocks.specs.Blocks.{sizeOf}
 use Rattle.blocks.specs.declared.Block.{Block}
 use Rattle.enrolment.specs.Enrolment.{Lies, keyIn, rowIn}
 use Rattle.job.specs.Jobs.{byKind, blockLengths, linkLengths, foundLengths}
-use Rattle.steps.specs.Steps.{orElse, reachedOf}
+use Rattle.steps.specs.Steps.{firstRefusal, reachedOf}
 use Rattle.enrolling.specs.declared.Sizes.{Sizes}
 use Rattle.enrolling.specs.declared.Plan.{Plan}
 
 -- ---- what is declined
 
--- `fits` of the tables that the joiner's `lentTo` names, of b blocks.
+-- `lengthsFit` of the tables that the joiner's `lentTo` names, of b blocks.
 unfoldable pub tablesFit : ℕ → ℕ → ℕ → Sizes → Bool
 tablesFit b faces curves z =
-    fits (blockLengths b (z .ticks) (z .blocks)) && (fits (linkLengths faces curves (z .«face_links») (z .«curve_links»)) &&
-    (fits (foundLengths 2 faces (z .«face_keys») (z .«face_rows»)) && fits (foundLengths 4 curves (z .«curve_keys») (z .«curve_rows»))))
+    lengthsFit (blockLengths b (z .ticks) (z .blocks)) && (lengthsFit (linkLengths faces curves (z .«face_links») (z .«curve_links»)) &&
+    (lengthsFit (foundLengths 2 faces (z .«face_keys») (z .«face_rows»)) && lengthsFit (foundLengths 4 curves (z .«curve_keys») (z .«curve_rows»))))
 
 -- 6 denies it, of a map with n cells.
 unfoldable pub lentFit : Told → Sizes → ℕ → ℕ → Bool
@@ -40,7 +40,7 @@ lentFit o z b n = eqb n (cells (blockExtents (o .cutting) b)) && tablesFit (bloc
 
 -- The refusals up to 6, 0 for none.
 unfoldable pub earlyOf : joiner.Job → List ℕ → Sizes → ℕ → ℕ → ℕ
-earlyOf j ticks z b n = orElse (reachedOf j joiner.Enrol ticks b (enrolStep b)) (cond (not (lentFit (j .told) z b n)) 6 0)
+earlyOf j ticks z b n = firstRefusal (reachedOf j joiner.Enrol ticks b (enrolStep b)) (cond (not (lentFit (j .told) z b n)) 6 0)
 
 -- The refusals from 8 on: f tells whether the map is filled, `more` its largest numbers.
 unfoldable pub lateOf : joiner.Job → Bool → (Kind → ℕ) → ℕ
@@ -49,7 +49,7 @@ lateOf j f more = cond (not (talliesFit j && f)) 8 (cond (full (j .told .entries
 -- All: the joiner's `refusal`.
 unfoldable pub refusalOf : joiner.Job → List ℕ → Sizes → ℕ → List ℕ → ℕ
 refusalOf j ticks z b m =
-    orElse (earlyOf j ticks z b (length m))
+    firstRefusal (earlyOf j ticks z b (length m))
     (lateOf j (filled (blockExtents (j .told .cutting) b) m)
     (byKind (largest (blockExtents (j .told .cutting) b) m 2) (largest (blockExtents (j .told .cutting) b) m 1) 0))
 

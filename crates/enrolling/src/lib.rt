@@ -28,7 +28,7 @@ ghost use Rattle.lists.specs.Lists.{overlay};
 ghost use Rattle.cells.specs.Box.{triple};
 ghost use Rattle.cutting.specs.Cutting.{blocks, goodCut};
 ghost use Rattle.joiner.specs.Calls.{enrol, answer, full};
-ghost use Rattle.joiner.specs.Entries.{EnrolDone, Step};
+ghost use Rattle.joiner.specs.Entries.{EnrolDone, CallStep};
 ghost use Rattle.blocks.specs.Blocks.{cutOf};
 ghost use Rattle.job.specs.Jobs.{byKind, anyCuts, toldOf, jobOf, tablesOf, stateOf};
 ghost use Rattle.enrolling.specs.Inner.{tablesFit, lentFit, earlyOf, lateOf, Judged, KindReady, KindDone, blockNumbers, Ready, Planned};
@@ -333,7 +333,7 @@ pub fn enrol(
     block: u32,
     m: &[u32],
 ) -> Enrolled
-    ensures { λ r. ⌜ Step
+    ensures { λ r. ⌜ CallStep
         (stateOf job (now (cx .entry)) (now (cy .entry)) (now (cz .entry))
         (tablesOf (now (ticks .entry)) (now (blocks .entry)) (now («face_links» .entry)) (now («curve_links» .entry)) (now («face_keys» .entry)) (now («curve_keys» .entry)) []
         (now («face_rows» .entry)) (now («curve_rows» .entry)) [] [] [] [] [] [] [] [] [] []))

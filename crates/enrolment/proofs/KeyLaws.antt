@@ -74,10 +74,10 @@ unfolding keyPut
 put-some from n k key t e z = rw (← e, ne-eqb k 0 z)
 
 module _ (v : Triple) (r : Block) (b : ℕ) (m : List ℕ) (from : ℕ) where
-  abbrev left : List ℕ → List ℕ → List ℕ
-  left = keyed v r b m from
+  abbrev still-left : List ℕ → List ℕ → List ℕ
+  still-left = keyed v r b m from
 
-  keyed-append : (ps qs t : List ℕ) → left (ps ++ qs) t ≡ left ps (left qs t)
+  keyed-append : (ps qs t : List ℕ) → still-left (ps ++ qs) t ≡ still-left ps (still-left qs t)
   unfolding keyed
   keyed-append [] qs t = refl
   keyed-append (p ∷ ps) qs t = ap (keyPut from (getD m p 0) (keyOf (positionIn v r p) b)) (keyed-append ps qs t)
@@ -87,7 +87,7 @@ module _ (v : Triple) (r : Block) (b : ℕ) (m : List ℕ) (from : ℕ) where
   among-key ps n = keyOf (firstIn v r (keep (λ p. eqb (getD m p 0) n) ps)) b
 
   keyed-overlay : (xs : List ℕ) (count : ℕ) (ps : List ℕ) → ((p : ℕ) → List·Memᴰ p ps → getD m p 0 ≤ count)
-      → left ps (overlay xs from (λ i. b) count) ≡ overlay xs from (λ i. among-key ps (suc i)) count
+      → still-left ps (overlay xs from (λ i. b) count) ≡ overlay xs from (λ i. among-key ps (suc i)) count
   unfolding keyed keyPut among-key firstIn keyOf
   keyed-overlay xs count [] h = overlay-same xs from (λ i. b) (λ i. 0 * 16384 + b) count (λ i l. omega arith)
   keyed-overlay xs count (p ∷ ps) h =
@@ -115,17 +115,17 @@ module _ (v : Triple) (r : Block) (b : ℕ) (m : List ℕ) (from : ℕ) where
     abbrev ahead : ℕ → List ℕ
     ahead x = keep g (consecutive (base + x) (w - x))
 
-    pub key-start : (x : ℕ) (t : List ℕ) → w ≤ x → t ≡ left (ahead x) t
+    pub key-start : (x : ℕ) (t : List ℕ) → w ≤ x → t ≡ still-left (ahead x) t
     unfolding keyed
     key-start x t h = rw (line-end T x h)
 
-    pub key-next : (x : ℕ) (t₀ t u : List ℕ) → 2 ≤ x → x - 2 < w → n ≡ (x - 2) % 2 + q → t ≡ left (ahead x) t₀
-        → u ≡ keyPut from (getD m (base + (x - 2)) 0) (keyOf (positionIn v r (base + (x - 2))) b) t → u ≡ left (ahead (x - 2)) t₀
+    pub key-next : (x : ℕ) (t₀ t u : List ℕ) → 2 ≤ x → x - 2 < w → n ≡ (x - 2) % 2 + q → t ≡ still-left (ahead x) t₀
+        → u ≡ keyPut from (getD m (base + (x - 2)) 0) (keyOf (positionIn v r (base + (x - 2))) b) t → u ≡ still-left (ahead (x - 2)) t₀
     unfolding keyed
     key-next x t₀ t u h k e i c = let s : x - 2 + 2 ≡ x = omega arith in rw (line-next T (x - 2) k e, s, ← i) c
 
-    pub key-end : (x : ℕ) (t₀ t : List ℕ) → x ≡ firstX n q w → t ≡ left (ahead x) t₀ → t ≡ left (keep g (consecutive base w)) t₀
-    key-end x t₀ t e i = i ∙ ap (λ (ps : List ℕ). left ps t₀) (ap ahead e ∙ sym (line-start T))
+    pub key-end : (x : ℕ) (t₀ t : List ℕ) → x ≡ firstX n q w → t ≡ still-left (ahead x) t₀ → t ≡ still-left (keep g (consecutive base w)) t₀
+    key-end x t₀ t e i = i ∙ ap (λ (ps : List ℕ). still-left ps t₀) (ap ahead e ∙ sym (line-start T))
 
   -- ---- line after line, from the last one
 
@@ -133,24 +133,24 @@ module _ (v : Triple) (r : Block) (b : ℕ) (m : List ℕ) (from : ℕ) where
     abbrev e : Triple
     e = sizeOf r
 
-    pub lines-start : (l : ℕ) (t : List ℕ) → lineCount e ≤ l → t ≡ left (fromLine e j l) t
+    pub lines-start : (l : ℕ) (t : List ℕ) → lineCount e ≤ l → t ≡ still-left (fromLine e j l) t
     unfolding keyed
     lines-start l t h = rw (from-last e j l h)
 
-    pub lines-next : (l : ℕ) (t₀ t u : List ℕ) → 0 < l → l ≤ lineCount e → t ≡ left (fromLine e j l) t₀ → u ≡ left (onLine e j (l - 1)) t → u ≡ left (fromLine e j (l - 1)) t₀
+    pub lines-next : (l : ℕ) (t₀ t u : List ℕ) → 0 < l → l ≤ lineCount e → t ≡ still-left (fromLine e j l) t₀ → u ≡ still-left (onLine e j (l - 1)) t → u ≡ still-left (fromLine e j (l - 1)) t₀
     lines-next l t₀ t u h k i c =
         let s : l - 1 + 1 ≡ l = omega arith in
-        c ∙ ap (left (onLine e j (l - 1))) (i ∙ ap (λ (x : ℕ). left (fromLine e j x) t₀) (sym s))
-        ∙ sym (ap (λ (ps : List ℕ). left ps t₀) (from-next e j (l - 1) (omega arith)) ∙ keyed-append (onLine e j (l - 1)) (fromLine e j (l - 1 + 1)) t₀)
+        c ∙ ap (still-left (onLine e j (l - 1))) (i ∙ ap (λ (x : ℕ). still-left (fromLine e j x) t₀) (sym s))
+        ∙ sym (ap (λ (ps : List ℕ). still-left ps t₀) (from-next e j (l - 1) (omega arith)) ∙ keyed-append (onLine e j (l - 1)) (fromLine e j (l - 1 + 1)) t₀)
 
-    pub lines-end : (l count : ℕ) (xs t₀ t : List ℕ) → l ≤ 0 → count ≡ largest e m j → t₀ ≡ overlay xs from (λ i. b) count → t ≡ left (fromLine e j l) t₀
+    pub lines-end : (l count : ℕ) (xs t₀ t : List ℕ) → l ≤ 0 → count ≡ largest e m j → t₀ ≡ overlay xs from (λ i. b) count → t ≡ still-left (fromLine e j l) t₀
         → t ≡ overlay xs from (λ i. keyIn v r b m j (suc i)) count
     unfolding keyIn component among-key
     lines-end l count xs t₀ t h k i c =
         let z : l ≡ 0 = omega arith in
         let high : (p : ℕ) → List·Memᴰ p (ofOrder e j) → getD m p 0 ≤ count =
         λ p d. let o = of-order-out e j d in rw (k, ← o .1) (largest-bound e m p (o .0)) in
-        c ∙ ap₂ left (ap (fromLine e j) z ∙ from-first e j) i ∙ keyed-overlay xs count (ofOrder e j) high
+        c ∙ ap₂ still-left (ap (fromLine e j) z ∙ from-first e j) i ∙ keyed-overlay xs count (ofOrder e j) high
 
 -- ---- the cells of order j on line l
 
@@ -174,28 +174,28 @@ pub record Ends (w start x : ℕ) : Type 0 where
   pub past : w ≤ x
 
 module _ {v : Triple} {r : Block} {m : List ℕ} {j l w start at : ℕ} (A : Along v r m j l w start at) where
-  abbrev grid : Triple
-  grid = sizeOf r
+  abbrev extents-here : Triple
+  extents-here = sizeOf r
 
   abbrev axes : ℕ
-  axes = lineY grid l + lineZ grid l
+  axes = lineY extents-here l + lineZ extents-here l
 
-  along-tests : Tests (λ c. eqb (order grid c) j) (l * w) w (3 - j) axes
-  along-tests = rw (A .wide) (order-tests grid j l (omega (arith, A .below)))
+  along-tests : Tests (λ c. eqb (order extents-here c) j) (l * w) w (3 - j) axes
+  along-tests = rw (A .wide) (order-tests extents-here j l (omega (arith, A .below)))
 
   -- the line, and where it ends
   pub line-fits : l * w + w ≤ 2048383
   unfolding sides
   line-fits =
       let s = A .lies .sized in
-      let n : w ≡ 2 * grid .x - 1 = A .wide in
-      let i : l * (2 * grid .x - 1) + (2 * grid .x - 2) < cells grid = line-inside grid l (2 * grid .x - 2) (omega (arith, s .x-low)) (A .on) in
+      let n : w ≡ 2 * extents-here .x - 1 = A .wide in
+      let i : l * (2 * extents-here .x - 1) + (2 * extents-here .x - 2) < cells extents-here = line-inside extents-here l (2 * extents-here .x - 2) (omega (arith, s .x-low)) (A .on) in
       rw n (omega (arith, cells-high s, s .x-low))
 
   pub along-ends : Ends w start (w + 1 - start % 2)
   unfolding sides
   along-ends =
-      let n : w ≡ 2 * grid .x - 1 = A .wide in
+      let n : w ≡ 2 * extents-here .x - 1 = A .wide in
       let s : start ≤ w = rw (A .first) (first-most (3 - j) axes w (omega (arith, A .lies .sized .x-low))) in
       record { low = omega arith; even = omega (arith, A .lies .sized .x-low); high = omega arith; past = omega arith }
 
@@ -205,18 +205,18 @@ module _ {v : Triple} {r : Block} {m : List ℕ} {j l w start at : ℕ} (A : Alo
 
     pub along-here : Here v r m j l w x at
     along-here =
-        let p : ℕ = l * sides grid .x + x in
-        let k : x < sides grid .x = omega (arith, A .wide) in
-        let i : p < cells grid = line-inside grid l x k (A .on) in
+        let p : ℕ = l * sides extents-here .x + x in
+        let k : x < sides extents-here .x = omega (arith, A .wide) in
+        let i : p < cells extents-here = line-inside extents-here l x k (A .on) in
         let s : at + x ≡ positionIn v r p = ap (λ (n : ℕ). n + x) (A .begins) ∙ position-line v r l x k in
-        let o : order grid p ≡ j = eqb-true (order grid p) j (order-tests grid j l (omega (arith, A .below)) .at x k ∙ eq-eqb (3 - j) (x % 2 + axes) passes) in
+        let o : order extents-here p ≡ j = eqb-true (order extents-here p) j (order-tests extents-here j l (omega (arith, A .below)) .at x k ∙ eq-eqb (3 - j) (x % 2 + axes) passes) in
         rw (A .wide)
-        (record { within = omega (arith, A .size); few = omega (arith, A .size, cells-high (A .lies .sized)); number = rw (← o) (largest-bound grid m p i); position = s; high = omega (arith, position-high (A .lies) p i) })
+        (record { within = omega (arith, A .size); few = omega (arith, A .size, cells-high (A .lies .sized)); number = rw (← o) (largest-bound extents-here m p i); position = s; high = omega (arith, position-high (A .lies) p i) })
 
   module _ (b from : ℕ) (t₀ : List ℕ) where
     -- what the cells from x on leave
     abbrev behind : ℕ → List ℕ
-    behind x = keyed v r b m from (among grid j (l * w + x) (w - x)) t₀
+    behind x = keyed v r b m from (among extents-here j (l * w + x) (w - x)) t₀
 
     pub cells-start : (x : ℕ) → w ≤ x → t₀ ≡ behind x
     cells-start x h = key-start v r b m from along-tests x t₀ h
@@ -225,11 +225,11 @@ module _ {v : Triple} {r : Block} {m : List ℕ} {j l w start at : ℕ} (A : Alo
         → u ≡ keyPut from (getD m (l * w + (x - 2)) 0) (keyOf (positionIn v r (l * w + (x - 2))) b) t → u ≡ behind (x - 2)
     cells-next x t u g low even h i c = key-next v r b m from along-tests x t₀ t u (omega arith) (omega arith) (passes (x - 2) (omega arith) (omega arith) (omega arith)) i c
 
-    pub cells-end : (x : ℕ) (t : List ℕ) → start ≤ x → x ≤ start → t ≡ behind x → t ≡ keyed v r b m from (onLine grid j l) t₀
+    pub cells-end : (x : ℕ) (t : List ℕ) → start ≤ x → x ≤ start → t ≡ behind x → t ≡ keyed v r b m from (onLine extents-here j l) t₀
     unfolding onLine
     cells-end x t low h i =
         let s : x ≡ start = omega arith in
-        key-end v r b m from along-tests x t₀ t (s ∙ A .first) i ∙ ap (λ (n : ℕ). keyed v r b m from (among grid j (l * n) n) t₀) (A .wide)
+        key-end v r b m from along-tests x t₀ t (s ∙ A .first) i ∙ ap (λ (n : ℕ). keyed v r b m from (among extents-here j (l * n) n) t₀) (A .wide)
 
 -- ---- the joiner's keys
 

@@ -15,7 +15,7 @@ use Rattle.lists.proofs.Cases.{by-test, and-both}
 use Rattle.lists.proofs.Overlay.{overlay-same}
 use Rattle.cells.specs.Box.{Triple, Axis, X, Y, Z, coord, each, index, place}
 use Rattle.cells.specs.Extents.{Sized}
-use Rattle.cells.specs.Grid.{sides, cells, odd, order}
+use Rattle.cells.specs.Grid.{sides, cells, parity, order}
 use Rattle.cells.specs.Row.{rowOf, row}
 use Rattle.cells.proofs.BoxLaws.{Inside, same-triple, index-place, place-index, index-inside}
 use Rattle.cells.proofs.GridLaws.{inside}
@@ -102,7 +102,7 @@ module _ {v : Triple} {r : Block} (L : Lies v r) (p : ℕ) (h : p < cells (sizeO
 
   -- only a voxel can stand at position 0
   position-some : order (sizeOf r) p ≤ 2 → positionIn v r p ≢ 0
-  unfolding order odd shiftIn
+  unfolding order parity shiftIn
   position-some o z = omega (arith, none X, none Y, none Z)
     where
       shift-none-on : (a : Axis) → coord (shiftIn r spot) a ≡ 0

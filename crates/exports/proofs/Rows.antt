@@ -10,7 +10,7 @@ use lib.ListN.{getD, length, take, drop, length-take, length-drop}
 use lib.Seq.{ext-getD}
 use borrow.Author.Tests.{leb-true, ltb-true}
 use Rattle.lists.specs.Lists.{consecutive, tabulate}
-use Rattle.lists.proofs.Cases.{and-left, and-right}
+use Rattle.lists.proofs.Cases.{and-first, and-second}
 use Rattle.lists.proofs.Lists.{getD-tabulate, length-tabulate}
 use Rattle.joiner.specs.Job.{Kind, Face, Curve, Point, width, State, listedTrays}
 use Rattle.joiner.specs.Calls.{reading}
@@ -22,21 +22,21 @@ use Rattle.exports.specs.Exports.{sixOf}
 
 -- The row of an accepted reading has its two, four or six places.
 module _ (s : State) (κ : Kind) (n : ℕ) (e : refusal s (reading κ n) ≡ 0) where
-  F : Facts s (reading κ n)
-  F = facts s (reading κ n) e
+  call-facts : Facts s (reading κ n)
+  call-facts = facts s (reading κ n) e
 
   long : (κ′ : Kind) → length (s .tables .listed κ′) ≡ width κ′ * s .job .told .entries κ′
   unfolding listedTrays
-  long Face = fits-at (lentTo (s .job .told) (s .tables) (reading κ n)) 0 (F .lent)
-  long Curve = fits-at (lentTo (s .job .told) (s .tables) (reading κ n)) 1 (F .lent)
-  long Point = fits-at (lentTo (s .job .told) (s .tables) (reading κ n)) 2 (F .lent)
+  long Face = fits-at (lentTo (s .job .told) (s .tables) (reading κ n)) 0 (call-facts .lent)
+  long Curve = fits-at (lentTo (s .job .told) (s .tables) (reading κ n)) 1 (call-facts .lent)
+  long Point = fits-at (lentTo (s .job .told) (s .tables) (reading κ n)) 2 (call-facts .lent)
 
   pub row-wide : length (rowTaken s κ n) ≡ width κ
   unfolding rowTaken
   row-wide =
-      let some : 0 < n = ltb-true 0 n (and-left (ltb 0 n) (leb n (s .job .numbered κ)) (F .at)) in
-      let most : n ≤ s .job .numbered κ = leb-true n (s .job .numbered κ) (and-right (ltb 0 n) (leb n (s .job .numbered κ)) (F .at)) in
-      let within : n ≤ s .job .told .entries κ = omega (arith, most, numbered-fits (s .job) (F .tallies) κ) in
+      let some : 0 < n = ltb-true 0 n (and-first (ltb 0 n) (leb n (s .job .numbered κ)) (call-facts .at)) in
+      let most : n ≤ s .job .numbered κ = leb-true n (s .job .numbered κ) (and-second (ltb 0 n) (leb n (s .job .numbered κ)) (call-facts .at)) in
+      let within : n ≤ s .job .told .entries κ = omega (arith, most, numbered-fits (s .job) (call-facts .tallies) κ) in
       let inside : width κ * n ≤ length (s .tables .listed κ) = rw (long κ) (mul-le-mul-left (width κ) within) in
       let a = length-take (width κ) (drop (width κ * (n - 1)) (s .tables .listed κ)) in
       let b = length-drop (width κ * (n - 1)) (s .tables .listed κ) in

@@ -8,11 +8,11 @@ use lib.Dec.{eqb}
 use lib.ListN.{getD}
 use Rattle.joiner.specs.Job.{Kind, Face, Curve, Point, Told, Tables}
 use Rattle.joiner.specs.Calls.{Call, reading, answer}
-use Rattle.joiner.specs.Entries.{Opening, Step}
+use Rattle.joiner.specs.Entries.{Opening, CallStep}
 use Rattle.job.specs.declared.Job.{Job}
 use Rattle.job.specs.declared.Stage.{Stage}
 use Rattle.job.specs.Jobs.{stateOf, tablesOf, anyCuts}
-use Rattle.job_numbers.specs.Numbers.{jobIn, kept}
+use Rattle.job_numbers.specs.Numbers.{jobIn, keptNumbers}
 
 -- What holds whatever the tables are. An export's contract takes out of them those that the call is not lent.
 abbrev pub anyTables : (Tables → Type 0) → Type 0
@@ -22,29 +22,29 @@ anyTables P = (t : Tables) → P t
 pub record ExportedOpening (ns ns′ : List ℕ) (o : Told) (t t′ : Tables) (r : ℕ) : Type 0 where
   pub job : Job
   pub opening : Opening o t r (stateOf job (o .cutting .cx) (o .cutting .cy) (o .cutting .cz) t′)
-  pub stored : ns′ ≡ kept r ns job
+  pub stored : ns′ ≡ keptNumbers r ns job
 
--- Of a step: the joiner's `Step`, on all nineteen tables, from the job that the numbers tell. A number that is no stage is read as `other`,
+-- Of a step: the joiner's `CallStep`, on all nineteen tables, from the job that the numbers tell. A number that is no stage is read as `other`,
 -- which is not the call's. The job is stored if the step is accepted, and the numbers stay if it is refused.
 pub record ExportedStep (ns ns′ : List ℕ) (other : Stage) (cx cy cz : List ℕ) (t t′ : Tables) (c : Call) (r : ℕ) : Type 0 where
   pub job : Job
-  pub step : Step (stateOf (jobIn ns other) cx cy cz t) c (answer r 0 []) (stateOf job cx cy cz t′)
-  pub numbers : ns′ ≡ kept r ns job
+  pub step : CallStep (stateOf (jobIn ns other) cx cy cz t) c (answer r 0 []) (stateOf job cx cy cz t′)
+  pub numbers : ns′ ≡ keptNumbers r ns job
 
--- Of a lookup: the joiner's `Step`; the number is stored if it is accepted, and stays if it is refused.
+-- Of a lookup: the joiner's `CallStep`; the number is stored if it is accepted, and stays if it is refused.
 pub record ExportedLookup (ns : List ℕ) (other : Stage) (cx cy cz : List ℕ) (t : Tables) (c : Call) (r v v′ : ℕ) : Type 0 where
   pub found : ℕ
-  pub step : Step (stateOf (jobIn ns other) cx cy cz t) c (answer r found []) (stateOf (jobIn ns other) cx cy cz t)
+  pub step : CallStep (stateOf (jobIn ns other) cx cy cz t) c (answer r found []) (stateOf (jobIn ns other) cx cy cz t)
   pub number : v′ ≡ cond (eqb r 0) found v
 
 -- A part filled with zeros to six places.
 unfoldable pub sixOf : List ℕ → List ℕ
 sixOf part = getD part 0 0 ∷ getD part 1 0 ∷ getD part 2 0 ∷ getD part 3 0 ∷ getD part 4 0 ∷ getD part 5 0 ∷ []
 
--- Of a row reading: the joiner's `Step`; the row is stored if it is accepted, and the places stay if it is refused.
+-- Of a row reading: the joiner's `CallStep`; the row is stored if it is accepted, and the places stay if it is refused.
 pub record ExportedRow (j : Job) (cx cy cz : List ℕ) (t : Tables) (κ : Kind) (n r : ℕ) (row row′ : List ℕ) : Type 0 where
   pub part : List ℕ
-  pub step : Step (stateOf j cx cy cz t) (reading κ n) (answer r 0 part) (stateOf j cx cy cz t)
+  pub step : CallStep (stateOf j cx cy cz t) (reading κ n) (answer r 0 part) (stateOf j cx cy cz t)
   pub places : row′ ≡ cond (eqb r 0) (sixOf part) row
 
 -- It is lent the three closed tables of rows, and neither cut lists nor another table: the same whatever these are.

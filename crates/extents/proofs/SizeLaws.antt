@@ -5,18 +5,18 @@ use mathlib.Core.Bool.{true, false, _&&_}
 use Prim.Native.Nat.{ℕ, _≤_}
 use lib.Dec.{leb}
 use borrow.Author.Tests.{leb-true, not-false}
-use Rattle.lists.proofs.Cases.{and-left, and-right, neither}
+use Rattle.lists.proofs.Cases.{and-first, and-second, neither}
 use Rattle.cells.specs.Box.{Triple}
 use Rattle.cells.specs.Extents.{Sized, isExtent, offSize, offPlace}
 
 module _ (limit n : ℕ) (t : isExtent limit n ≡ true) where
   extent-low : 1 ≤ n
   unfolding isExtent
-  extent-low = leb-true 1 n (and-left (leb 1 n) (leb n limit) t)
+  extent-low = leb-true 1 n (and-first (leb 1 n) (leb n limit) t)
 
   extent-high : n ≤ limit
   unfolding isExtent
-  extent-high = leb-true n limit (and-right (leb 1 n) (leb n limit) t)
+  extent-high = leb-true n limit (and-second (leb 1 n) (leb n limit) t)
 
 pub sized-of : (limit : ℕ) (e : Triple) → offSize limit e ≡ false → Sized limit e
 unfolding offSize
@@ -25,9 +25,9 @@ sized-of limit e t =
     let y = isExtent limit (e .y) in
     let z = isExtent limit (e .z) in
     let a = not-false (x && (y && z)) t in
-    let on-x = and-left x (y && z) a in
-    let on-y = and-left y z (and-right x (y && z) a) in
-    let on-z = and-right y z (and-right x (y && z) a) in
+    let on-x = and-first x (y && z) a in
+    let on-y = and-first y z (and-second x (y && z) a) in
+    let on-z = and-second y z (and-second x (y && z) a) in
     record {
       x-low = extent-low limit (e .x) on-x;
       y-low = extent-low limit (e .y) on-y;

@@ -12,7 +12,7 @@ use Rattle.lists.specs.Lists.{consecutive, tabulate}
 use Rattle.lists.proofs.Lists.{keep-append, length-tabulate}
 use Rattle.cells.specs.Box.{Triple, X, Y, Z, stride}
 use Rattle.cells.specs.Extents.{Sized}
-use Rattle.cells.specs.Grid.{sides, cells, order, up}
+use Rattle.cells.specs.Grid.{sides, cells, order, upperNeighbours}
 use Rattle.cells.specs.Row.{rowOf, occupied}
 use Rattle.cells.proofs.ExtentLaws.{cells-high}
 use Rattle.cells.proofs.GridLaws.{odd-lt}
@@ -58,7 +58,7 @@ module _ (e : Triple) (p : ℕ) (level : order e p ≡ 0) where
   point-odds = odds-are e p 1 1 1 (omega (arith, odd-lt e p X, odd-lt e p Y, odd-lt e p Z, level)) (omega (arith, odd-lt e p X, odd-lt e p Y, odd-lt e p Z, level)) (omega (arith, odd-lt e p X, odd-lt e p Y, odd-lt e p Z, level))
 
   module _ (m : List ℕ) where
-    pub point-around : getD m (p - 1) 0 ∷ getD m (p + 1) 0 ∷ getD m (p - wide) 0 ∷ getD m (p + wide) 0 ∷ getD m (p - layer) 0 ∷ getD m (p + layer) 0 ∷ [] ≡ numbersAt m (up e p)
+    pub point-around : getD m (p - 1) 0 ∷ getD m (p + 1) 0 ∷ getD m (p - wide) 0 ∷ getD m (p + wide) 0 ∷ getD m (p - layer) 0 ∷ getD m (p + layer) 0 ∷ [] ≡ numbersAt m (upperNeighbours e p)
     unfolding numbersAt around
     point-around = rw (up-around e p, point-odds)
 
@@ -73,9 +73,9 @@ module _ (e : Triple) (p : ℕ) (level : order e p ≡ 0) where
       reads-z = reads e m p size h (1 ∷ wide ∷ []) layer [] point-odds
 
 -- the row of a cell, where a holds the numbers of its upper neighbours
-pub row-of-around : (e : Triple) (numbers : List ℕ) (from : ℕ) (m : List ℕ) (p : ℕ) (a row : List ℕ) → a ≡ numbersAt m (up e p) → row ≡ rowOf (finalsIn numbers from a) → row ≡ foundRow e numbers from m p
+pub row-of-around : (e : Triple) (numbers : List ℕ) (from : ℕ) (m : List ℕ) (p : ℕ) (a row : List ℕ) → a ≡ numbersAt m (upperNeighbours e p) → row ≡ rowOf (finalsIn numbers from a) → row ≡ foundRow e numbers from m p
 unfolding foundRow finalsIn numbersAt
-row-of-around e numbers from m p a row i k = k ∙ rw i (ap rowOf (map-map (finalIn numbers from) (λ q. getD m q 0) (up e p)))
+row-of-around e numbers from m p a row i k = k ∙ rw i (ap rowOf (map-map (finalIn numbers from) (λ q. getD m q 0) (upperNeighbours e p)))
 
 -- ---- the points among the cells of a list
 

@@ -106,8 +106,8 @@ module _ (v : Triple) (r : Block) (b : ℕ) (m numbers : List ℕ) (from : ℕ) 
           }
 
       module _ (cs ds : List ℕ) (split : qs ≡ cs ++ ds) where
-        both : found qs ≡ found cs ++ found ds
-        both = ap found split ∙ found-append (sizeOf r) numbers from m cs ds
+        found-both : found qs ≡ found cs ++ found ds
+        found-both = ap found split ∙ found-append (sizeOf r) numbers from m cs ds
 
         many : length (found qs) ≡ length (found cs) + length (found ds)
         many = ap (λ (l : List ℕ). length (found l)) split ∙ found-length (sizeOf r) numbers from m cs ds
@@ -123,10 +123,10 @@ module _ (v : Triple) (r : Block) (b : ℕ) (m numbers : List ℕ) (from : ℕ) 
         left-next keys″ rows″ k S = record {
           reaches = omega (arith, S .next, many, L .reaches);
           keys-left = ap₂ (written 1 (keyAt v r b) (found ds)) (S .next) (S .keys-are)
-              ∙ sym (ap (λ (l : List ℕ). written 1 (keyAt v r b) l n keys′) both ∙ written-append 1 (keyAt v r b) (found cs) (found ds) n keys′)
+              ∙ sym (ap (λ (l : List ℕ). written 1 (keyAt v r b) l n keys′) found-both ∙ written-append 1 (keyAt v r b) (found cs) (found ds) n keys′)
               ∙ L .keys-left;
           rows-left = ap₂ (written 6 (rowEntry r numbers from m) (found ds)) (S .next) (S .rows-are)
-              ∙ sym (ap (λ (l : List ℕ). written 6 (rowEntry r numbers from m) l n rows′) both ∙ written-append 6 (rowEntry r numbers from m) (found cs) (found ds) n rows′)
+              ∙ sym (ap (λ (l : List ℕ). written 6 (rowEntry r numbers from m) l n rows′) found-both ∙ written-append 6 (rowEntry r numbers from m) (found cs) (found ds) n rows′)
               ∙ L .rows-left;
           keys-long = ap length (S .keys-are) ∙ length-written 1 (keyAt v r b) (found cs) n keys′ ∙ L .keys-long;
           rows-long = ap length (S .rows-are) ∙ length-written 6 (rowEntry r numbers from m) (found cs) n rows′ ∙ L .rows-long;
@@ -149,17 +149,17 @@ module _ {v : Triple} {r : Block} {m : List ℕ} {l w start first : ℕ} (A : Al
   along-first = (at-first (sizeOf r) l start starts, ahead-first (sizeOf r) l start starts)
 
   module _ (x : ℕ) (P : AtPoint (sizeOf r) l x) (h : x < w) where
-    low : x < sides (sizeOf r) .x
-    low = rw (A .wide) at h
+    x-low : x < sides (sizeOf r) .x
+    x-low = rw (A .wide) at h
 
     pub along-here : Here v r l w x first
     along-here =
-        let i = at-within (sizeOf r) l x P low (A .on) in
-        let s = ap (λ (n : ℕ). n + x) (A .begins) ∙ position-line v r l x low in
-        rw (A .wide) (record { within = i; level = at-level (sizeOf r) l x P low; position = s; high = omega (arith, position-high (A .lies) (l * sides (sizeOf r) .x + x) i) })
+        let i = at-within (sizeOf r) l x P x-low (A .on) in
+        let s = ap (λ (n : ℕ). n + x) (A .begins) ∙ position-line v r l x x-low in
+        rw (A .wide) (record { within = i; level = at-level (sizeOf r) l x P x-low; position = s; high = omega (arith, position-high (A .lies) (l * sides (sizeOf r) .x + x) i) })
 
     pub along-next : ahead (sizeOf r) l x ≡ ((l * w + x) ∷ []) ++ ahead (sizeOf r) l (x + 2)
-    along-next = rw (A .wide) (ahead-next (sizeOf r) l x P low)
+    along-next = rw (A .wide) (ahead-next (sizeOf r) l x P x-low)
 
   pub along-last : (x : ℕ) → w ≤ x → ahead (sizeOf r) l x ≡ []
   along-last x h = ahead-last (sizeOf r) l x (rw (A .wide) at h)

@@ -10,7 +10,7 @@ use lib.ListN.{getD, length}
 use Rattle.lists.specs.Lists.{keep, overlay}
 use Rattle.cells.specs.Box.{Triple}
 use Rattle.cells.specs.Extents.{Sized}
-use Rattle.cells.specs.Grid.{cells, order, up}
+use Rattle.cells.specs.Grid.{cells, order, upperNeighbours}
 use Rattle.cells.specs.Row.{rowOf, occupied}
 use Rattle.labels.specs.Components.{ofOrder}
 use Rattle.joiner.specs.Job.{keyOf}
@@ -24,7 +24,7 @@ finalIn numbers from n = cond (eqb n 0) 0 (getD numbers (from + (n - 1)) 0)
 
 -- "Point rows are worked out over the final curves."
 unfoldable pub foundRow : Triple → List ℕ → ℕ → List ℕ → ℕ → List ℕ
-foundRow e numbers from m p = rowOf (map (λ q. finalIn numbers from (getD m q 0)) (up e p))
+foundRow e numbers from m p = rowOf (map (λ q. finalIn numbers from (getD m q 0)) (upperNeighbours e p))
 
 -- The cells of a list that are points of the volume.
 unfoldable pub foundAmong : Triple → List ℕ → ℕ → List ℕ → List ℕ → List ℕ

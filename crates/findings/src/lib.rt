@@ -11,7 +11,7 @@ ghost use lib.ListN.{length, getD};
 ghost use Rattle.lists.specs.Lists.{overlay};
 ghost use Rattle.cells.specs.Box.{triple};
 ghost use Rattle.cells.specs.Extents.{Sized};
-ghost use Rattle.cells.specs.Grid.{cells, up};
+ghost use Rattle.cells.specs.Grid.{cells, upperNeighbours};
 ghost use Rattle.cells.specs.Row.{rowOf};
 ghost use Rattle.lines.specs.Lines.{lineCount};
 ghost use Rattle.joiner.specs.Job.{keyOf};
@@ -50,7 +50,7 @@ fn finals(a: [u32; 6], numbers: &[u32], from: u32) -> [u32; 6]
 // The numbers of the upper neighbours of a point cell.
 fn around(map: &[u32], nx: usize, ny: usize, nz: usize, p: usize) -> [u32; 6]
     requires { ⌜ PointCell (triple nx ny nz) (now map) p ⌝ }
-    ensures { λ r. ⌜ r ≡ numbersAt (now (map .entry)) (up (triple nx ny nz) p) ⌝ }
+    ensures { λ r. ⌜ r ≡ numbersAt (now (map .entry)) (upperNeighbours (triple nx ny nz) p) ⌝ }
 {
     let w = 2 * nx - 1;
     let wh = w * (2 * ny - 1);

@@ -7,11 +7,11 @@ use Prim.Native.Nat.{ℕ, _+_}
 use lib.Dec.{eqb}
 use lib.ListN.{getD, set}
 use Rattle.refusals.specs.Refusals.{first, givenBy, number, standsIn, table}
-use Rattle.joiner.specs.Job.{Kind, Face, Curve, Point, Job, Tables, State, ticked, countOf, fromOf, node, firstAt, fits, blockTrays, linkTrays, foundTrays, numberTrays, firstTrays, listedTrays, kindTrays}
+use Rattle.joiner.specs.Job.{Kind, Face, Curve, Point, Job, Tables, State, ticked, countOf, fromOf, node, firstAt, lengthsFit, blockTrays, linkTrays, foundTrays, numberTrays, firstTrays, listedTrays, kindTrays}
 use Rattle.joiner.specs.Stages.{nextAfter}
 use Rattle.joiner.specs.Calls.{Call, enrol, join, cross, point, look, reading, Answer, answer, full, overfull}
 use Rattle.joiner.specs.Declines.{refusal, declines, stray, mapStands, waysStand, linksStand, allLinksStand, numberStands, curvesStand, handedStands, lookStands, counted, standing, rowsStand, lastCrossing, adds, finalOf, finalRow, pointCells}
-use Rattle.joiner.specs.Entries.{Step, Done, Ticked, EnrolDone, SeamDone, CrossingDone, PointDone, KeptFound, NumberedKind, Merged, AtSeam, AtCrossing, blockEntry, through, joinedRow, notAfter, classOf, isOne, leads, heads, rank, headOf, rowAt, finalFace, rowFinal, cellNumber, lookedUp, rowTaken}
+use Rattle.joiner.specs.Entries.{CallStep, Done, Ticked, EnrolDone, SeamDone, CrossingDone, PointDone, KeptFound, NumberedKind, Merged, AtSeam, AtCrossing, blockEntry, throughLinks, joinedRow, notAfter, classOf, isOne, leads, heads, rank, headOf, rowAt, finalFace, rowFinal, cellNumber, lookedUp, rowTaken}
 use Rattle.joiner.proofs.Roots.{together-map}
 use Rattle.frames.specs.Frames.{around}
 
@@ -19,7 +19,7 @@ use Rattle.frames.specs.Frames.{around}
 
 module _ (e o : Tables) (s : State) where
   pub refusal-same : (c : Call) → refusal (around c e s) c ≡ refusal (around c o s) c
-  unfolding refusal givenBy first table number standsIn declines stray mapStands waysStand linksStand allLinksStand numberStands curvesStand handedStands lookStands counted standing countOf fromOf ticked fits blockTrays linkTrays foundTrays numberTrays firstTrays listedTrays kindTrays full overfull adds pointCells finalRow finalOf node rowsStand lastCrossing
+  unfolding refusal givenBy first table number standsIn declines stray mapStands waysStand linksStand allLinksStand numberStands curvesStand handedStands lookStands counted standing countOf fromOf ticked lengthsFit blockTrays linkTrays foundTrays numberTrays firstTrays listedTrays kindTrays full overfull adds pointCells finalRow finalOf node rowsStand lastCrossing
   refusal-same (enrol b m) = refl
   refusal-same (join b c m n) = refl
   refusal-same (cross b m) = refl
@@ -59,7 +59,7 @@ module _ (e o : Tables) (s : State) where
 
   crossing-same : (b : ℕ) (m : List ℕ) (x y : ℕ) → AtCrossing (s .job .told .cutting) (around (cross b m) e s .tables) b m x y
       → AtCrossing (s .job .told .cutting) (around (cross b m) o s .tables) b m x y
-  unfolding node fromOf joinedRow through
+  unfolding node fromOf joinedRow throughLinks
   crossing-same b m x y A =
       record {
         at = A .at;
@@ -188,7 +188,7 @@ module _ (e o : Tables) (s t : State) where
   done-same (reading Point n) a D = (D .0, same-around e o s t (reading Point n) (D .1))
 
   -- The framing law: what a call does with some tables around its own, it does with any.
-  pub framed : (c : Call) (a : Answer) → Step (around c e s) c a (around c e t) → Step (around c o s) c a (around c o t)
+  pub framed : (c : Call) (a : Answer) → CallStep (around c e s) c a (around c e t) → CallStep (around c o s) c a (around c o t)
   framed c a S =
       let p = refusal-same e o s c in
       record {

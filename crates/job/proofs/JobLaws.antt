@@ -8,7 +8,7 @@ use native.Mathlib.Nat.{mul-le-mul}
 use native.Mathlib.Omega.{arith}
 use lib.Dec.{eqb, leb}
 use borrow.Author.Tests.{eq-eqb, ne-eqb, le-leb, lt-leb, not-true, not-false}
-use Rattle.joiner.specs.Job.{Kind, Face, Curve, Point, Tray, fits}
+use Rattle.joiner.specs.Job.{Kind, Face, Curve, Point, Tray, lengthsFit}
 use Rattle.joiner.specs.Entries.{Fresh, nothing}
 use Rattle.job.specs.declared.Job.{Job}
 use Rattle.job.specs.Jobs.{byKind, jobOf, freshJob, NoJob}
@@ -45,10 +45,10 @@ module _ (has states : ℕ) (ok : Bool) where
   pub also-other : (has ≡ states → ⊥) → false ≡ (eqb has states && ok)
   also-other n = rw (ne-eqb has states n)
 
-pub fits-append : (a b : List Tray) → fits (a ++ b) ≡ (fits a && fits b)
-unfolding fits
+pub fits-append : (a b : List Tray) → lengthsFit (a ++ b) ≡ (lengthsFit a && lengthsFit b)
+unfolding lengthsFit
 fits-append [] b = refl
-fits-append (t ∷ a) b = rw (fits-append a b) (sym (and-assoc (eqb (t .has) (t .states)) (fits a) (fits b)))
+fits-append (t ∷ a) b = rw (fits-append a b) (sym (and-assoc (eqb (t .has) (t .states)) (lengthsFit a) (lengthsFit b)))
 
 pub places-high : (w n : ℕ) → w < 256 → n < 2 ^ 32 → w * n ≤ 255 * 4294967295
 places-high w n h k = mul-le-mul {n₂ = 255} {m₂ = 4294967295} (omega arith) (omega arith)

@@ -4,7 +4,7 @@ ghost use mathlib.Core.Bool.{_&&_};
 ghost use mathlib.Core.List.{[], _∷_};
 ghost use Prim.Native.Nat.{_*_, _≤_};
 ghost use lib.Dec.{eqb, leb};
-ghost use Rattle.joiner.specs.Job.{stageNumber, sameStage, tray, fits};
+ghost use Rattle.joiner.specs.Job.{stageNumber, sameStage, tray, lengthsFit};
 ghost use Rattle.joiner.specs.Declines.{talliesFit};
 ghost use Rattle.job.specs.Jobs.{stageOf, jobOf, freshJob, anyCuts, NoJob, blockLengths, linkLengths, foundLengths, kindLengths};
 
@@ -133,7 +133,7 @@ fn places(width: u8, entries: u32) -> u64
 // The lengths of the tables of blocks: six ticks and five numbers for each. Not an entry.
 pub fn block_trays(blocks: usize, ticks: usize, numbers: usize) -> bool
     requires { ⌜ blocks ≤ 16384 ⌝ }
-    ensures { λ r. ⌜ r ≡ fits (blockLengths blocks ticks numbers) ⌝ }
+    ensures { λ r. ⌜ r ≡ lengthsFit (blockLengths blocks ticks numbers) ⌝ }
 {
     let n = blocks as u64;
     also(also(true, numbers, 5 * n), ticks, 6 * n)
@@ -141,21 +141,21 @@ pub fn block_trays(blocks: usize, ticks: usize, numbers: usize) -> bool
 
 // The length of a table with one place for each entry.
 pub fn entry_tray(entries: u32, has: usize) -> bool
-    ensures { λ r. ⌜ r ≡ fits (tray has entries ∷ []) ⌝ }
+    ensures { λ r. ⌜ r ≡ lengthsFit (tray has entries ∷ []) ⌝ }
 {
     also(true, has, entries as u64)
 }
 
 // The length of a table with a row for each entry.
 pub fn row_tray(width: u8, entries: u32, has: usize) -> bool
-    ensures { λ r. ⌜ r ≡ fits (tray has (width * entries) ∷ []) ⌝ }
+    ensures { λ r. ⌜ r ≡ lengthsFit (tray has (width * entries) ∷ []) ⌝ }
 {
     also(true, has, places(width, entries))
 }
 
 // The lengths of the links of faces and curves.
 pub fn link_trays(face_entries: u32, curve_entries: u32, faces: usize, curves: usize) -> bool
-    ensures { λ r. ⌜ r ≡ fits (linkLengths «face_entries» «curve_entries» faces curves) ⌝ }
+    ensures { λ r. ⌜ r ≡ lengthsFit (linkLengths «face_entries» «curve_entries» faces curves) ⌝ }
 {
     also(
         also(true, curves, curve_entries as u64),
@@ -166,7 +166,7 @@ pub fn link_trays(face_entries: u32, curve_entries: u32, faces: usize, curves: u
 
 // The lengths of the keys and rows of one kind.
 pub fn found_trays(width: u8, entries: u32, keys: usize, rows: usize) -> bool
-    ensures { λ r. ⌜ r ≡ fits (foundLengths width entries keys rows) ⌝ }
+    ensures { λ r. ⌜ r ≡ lengthsFit (foundLengths width entries keys rows) ⌝ }
 {
     let n = entries as u64;
     also(also(true, rows, places(width, entries)), keys, n)
@@ -182,7 +182,7 @@ pub fn kind_trays(
     firsts: usize,
     listed: usize,
 ) -> bool
-    ensures { λ r. ⌜ r ≡ fits (kindLengths width entries keys rows numbers firsts listed) ⌝ }
+    ensures { λ r. ⌜ r ≡ lengthsFit (kindLengths width entries keys rows numbers firsts listed) ⌝ }
 {
     let n = entries as u64;
     let m = places(width, entries);

@@ -9,7 +9,7 @@ use Rattle.joiner.specs.Job.{stageNumber}
 use Rattle.job.specs.declared.Job.{Job}
 use Rattle.job.specs.declared.Stage.{Stage}
 use Rattle.job.specs.Jobs.{stageOf}
-use Rattle.job_numbers.specs.Numbers.{stageIn, jobIn, numbersOf, kept}
+use Rattle.job_numbers.specs.Numbers.{stageIn, jobIn, numbersOf, keptNumbers}
 
 stage-back : (s other : Stage) → stageIn (stageNumber (stageOf s)) other ≡ s
 unfolding stageIn stageNumber
@@ -52,12 +52,12 @@ module _ (n : ℕ) (other : Stage) where
 
 -- ---- the ways of `keep`
 
-pub kept-new : (refusal : ℕ) (ns : List ℕ) (j : Job) → refusal ≡ 0 → (ms : List ℕ) → ms ≡ numbersOf j → ms ≡ kept refusal ns j
-unfolding kept
+pub kept-new : (refusal : ℕ) (ns : List ℕ) (j : Job) → refusal ≡ 0 → (ms : List ℕ) → ms ≡ numbersOf j → ms ≡ keptNumbers refusal ns j
+unfolding keptNumbers
 kept-new refusal ns j e ms q = rw (eq-eqb refusal 0 e) q
 
-pub kept-old : (refusal : ℕ) (ns : List ℕ) (j : Job) → (refusal ≡ 0 → ⊥) → ns ≡ kept refusal ns j
-unfolding kept
+pub kept-old : (refusal : ℕ) (ns : List ℕ) (j : Job) → (refusal ≡ 0 → ⊥) → ns ≡ keptNumbers refusal ns j
+unfolding keptNumbers
 kept-old refusal ns j n = rw (ne-eqb refusal 0 n)
 
 -- ---- the way of `job_in`

@@ -41,5 +41,5 @@ numbersOf j =
     j .«numbered_faces» ∷ j .«numbered_curves» ∷ j .«numbered_points» ∷ []
 
 -- What is kept after a call that hands on job j: its numbers, and after a refusal those that were.
-unfoldable pub kept : ℕ → List ℕ → Job → List ℕ
-kept refusal ns j = cond (eqb refusal 0) (numbersOf j) ns
+unfoldable pub keptNumbers : ℕ → List ℕ → Job → List ℕ
+keptNumbers refusal ns j = cond (eqb refusal 0) (numbersOf j) ns

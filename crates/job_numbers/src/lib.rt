@@ -3,7 +3,7 @@ use job::Job;
 use job::Stage;
 use job::stage_number;
 ghost use mathlib.Core.Path.{_≡_};
-ghost use Rattle.job_numbers.specs.Numbers.{stageIn, jobIn, numbersOf, kept};
+ghost use Rattle.job_numbers.specs.Numbers.{stageIn, jobIn, numbersOf, keptNumbers};
 
 // The stage with this number, `other` where there is none.
 fn stage_in(number: u32, other: Stage) -> Stage
@@ -72,7 +72,7 @@ pub fn numbers_of(job: Job) -> [u32; 13]
 
 // Stores the job that a call hands on, unless it was refused.
 pub fn keep(numbers: &mut [u32; 13], refusal: u32, job: Job)
-    ensures { λ _. ⌜ now (numbers .exit) ≡ kept refusal (now (numbers .entry)) job ⌝ }
+    ensures { λ _. ⌜ now (numbers .exit) ≡ keptNumbers refusal (now (numbers .entry)) job ⌝ }
 {
     if refusal == 0 {
         *numbers = numbers_of(job);

@@ -3,7 +3,7 @@ use crate::Stepped;
 use crossing::crossing;
 ghost use mathlib.Core.List.{[]};
 ghost use Rattle.joiner.specs.Calls.{cross, answer};
-ghost use Rattle.joiner.specs.Entries.{Step};
+ghost use Rattle.joiner.specs.Entries.{CallStep};
 ghost use Rattle.job.specs.Jobs.{tablesOf, stateOf};
 
 impl Joining {
@@ -35,7 +35,7 @@ impl Joining {
         block: u32,
         m: &[u32],
     ) -> Stepped
-        ensures { λ r. ⌜ Step
+        ensures { λ r. ⌜ CallStep
             (stateOf (self .job) (now (cx .entry)) (now (cy .entry)) (now (cz .entry))
             (tablesOf (now (ticks .entry)) (now (blocks .entry)) (now («face_links» .entry)) (now («curve_links» .entry))
             (now («face_keys» .entry)) (now («curve_keys» .entry)) (now («point_keys» .entry)) (now («face_rows» .entry)) (now («curve_rows» .entry)) (now («point_rows» .entry))

@@ -4,7 +4,7 @@ use lookup::lookup;
 ghost use mathlib.Core.List.{[]};
 ghost use Rattle.cells.specs.Box.{triple};
 ghost use Rattle.joiner.specs.Calls.{look, answer};
-ghost use Rattle.joiner.specs.Entries.{Step};
+ghost use Rattle.joiner.specs.Entries.{CallStep};
 ghost use Rattle.job.specs.Jobs.{tablesOf, stateOf};
 
 impl Joining {
@@ -39,7 +39,7 @@ impl Joining {
         y: u32,
         z: u32,
     ) -> Found
-        ensures { λ r. ⌜ Step
+        ensures { λ r. ⌜ CallStep
             (stateOf (self .job) (now (cx .entry)) (now (cy .entry)) (now (cz .entry))
             (tablesOf (now (ticks .entry)) (now (blocks .entry)) (now («face_links» .entry)) (now («curve_links» .entry))
             (now («face_keys» .entry)) (now («curve_keys» .entry)) (now («point_keys» .entry)) (now («face_rows» .entry)) (now («curve_rows» .entry)) (now («point_rows» .entry))

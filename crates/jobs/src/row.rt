@@ -3,7 +3,7 @@ use row_reading::Kind;
 use row_reading::row;
 ghost use mathlib.Core.List.{[]};
 ghost use Rattle.joiner.specs.Calls.{reading, answer};
-ghost use Rattle.joiner.specs.Entries.{Step};
+ghost use Rattle.joiner.specs.Entries.{CallStep};
 ghost use Rattle.job.specs.Jobs.{tablesOf, stateOf};
 ghost use Rattle.row_reading.specs.Inner.{kindOf};
 
@@ -37,7 +37,7 @@ impl Joining {
         number: u32,
         refusal: &mut u32,
     ) -> &'a [u32]
-        ensures { λ r. ⌜ Step
+        ensures { λ r. ⌜ CallStep
             (stateOf (self .job) (now (cx .entry)) (now (cy .entry)) (now (cz .entry))
             (tablesOf (now (ticks .entry)) (now (blocks .entry)) (now («face_links» .entry)) (now («curve_links» .entry))
             (now («face_keys» .entry)) (now («curve_keys» .entry)) (now («point_keys» .entry)) (now («face_rows» .entry)) (now («curve_rows» .entry)) (now («point_rows» .entry))

@@ -11,20 +11,20 @@ use lib.ListN.{getD, length}
 use borrow.Author.Tests.{eq-eqb, eqb-false, eqb-true, ne-eqb}
 use Rattle.closure.specs.Joined.{edge}
 use Rattle.cells.specs.Box.{Triple}
-use Rattle.cells.specs.Grid.{cells, order, up}
+use Rattle.cells.specs.Grid.{cells, order, upperNeighbours}
 use Rattle.cells.specs.Row.{row}
 use Rattle.union_find.specs.Links.{root}
 use Rattle.labels.specs.Components.{firstCell, largest, ofOrder}
 use Rattle.labels.specs.Numbering.{here}
-use Rattle.cutting.specs.Cutting.{Cutting, blockCodes, blockExtents, blocks, embed, goodCut, level, seam}
-use Rattle.cutting.specs.Nodes.{Sees, Tied, part, whole}
-use Rattle.joiner.specs.Entries.{AtCrossing, AtSeam, Together, back, joined, joinedRow, same, through, via}
+use Rattle.cutting.specs.Cutting.{Cutting, blockCodes, blockExtents, blocks, embed, goodCut, sameInterval, seam}
+use Rattle.cutting.specs.Nodes.{Sees, Tied, part, uncutMap}
+use Rattle.joiner.specs.Entries.{AtCrossing, AtSeam, Together, back, joined, joinedRow, same, throughLinks, via}
 use Rattle.joiner.specs.Job.{Curve, Face, Kind, Point, Tables, firstAt, node, orderOf}
 use Rattle.joiner.specs.Stages.{seams}
 use Rattle.lists.proofs.Cases.{by-test}
-use Rattle.lists.proofs.Table.{both}
+use Rattle.lists.proofs.Table.{bothTests}
 use Rattle.cells.proofs.BoxLaws.{cell}
-use Rattle.cells.proofs.GridLaws.{Upper, length-up, upper}
+use Rattle.cells.proofs.GridLaws.{Upper, length-up, upper-neighbour}
 use Rattle.labels.proofs.ComponentLaws.{Belongs, belongs-at, of-order-in, of-order-out}
 use Rattle.labels.proofs.CountLaws.{Somewhere, every-number, largest-bound}
 use Rattle.labels.proofs.LabelLaws.{labels-numbering, numbered-active}
@@ -36,7 +36,7 @@ use Rattle.joiner.proofs.Rows.{Alike, alike-turned, row-turned}
 use Rattle.joiner.proofs.Shared.{Shares, seam-listed, shared-in, shared-out}
 use Rattle.cutting.specs.Nodes as nodes
 
-six : (e : Triple) (p : ℕ) → length (up e p) ≤ 6
+six : (e : Triple) (p : ℕ) → length (upperNeighbours e p) ≤ 6
 six e p = omega (arith, length-up e p)
 
 pub order-small : (κ : Kind) → orderOf κ < 3
@@ -62,7 +62,7 @@ pub record Layout (k : Cutting) (codes : List ℕ) (t : Tables) (κ : Kind) (n :
 
 -- The number in the volume of an enrolled component.
 unfoldable pub vol : Cutting → List ℕ → Tables → Kind → ℕ → ℕ
-vol k codes t κ x = getD (whole k codes) (firstAt t κ x) 0
+vol k codes t κ x = getD (uncutMap k codes) (firstAt t κ x) 0
 
 module _ (k : Cutting) (good : goodCut k ≡ true) (codes : List ℕ) where
   -- a cell of block b with a number is seen
@@ -99,12 +99,12 @@ module _ (k : Cutting) (good : goodCut k ≡ true) (codes : List ℕ) where
   sees-most j {b} {m} {p} s = omega (arith, s .has, largest-bound (blockExtents k b) (part k codes b) p (s .within), ap (largest (blockExtents k b) (part k codes b)) (s .level))
 
   module _ (t : Tables) (κ : Kind) (n : ℕ) (lo : 0 < orderOf κ) (lay : Layout k codes t κ n) where
-    pub vol-node : {b m p : ℕ} → Sees k codes (orderOf κ) b m p → vol k codes t κ (node t κ b m) ≡ getD (whole k codes) (embed k b p) 0
+    pub vol-node : {b m p : ℕ} → Sees k codes (orderOf κ) b m p → vol k codes t κ (node t κ b m) ≡ getD (uncutMap k codes) (embed k b p) 0
     unfolding vol
     vol-node {b} {m} {p} s =
         let h0 : 0 < m = sees-positive (orderOf κ) s in
         let hm : m ≤ largest (blockExtents k b) (part k codes b) (orderOf κ) = sees-most (orderOf κ) s in
-        ap (λ (x : ℕ). getD (whole k codes) x 0) (lay .seen b m (s .listed) h0 hm)
+        ap (λ (x : ℕ). getD (uncutMap k codes) x 0) (lay .seen b m (s .listed) h0 hm)
         ∙ node-same k good codes (orderOf κ) lo (order-small κ) (first-sees κ b m (s .listed) h0 hm) s
 
     pub node-inside : {b m p : ℕ} → Sees k codes (orderOf κ) b m p → node t κ b m < n
@@ -197,7 +197,7 @@ module _ (k : Cutting) (good : goodCut k ≡ true) (codes : List ℕ) (t : Table
         let e : Ends x y = seam-ends x y r in
         ap (vol k codes t κ) (e .x-is)
         ∙ vol-node k good codes t κ n lo lay (e .one)
-        ∙ ap (λ (z : ℕ). getD (whole k codes) z 0) (e .equal)
+        ∙ ap (λ (z : ℕ). getD (uncutMap k codes) z 0) (e .equal)
         ∙ sym (vol-node k good codes t κ n lo lay (e .two))
         ∙ ap (vol k codes t κ) (sym (e .y-is))
 
@@ -223,17 +223,17 @@ module _ (k : Cutting) (good : goodCut k ≡ true) (codes : List ℕ) (t : Table
     (faces : (x y : ℕ) → x < n → y < n → (root (t .links Face) x ≡ root (t .links Face) y) ↔ (vol k codes t Face x ≡ vol k codes t Face y)) (b : ℕ) (hb : b < blocks k) where
   -- the two readings of a face cell of block b: its number in the volume, and its joined face
   U : ℕ → ℕ
-  U q = getD (whole k codes) (embed k b q) 0
+  U q = getD (uncutMap k codes) (embed k b q) 0
 
   J : ℕ → ℕ
-  J q = through t b (getD (part k codes b) q 0)
+  J q = throughLinks t b (getD (part k codes b) q 0)
 
   J-zero : (q : ℕ) → getD (part k codes b) q 0 ≡ 0 → J q ≡ 0
-  unfolding J through
+  unfolding J throughLinks
   J-zero q z = rw (eq-eqb _ 0 z)
 
   J-more : (q : ℕ) → getD (part k codes b) q 0 ≢ 0 → J q ≡ suc (root (t .links Face) (node t Face b (getD (part k codes b) q 0)))
-  unfolding J through
+  unfolding J throughLinks
   J-more q z = rw (ne-eqb _ 0 z)
 
   -- both are 0 together
@@ -284,15 +284,15 @@ module _ (k : Cutting) (good : goodCut k ≡ true) (codes : List ℕ) (t : Table
   -- around two curve cells
   module _ (p q : ℕ) (hp : p < cells (blockExtents k b)) (hq : q < cells (blockExtents k b)) (op : order (blockExtents k b) p ≡ 1) (oq : order (blockExtents k b) q ≡ 1) where
     around : List ℕ
-    around = up (blockExtents k b) p ++ up (blockExtents k b) q
+    around = upperNeighbours (blockExtents k b) p ++ upperNeighbours (blockExtents k b) q
 
     face-at : (a : ℕ) → List·Memᴰ a around → (a < cells (blockExtents k b)) × (order (blockExtents k b) a ≡ 2)
     unfolding around
-    face-at a m = go (List·Memᴰ·append-cases (up (blockExtents k b) p) m)
+    face-at a m = go (List·Memᴰ·append-cases (upperNeighbours (blockExtents k b) p) m)
       where
-        go : List·Memᴰ a (up (blockExtents k b) p) ⊎ List·Memᴰ a (up (blockExtents k b) q) → (a < cells (blockExtents k b)) × (order (blockExtents k b) a ≡ 2)
-        go (inl i) = let u : Upper (blockExtents k b) p a = upper (blockExtents k b) p hp i in (u .within, u .higher ∙ ap suc op)
-        go (inr i) = let u : Upper (blockExtents k b) q a = upper (blockExtents k b) q hq i in (u .within, u .higher ∙ ap suc oq)
+        go : List·Memᴰ a (upperNeighbours (blockExtents k b) p) ⊎ List·Memᴰ a (upperNeighbours (blockExtents k b) q) → (a < cells (blockExtents k b)) × (order (blockExtents k b) a ≡ 2)
+        go (inl i) = let u : Upper (blockExtents k b) p a = upper-neighbour (blockExtents k b) p hp i in (u .within, u .higher ∙ ap suc op)
+        go (inr i) = let u : Upper (blockExtents k b) q a = upper-neighbour (blockExtents k b) q hq i in (u .within, u .higher ∙ ap suc oq)
 
     alike : Alike U J around
     alike =
@@ -308,11 +308,11 @@ module _ (k : Cutting) (good : goodCut k ≡ true) (codes : List ℕ) (t : Table
             (λ z. let z′ : getD (part k codes b) a 0 ≢ 0 = eqb-false _ _ z in absurd (omega (arith, e, J-more a z′)))
 
     -- equal over the joined faces exactly when equal in the volume
-    pub rows-agree : (joinedRow k t b (part k codes b) p ≡ joinedRow k t b (part k codes b) q) ↔ (row (k .extents) (whole k codes) (embed k b p) ≡ row (k .extents) (whole k codes) (embed k b q))
+    pub rows-agree : (joinedRow k t b (part k codes b) p ≡ joinedRow k t b (part k codes b) q) ↔ (row (k .extents) (uncutMap k codes) (embed k b p) ≡ row (k .extents) (uncutMap k codes) (embed k b q))
     unfolding joinedRow U J around
     rows-agree = (
-      (λ e. row-through k good b hb (whole k codes) p hp ∙ row-turned J U (up (blockExtents k b) p) (up (blockExtents k b) q) (alike-turned U J around alike) (six _ _) (six _ _) e ∙ sym (row-through k good b hb (whole k codes) q hq)),
-      (λ e. row-turned U J (up (blockExtents k b) p) (up (blockExtents k b) q) alike (six _ _) (six _ _) (sym (row-through k good b hb (whole k codes) p hp) ∙ e ∙ row-through k good b hb (whole k codes) q hq)),
+      (λ e. row-through k good b hb (uncutMap k codes) p hp ∙ row-turned J U (upperNeighbours (blockExtents k b) p) (upperNeighbours (blockExtents k b) q) (alike-turned U J around alike) (six _ _) (six _ _) e ∙ sym (row-through k good b hb (uncutMap k codes) q hq)),
+      (λ e. row-turned U J (upperNeighbours (blockExtents k b) p) (upperNeighbours (blockExtents k b) q) alike (six _ _) (six _ _) (sym (row-through k good b hb (uncutMap k codes) p hp) ∙ e ∙ row-through k good b hb (uncutMap k codes) q hq)),
     )
 
 module _ (k : Cutting) (good : goodCut k ≡ true) (codes : List ℕ) (t : Tables) (n c : ℕ) (layf : Layout k codes t Face n) (layc : Layout k codes t Curve c)
@@ -322,8 +322,8 @@ module _ (k : Cutting) (good : goodCut k ≡ true) (codes : List ℕ) (t : Table
       let a = r .at in
       let e : Triple = blockExtents k (r .b) in
       let o = of-order-out e 0 (a .cell) in
-      let up-p : Upper e (a .at) (a .p) = upper e (a .at) (o .0) (a .up-p) in
-      let up-q : Upper e (a .at) (a .q) = upper e (a .at) (o .0) (a .up-q) in
+      let up-p : Upper e (a .at) (a .p) = upper-neighbour e (a .at) (o .0) (a .up-p) in
+      let up-q : Upper e (a .at) (a .q) = upper-neighbour e (a .at) (o .0) (a .up-q) in
       let op : order e (a .p) ≡ 1 = up-p .higher ∙ ap suc (o .1) in
       let oq : order e (a .q) ≡ 1 = up-q .higher ∙ ap suc (o .1) in
       let sp = cell-sees k good codes Curve (r .b) (a .p) (r .listed) (up-p .within) op (a .one) in
@@ -346,7 +346,7 @@ module _ (k : Cutting) (good : goodCut k ≡ true) (codes : List ℕ) (t : Table
   cross-complete : (b m o : ℕ) → nodes.AtCrossing k codes 1 b m o → ByCrossing k codes t (node t Curve b m) (node t Curve b o)
   cross-complete b m o r =
       let e : Triple = blockExtents k b in
-      let u : Upper e (r .meet .at) (r .p) = upper e (r .meet .at) (r .meet .inside) (r .meet .one) in
+      let u : Upper e (r .meet .at) (r .p) = upper-neighbour e (r .meet .at) (r .meet .inside) (r .meet .one) in
       let z : order e (r .meet .at) ≡ 0 = omega (arith, u .higher, r .one .level) in
       record {
         b = b;

@@ -13,14 +13,14 @@ use Rattle.lists.specs.Lists.{consecutive, keep, someOf, tabulate}
 use Rattle.closure.specs.Joined.{edge}
 use Rattle.cells.specs.Box.{Axis, Triple, X, Y, Z, coord, each, index, place, volume}
 use Rattle.cells.specs.Grid.{cells, order, sides, voxel, voxelCell}
-use Rattle.labels.specs.Number.{below}
+use Rattle.labels.specs.Number.{orderBelow}
 use Rattle.labels.specs.Numbering.{Numbering}
 use Rattle.cutting.specs.Cutting.{Cutting, blockCodes, blockExtents, blocks, cuts, embed, goodCut, interval, origin, seam}
-use Rattle.cutting.specs.Nodes.{Held, SeamPath, part, whole}
+use Rattle.cutting.specs.Nodes.{Held, SeamPath, part, uncutMap}
 use Rattle.joiner.specs.Calls.{differs}
 use Rattle.joiner.specs.Stages.{codeIn, codesOf, hasCell, hasOn, local, lowestBlock, shared}
 use Rattle.joiner.specs.Statement.{Labelling}
-use Rattle.lists.proofs.Cases.{and-both, and-left, and-right}
+use Rattle.lists.proofs.Cases.{and-both, and-first, and-second}
 use Rattle.lists.proofs.Lists.{consecutive-in, consecutive-out, getD-tabulate, keep-in, keep-out, map-same}
 use Rattle.lists.proofs.Table.{at}
 use Rattle.lists.proofs.Tests.{first-in, some-none}
@@ -28,7 +28,7 @@ use Rattle.cells.proofs.BoxLaws.{Inside, coord-each, index-inside, index-place,
 use Rattle.cells.proofs.GridLaws.{cell-voxel, side-on, voxel-cell-inside, voxel-inside}
 use Rattle.labels.proofs.LabelLaws.{labels-numbering, numbering-unique}
 use Rattle.cutting.proofs.BlockLaws.{block-code}
-use Rattle.cutting.proofs.CutLaws.{InBlock, Spans, blocks-cover, embed-at, embed-inside, embed-order, embed-same, extent-on, held-spans, its-interval, origin-on, shift, shift-on}
+use Rattle.cutting.proofs.CutLaws.{InBlock, Spans, blocks-cover, embed-at, embed-inside, embed-order, embed-same, extent-on, held-spans, its-interval, origin-on, shiftInto, shift-on}
 use Rattle.cutting.proofs.SeamLaws.{seam-path}
 use Rattle.joiner.proofs.Shared.{Shares, shared-in}
 
@@ -37,17 +37,17 @@ use Rattle.joiner.proofs.Shared.{Shares, shared-in}
 module _ (k : Cutting) (good : goodCut k ≡ true) (b : ℕ) (hb : b < blocks k) where
   has-on : (c : Triple) → hasCell k b c ≡ true → (a : Axis) → hasOn k b c a ≡ true
   unfolding hasCell
-  has-on c t X = and-left (hasOn k b c X) (hasOn k b c Y && hasOn k b c Z) t
-  has-on c t Y = and-left (hasOn k b c Y) (hasOn k b c Z) (and-right (hasOn k b c X) (hasOn k b c Y && hasOn k b c Z) t)
-  has-on c t Z = and-right (hasOn k b c Y) (hasOn k b c Z) (and-right (hasOn k b c X) (hasOn k b c Y && hasOn k b c Z) t)
+  has-on c t X = and-first (hasOn k b c X) (hasOn k b c Y && hasOn k b c Z) t
+  has-on c t Y = and-first (hasOn k b c Y) (hasOn k b c Z) (and-second (hasOn k b c X) (hasOn k b c Y && hasOn k b c Z) t)
+  has-on c t Z = and-second (hasOn k b c Y) (hasOn k b c Z) (and-second (hasOn k b c X) (hasOn k b c Y && hasOn k b c Z) t)
 
   has-low : (c : Triple) → hasCell k b c ≡ true → (a : Axis) → 2 * coord (origin k b) a ≤ coord c a
   unfolding hasOn
-  has-low c t a = leb-true _ _ (and-left (leb (2 * coord (origin k b) a) (coord c a)) (ltb (coord c a) (2 * coord (origin k b) a + coord (sides (blockExtents k b)) a)) (has-on c t a))
+  has-low c t a = leb-true _ _ (and-first (leb (2 * coord (origin k b) a) (coord c a)) (ltb (coord c a) (2 * coord (origin k b) a + coord (sides (blockExtents k b)) a)) (has-on c t a))
 
   has-high : (c : Triple) → hasCell k b c ≡ true → (a : Axis) → coord c a < 2 * coord (origin k b) a + coord (sides (blockExtents k b)) a
   unfolding hasOn
-  has-high c t a = ltb-true _ _ (and-right (leb (2 * coord (origin k b) a) (coord c a)) (ltb (coord c a) (2 * coord (origin k b) a + coord (sides (blockExtents k b)) a)) (has-on c t a))
+  has-high c t a = ltb-true _ _ (and-second (leb (2 * coord (origin k b) a) (coord c a)) (ltb (coord c a) (2 * coord (origin k b) a + coord (sides (blockExtents k b)) a)) (has-on c t a))
 
   -- a cell that a block has stands in it at `local`
   pub has-held : (c : Triple) → hasCell k b c ≡ true → (local k b c < cells (blockExtents k b)) × (embed k b (local k b c) ≡ index (sides (k .extents)) c)
@@ -66,8 +66,8 @@ module _ (k : Cutting) (good : goodCut k ≡ true) (b : ℕ) (hb : b < blocks k)
       d-in : Inside s d
       d-in a = omega (arith, d-is a, has-low c t a, has-high c t a)
 
-      back : shift k b d ≡ c
-      back = same-triple (shift k b d) c (λ a. omega (arith, shift-on k b d a, d-is a, has-low c t a))
+      back : shiftInto k b d ≡ c
+      back = same-triple (shiftInto k b d) c (λ a. omega (arith, shift-on k b d a, d-is a, has-low c t a))
 
   pub held-has : (t : ℕ) → Held k b t → hasCell k b (place (sides (k .extents)) t) ≡ true
   unfolding hasCell hasOn

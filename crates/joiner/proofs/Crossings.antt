@@ -11,7 +11,7 @@ use lib.ListN.{getD, length, length-set}
 use borrow.Author.Tests.{eqb-false, eqb-true}
 use Rattle.lists.specs.Lists.{consecutive}
 use Rattle.closure.specs.Joined.{Edge, edge}
-use Rattle.cells.specs.Grid.{up}
+use Rattle.cells.specs.Grid.{upperNeighbours}
 use Rattle.cells.specs.Row.{rowOf}
 use Rattle.union_find.specs.Links.{root, soundAt}
 use Rattle.labels.specs.Number.{numbered}
@@ -19,7 +19,7 @@ use Rattle.cutting.specs.Cutting.{blockExtents, blocks, goodCut}
 use Rattle.joiner.specs.Book.{Book, bookAdds, bookAfter, entered}
 use Rattle.joiner.specs.Calls.{Call, cross, point}
 use Rattle.joiner.specs.Declines.{adds}
-use Rattle.joiner.specs.Entries.{AtCrossing, CrossingDone, KeptNumbers, Merged, NumberedKind, PointDone, heads, joinedRow, leads, through}
+use Rattle.joiner.specs.Entries.{AtCrossing, CrossingDone, KeptNumbers, Merged, NumberedKind, PointDone, heads, joinedRow, leads, throughLinks}
 use Rattle.joiner.specs.Job.{Closed, Crossing, Curve, Face, Kind, Point, Points, Stage, State, Tables, Told, node, stageNumber}
 use Rattle.joiner.specs.Stages.{crossingStep, pointStep, seamStep, stepsOf}
 use Rattle.lists.proofs.Cases.{by-test}
@@ -85,10 +85,10 @@ module _ (o : Told) (own : ℕ → List ℕ) (good : goodCut (o .cutting) ≡ tr
 
     -- so rows over the joined faces stay
     row-kept : ((x : ℕ) → root (t .tables .links Face) x ≡ root (s .tables .links Face) x) → (d p : ℕ) → joinedRow (o .cutting) (t .tables) d (own d) p ≡ joinedRow (o .cutting) (s .tables) d (own d) p
-    unfolding joinedRow through
+    unfolding joinedRow throughLinks
     row-kept R d p =
         ap rowOf
-        (map-same _ _ (up (blockExtents (o .cutting) d) p)
+        (map-same _ _ (upperNeighbours (blockExtents (o .cutting) d) p)
         (λ q m. ap (λ (x : ℕ). cond (eqb (getD (own d) q 0) 0) 0 (suc x)) (R (node (t .tables) Face d (getD (own d) q 0)) ∙ ap (root (s .tables .links Face)) (same-node o own good B s I every t c st L Face d (getD (own d) q 0)))))
 
     cross-there : ((x : ℕ) → root (t .tables .links Face) x ≡ root (s .tables .links Face) x) → (d x y : ℕ) → AtCrossing (o .cutting) (s .tables) d (own d) x y → AtCrossing (o .cutting) (t .tables) d (own d) x y

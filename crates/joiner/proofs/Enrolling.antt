@@ -19,7 +19,7 @@ use Rattle.union_find.specs.Links.{parent, root, soundAt}
 use Rattle.labels.specs.Components.{component, firstCell, largest}
 use Rattle.labels.specs.Number.{numbered}
 use Rattle.labels.specs.Numbering.{Numbering}
-use Rattle.cutting.specs.Cutting.{Cutting, blockExtents, blocks, cutList, embed, goodCut, level}
+use Rattle.cutting.specs.Cutting.{Cutting, blockExtents, blocks, cutList, embed, goodCut, sameInterval}
 use Rattle.joiner.specs.Book.{Book, bookAdds, bookAfter, entered}
 use Rattle.joiner.specs.Calls.{Call, enrol}
 use Rattle.joiner.specs.Declines.{adds}
@@ -27,7 +27,7 @@ use Rattle.joiner.specs.Entries.{EnrolDone, EnrolledKind, Ticked, blockE
 use Rattle.joiner.specs.Job.{Curve, Enrol, Face, Kind, Point, Stage, State, Told, column, countOf, firstAt, fromOf, keyOf, node, orderOf, stageNumber, width}
 use Rattle.joiner.specs.Stages.{crossingStep, enrolStep, seamStep, stepsOf}
 use Rattle.joiner.specs.Statement.{Labelling}
-use Rattle.lists.proofs.Cases.{and-right, by-test, picked}
+use Rattle.lists.proofs.Cases.{and-second, by-test, picked}
 use Rattle.lists.proofs.Lists.{consecutive-in}
 use Rattle.lists.proofs.Overlay.{length-overlay, overlay-at, overlay-before, overlay-behind}
 use Rattle.union_find.proofs.LinkLaws.{own-root, root-idem, root-low, root-own}
@@ -43,7 +43,7 @@ use Rattle.joiner.proofs.Sizes.{Sizes}
 
 pub blocks-most : (k : Cutting) → goodCut k ≡ true → blocks k ≤ 16384
 unfolding goodCut
-blocks-most k t = leb-true (blocks k) 16384 (and-right (cutList (k .extents .x) (k .cx) && cutList (k .extents .y) (k .cy) && cutList (k .extents .z) (k .cz)) (leb (blocks k) 16384) t)
+blocks-most k t = leb-true (blocks k) 16384 (and-second (cutList (k .extents .x) (k .cx) && cutList (k .extents .y) (k .cy) && cutList (k .extents .z) (k .cz)) (leb (blocks k) 16384) t)
 
 pub key-first : (p b : ℕ) → b < 16384 → keyOf p b / 16384 ≡ p
 unfolding keyOf
@@ -316,8 +316,8 @@ module _ (o : Told) (own : ℕ → List ℕ) (good : goodCut (o .cutting) ≡ tr
             ∙ J .rows c m i hc (q .1) h0 hm hi
             ∙ ap (λ (x : ℕ). enrolledRow (o .cutting) x c (own c) κ m i) (sym (from-old Face (omega arith) c (q .0)))
 
-    kept : Kept o own B′ t κ
-    kept = record { from-in = from-in′; cover = cover′; seen = seen′; rows = rows′; linked = linked′ }
+    kept-kind : Kept o own B′ t κ
+    kept-kind = record { from-in = from-in′; cover = cover′; seen = seen′; rows = rows′; linked = linked′ }
 
   -- no edge is there yet
   none-before : (κ : Kind) (x y : ℕ) → EdgeDone o own B s κ x y → ⊥
@@ -334,10 +334,10 @@ module _ (o : Told) (own : ℕ → List ℕ) (good : goodCut (o .cutting) ≡ tr
   none-after Point x y e = e
 
   faces′ : Kept o own B′ t Face
-  faces′ = kept Face (omega arith) (D .faces) (I .faces) (adds-is .0) (I .sizes .face-links) face-from (none-before Face) (none-after Face)
+  faces′ = kept-kind Face (omega arith) (D .faces) (I .faces) (adds-is .0) (I .sizes .face-links) face-from (none-before Face) (none-after Face)
 
   curves′ : Kept o own B′ t Curve
-  curves′ = kept Curve (omega arith) (D .curves) (I .curves) (adds-is .1) (I .sizes .curve-links) curve-from (none-before Curve) (none-after Curve)
+  curves′ = kept-kind Curve (omega arith) (D .curves) (I .curves) (adds-is .1) (I .sizes .curve-links) curve-from (none-before Curve) (none-after Curve)
 
   step-in : List·Memᴰ (enrolStep b) (stepsOf (o .cutting) (B .stage))
   step-in = subst (λ (z : Stage). List·Memᴰ (enrolStep b) (stepsOf (o .cutting) z)) (sym at-enrol) (unfold stepsOf in Memᴰ·map enrolStep (consecutive-in 0 (blocks (o .cutting)) (omega arith) (omega (arith, hb))))

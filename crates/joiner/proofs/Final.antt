@@ -10,13 +10,13 @@ use native.Mathlib.Omega.{arith}
 use lib.ListN.{getD, length, take}
 use Rattle.lists.specs.Lists.{keep, overlay, tabulate}
 use Rattle.closure.specs.Joined.{edge}
-use Rattle.cells.specs.Grid.{cells, order, up}
+use Rattle.cells.specs.Grid.{cells, order, upperNeighbours}
 use Rattle.cells.specs.Row.{active, occupied, row, rowOf}
 use Rattle.union_find.specs.Links.{root}
 use Rattle.labels.specs.Components.{componentRow, firstCell, largest, ofOrder}
-use Rattle.labels.specs.Number.{below, labels, numbered}
+use Rattle.labels.specs.Number.{orderBelow, labels, numbered}
 use Rattle.cutting.specs.Cutting.{blockCodes, blockExtents, blocks, embed, goodCut, seam}
-use Rattle.cutting.specs.Nodes.{part, whole}
+use Rattle.cutting.specs.Nodes.{part, uncutMap}
 use Rattle.joiner.specs.Book.{Book, bookAdds, uncut}
 use Rattle.joiner.specs.Calls.{point}
 use Rattle.joiner.specs.Declines.{adds, finalOf, finalRow, pointCells}
@@ -28,7 +28,7 @@ use Rattle.lists.proofs.Lists.{consecutive-in, getD-in, getD-tabulate, map-same
 use Rattle.lists.proofs.Overlay.{length-overlay, overlay-at, overlay-same}
 use Rattle.lists.proofs.Table.{at, every}
 use Rattle.lists.proofs.Tests.{keep-same}
-use Rattle.cells.proofs.GridLaws.{Upper, inside, upper}
+use Rattle.cells.proofs.GridLaws.{Upper, inside, upper-neighbour}
 use Rattle.labels.proofs.ComponentLaws.{of-order-out}
 use Rattle.labels.proofs.LabelLaws.{labels-numbering}
 use Rattle.cutting.proofs.BlockLaws.{face-row, row-through}
@@ -54,7 +54,7 @@ module _ (o : Told) (own : ℕ → List ℕ) (good : goodCut (o .cutting) ≡ tr
   codes = codesOf (o .cutting) own
 
   abbrev pub volume-map : List ℕ
-  volume-map = whole (o .cutting) codes
+  volume-map = uncutMap (o .cutting) codes
 
   -- what the tables hold of one kind once it is numbered
   pub record Final (s : State) (κ : Kind) : Type 0 where
@@ -261,9 +261,9 @@ module _ (o : Told) (own : ℕ → List ℕ) (good : goodCut (o .cutting) ≡ tr
       unfolding finalRow
       row-final p hp l =
           ap rowOf
-          (map-same (λ q. finalOf (s .tables) Curve b (getD (own b) q 0)) (λ q. getD volume-map (embed (o .cutting) b q) 0) (up (blockExtents (o .cutting) b) p)
+          (map-same (λ q. finalOf (s .tables) Curve b (getD (own b) q 0)) (λ q. getD volume-map (embed (o .cutting) b q) 0) (upperNeighbours (blockExtents (o .cutting) b) p)
           (λ q m.
-          let u : Upper (blockExtents (o .cutting) b) p q = upper (blockExtents (o .cutting) b) p hp m in
+          let u : Upper (blockExtents (o .cutting) b) p q = upper-neighbour (blockExtents (o .cutting) b) p hp m in
           ap (λ (z : List ℕ). finalOf (s .tables) Curve b (getD z q 0)) (part-is b hb)
           ∙ final-cell (o .cutting) good codes (s .tables) Curve (omega arith) (s .job .sofar Curve) (layout Curve (I .curves)) (fin .numbers) b hb q (u .within) (u .higher ∙ ap suc l)))
           ∙ sym (row-through (o .cutting) good b hb volume-map p hp)

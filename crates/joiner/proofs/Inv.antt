@@ -21,11 +21,11 @@ use Rattle.joiner.specs.Book.{Book, bookAdds, bookDeclines, bookEarly, e
 use Rattle.joiner.specs.Calls.{Call, cross, differs, enrol, full, join, layersDiffer, look, mapsFit, overfull, placed, point, reading, repeated, stageOf}
 use Rattle.joiner.specs.Declines.{adds, allLinksStand, counted, curvesStand, cutFor, declines, filled, lastCrossing, lentTo, linksStand, lookStands, mapStands, refusal, rowsStand, standing, standsFor, stray, talliesFit, tallyFits}
 use Rattle.joiner.specs.Entries.{AtCrossing, AtSeam, enrolledRow, shifted}
-use Rattle.joiner.specs.Job.{Closed, Crossing, Curve, Enrol, Face, Kind, Point, Points, Seam, Stage, State, Told, countOf, firstAt, fits, fromOf, node, orderOf, sameStage, stageNumber, ticked, width}
+use Rattle.joiner.specs.Job.{Closed, Crossing, Curve, Enrol, Face, Kind, Point, Points, Seam, Stage, State, Told, countOf, firstAt, lengthsFit, fromOf, node, orderOf, sameStage, stageNumber, ticked, width}
 use Rattle.joiner.specs.Stages.{crossingStep, enrolStep, hasCell, local, pointStep, seamStep, shared, stepsOf}
 use Rattle.joiner.specs.Statement.{Labelling}
 use Rattle.refusals.proofs.RefusalLaws.{given-none}
-use Rattle.lists.proofs.Cases.{and-both, and-left, and-right, picked}
+use Rattle.lists.proofs.Cases.{and-both, and-first, and-second, picked}
 use Rattle.lists.proofs.Lists.{consecutive-in, consecutive-out}
 use Rattle.lists.proofs.Tests.{all-in}
 use Rattle.cells.proofs.RowLaws.{same-row}
@@ -202,11 +202,11 @@ module _ (o : Told) (own : ℕ → List ℕ) (ext : offSize 1024 (o .cutting .ex
     early-parts : not (sameStage (s .job .stage) (stageOf c)) ≡ false
         → (not (placed (s .job .told .cutting) (s .job .numbered) c) ≡ not (placed (B .told .cutting) (uncutCount B) c))
         × (repeated (s .job .told .cutting) (ticked (s .tables)) c ≡ repeated (B .told .cutting) (isIn (B .done)) c)
-        × (not (mapsFit (s .job .told .cutting) c && fits (lentTo (s .job .told) (s .tables) c)) ≡ not (mapsFit (B .told .cutting) c))
+        × (not (mapsFit (s .job .told .cutting) c && lengthsFit (lentTo (s .job .told) (s .tables) c)) ≡ not (mapsFit (B .told .cutting) c))
     early-parts t = (
       ap not (ap (λ (z : Told). placed (z .cutting) (s .job .numbered) c) (I .told) ∙ places (same-of c t) ∙ ap (λ (z : Told). placed (z .cutting) (uncutCount B) c) (sym (I .btold))),
       ap (λ (z : Told). repeated (z .cutting) (ticked (s .tables)) c) (I .told ∙ sym (I .btold)) ∙ repeated-same (B .told .cutting) (ticked (s .tables)) (isIn (B .done)) (I .ticks) c,
-      ap not (and-so (mapsFit (s .job .told .cutting) c) (fits (lentTo (s .job .told) (s .tables) c)) (ap (λ (z : Told). fits (lentTo z (s .tables) c)) (I .told) ∙ lent-fit o (s .tables) (I .sizes) c) ∙ ap (λ (z : Told). mapsFit (z .cutting) c) (I .told ∙ sym (I .btold))),
+      ap not (and-so (mapsFit (s .job .told .cutting) c) (lengthsFit (lentTo (s .job .told) (s .tables) c)) (ap (λ (z : Told). lengthsFit (lentTo z (s .tables) c)) (I .told) ∙ lent-fit o (s .tables) (I .sizes) c) ∙ ap (λ (z : Told). mapsFit (z .cutting) c) (I .told ∙ sym (I .btold))),
     )
 
     alongside : Alongside (standsIn (declines s c)) (standsIn (bookDeclines B c))
@@ -302,9 +302,9 @@ module _ (o : Told) (own : ℕ → List ℕ) (ext : offSize 1024 (o .cutting .ex
       let l = seam-listed (o .cutting) b c p in
       let g : 0 < stageNumber (B .stage) = later Seam (omega arith) h in (
         and-both (mapStands s (blockExtents (s .job .told .cutting) b) b m) (mapStands s (blockExtents (s .job .told .cutting) c) c n && (linksStand s b && linksStand s c))
-            (fit b m (l .0) g (and-left (sameRow m (B .maps b)) (sameRow n (B .maps c)) e))
+            (fit b m (l .0) g (and-first (sameRow m (B .maps b)) (sameRow n (B .maps c)) e))
             (and-both (mapStands s (blockExtents (s .job .told .cutting) c) c n) (linksStand s b && linksStand s c)
-            (fit c n (l .1) g (and-right (sameRow m (B .maps b)) (sameRow n (B .maps c)) e))
+            (fit c n (l .1) g (and-second (sameRow m (B .maps b)) (sameRow n (B .maps c)) e))
             (and-both (linksStand s b) (linksStand s c) (links-stand b (l .0) g) (links-stand c (l .1) g))),
         λ κ. refl,
       ))
@@ -340,10 +340,10 @@ module _ (o : Told) (own : ℕ → List ℕ) (ext : offSize 1024 (o .cutting .ex
   lookup-agrees b m c e numbers =
       agrees (look b m c) (λ h. refl)
       (λ h p.
-      let hb : b < blocks (o .cutting) = ltb-true _ _ (and-left (ltb b (blocks (o .cutting))) (hasCell (o .cutting) b c) p) in
+      let hb : b < blocks (o .cutting) = ltb-true _ _ (and-first (ltb b (blocks (o .cutting))) (hasCell (o .cutting) b c) p) in
       let g : 0 < stageNumber (B .stage) = later Closed (omega arith) h in (
         and-both (mapStands s (blockExtents (s .job .told .cutting) b) b m) (lookStands s b m (local (s .job .told .cutting) b c)) (fit b m hb g e)
-            (numbers h hb (and-right (ltb b (blocks (o .cutting))) (hasCell (o .cutting) b c) p) (own-of g b hb m e)),
+            (numbers h hb (and-second (ltb b (blocks (o .cutting))) (hasCell (o .cutting) b c) p) (own-of g b hb m e)),
         λ κ. refl,
       ))
 

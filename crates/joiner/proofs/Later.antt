@@ -13,16 +13,16 @@ use Rattle.cells.specs.Box.{Triple}
 use Rattle.cells.specs.Grid.{cells, order}
 use Rattle.labels.specs.Components.{largest}
 use Rattle.labels.specs.Number.{numbered}
-use Rattle.cutting.specs.Cutting.{Cutting, blockExtents, blocks, goodCut, level, seam}
+use Rattle.cutting.specs.Cutting.{Cutting, blockExtents, blocks, goodCut, sameInterval, seam}
 use Rattle.joiner.specs.Book.{Book, bookAdds, entered}
 use Rattle.joiner.specs.Calls.{Call, differs}
 use Rattle.joiner.specs.Declines.{adds}
 use Rattle.joiner.specs.Entries.{AtCrossing, AtSeam, KeptFound, Ticked, enrolledRow, joinedRow}
 use Rattle.joiner.specs.Job.{Curve, Face, Kind, Point, State, Tables, Told, column, countOf, firstAt, fromOf, node, orderOf, width}
 use Rattle.joiner.specs.Stages.{seamStep, shared, stepsOf}
-use Rattle.lists.proofs.Table.{at, both, every}
+use Rattle.lists.proofs.Table.{at, bothTests, every}
 use Rattle.cells.proofs.BoxLaws.{cell}
-use Rattle.cells.proofs.GridLaws.{Upper, upper}
+use Rattle.cells.proofs.GridLaws.{Upper, upper-neighbour}
 use Rattle.labels.proofs.ComponentLaws.{of-order-out}
 use Rattle.labels.proofs.CountLaws.{largest-bound}
 use Rattle.cutting.proofs.CutLaws.{embed-order}
@@ -42,8 +42,8 @@ pub move-cross : {k : Cutting} (u v : Tables) {b : ℕ} {m : List ℕ} {x y : �
     → ((p : ℕ) → p < cells (blockExtents k b) → order (blockExtents k b) p ≡ 1 → joinedRow k u b m p ≡ joinedRow k v b m p) → AtCrossing k u b m x y → AtCrossing k v b m x y
 move-cross {k} u v {b} {m} e r a =
     let w = of-order-out (blockExtents k b) 0 (a .cell) in
-    let up-p : Upper (blockExtents k b) (a .at) (a .p) = upper (blockExtents k b) (a .at) (w .0) (a .up-p) in
-    let up-q : Upper (blockExtents k b) (a .at) (a .q) = upper (blockExtents k b) (a .at) (w .0) (a .up-q) in
+    let up-p : Upper (blockExtents k b) (a .at) (a .p) = upper-neighbour (blockExtents k b) (a .at) (w .0) (a .up-p) in
+    let up-q : Upper (blockExtents k b) (a .at) (a .q) = upper-neighbour (blockExtents k b) (a .at) (w .0) (a .up-q) in
     record {
       at = a .at;
       p = a .p;
@@ -82,8 +82,8 @@ module _ (o : Told) (own : ℕ → List ℕ) (good : goodCut (o .cutting) ≡ tr
   cross-inside b hb x y a =
       let e : Triple = blockExtents (o .cutting) b in
       let w = of-order-out e 0 (a .cell) in
-      let up-p : Upper e (a .at) (a .p) = upper e (a .at) (w .0) (a .up-p) in
-      let up-q : Upper e (a .at) (a .q) = upper e (a .at) (w .0) (a .up-q) in (
+      let up-p : Upper e (a .at) (a .p) = upper-neighbour e (a .at) (w .0) (a .up-p) in
+      let up-q : Upper e (a .at) (a .q) = upper-neighbour e (a .at) (w .0) (a .up-q) in (
         subst (λ (u : ℕ). u < s .job .sofar Curve) (sym (a .x-is)) (inside-at Curve (I .curves) b (a .p) hb (up-p .within) (up-p .higher ∙ ap suc (w .1)) (a .one)),
         subst (λ (u : ℕ). u < s .job .sofar Curve) (sym (a .y-is)) (inside-at Curve (I .curves) b (a .q) hb (up-q .within) (up-q .higher ∙ ap suc (w .1)) (a .two)),
       )

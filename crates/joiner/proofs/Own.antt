@@ -20,7 +20,7 @@ use Rattle.labels.specs.Number.{labels}
 use Rattle.joiner.specs.Book.{labelled, voxelCodes}
 use Rattle.joiner.specs.Declines.{filled}
 use Rattle.joiner.specs.Statement.{Labelling}
-use Rattle.lists.proofs.Cases.{and-both, and-left, and-right, neither, not-not}
+use Rattle.lists.proofs.Cases.{and-both, and-first, and-second, neither, not-twice}
 use Rattle.lists.proofs.Lists.{getD-tabulate, length-tabulate}
 use Rattle.lists.proofs.Tests.{all-in}
 use Rattle.cells.proofs.GridLaws.{voxel-cell, voxel-cell-inside, voxel-cell-order, voxel-inside}
@@ -66,15 +66,15 @@ module _ (e : Triple) (m : List ℕ) where
       record {
         codes = voxelCodes e m;
         many = long;
-        coded = λ v h. not-blank (voxelCodes e m) (not-true′ (and-left (not (blank (voxelCodes e m))) (sameRow m (labels e (voxelCodes e m))) t)) v (omega (arith, long));
-        left = same-row m (labels e (voxelCodes e m)) (and-right (not (blank (voxelCodes e m))) (sameRow m (labels e (voxelCodes e m))) t);
+        coded = λ v h. not-blank (voxelCodes e m) (not-true′ (and-first (not (blank (voxelCodes e m))) (sameRow m (labels e (voxelCodes e m))) t)) v (omega (arith, long));
+        left = same-row m (labels e (voxelCodes e m)) (and-second (not (blank (voxelCodes e m))) (sameRow m (labels e (voxelCodes e m))) t);
       }
     where
       long : length (voxelCodes e m) ≡ volume e
       long = unfold voxelCodes in length-tabulate (volume e) (λ v. getD m (voxelCell e v) 0)
 
       not-true′ : {b : Bool} → not b ≡ true → b ≡ false
-      not-true′ {b} q = sym (not-not b) ∙ ap not q
+      not-true′ {b} q = sym (not-twice b) ∙ ap not q
 
   -- it has a code at each voxel, and a number for each cell
   pub labelling-filled : Labelling e m → filled e m ≡ true

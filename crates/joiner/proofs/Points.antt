@@ -15,7 +15,7 @@ use Rattle.cells.specs.Grid.{cells, order}
 use Rattle.cells.specs.Row.{active, row}
 use Rattle.labels.specs.Components.{firstCell, largest, ofOrder}
 use Rattle.cutting.specs.Cutting.{Cutting, blockExtents, blocks, embed, goodCut}
-use Rattle.cutting.specs.Nodes.{whole}
+use Rattle.cutting.specs.Nodes.{uncutMap}
 use Rattle.joiner.specs.Entries.{classOf, rowAt, rowFinal}
 use Rattle.joiner.specs.Job.{Point, Tables, firstAt, keyOf}
 use Rattle.joiner.specs.Stages.{pointStep, shared}
@@ -34,24 +34,24 @@ use Rattle.joiner.proofs.Ranking.{Ranked}
 module _ (k : Cutting) (good : goodCut k ≡ true) (codes : List ℕ) where
   -- the points of block b: its point cells that are active in the volume
   unfoldable pub pointsOf : ℕ → List ℕ
-  pointsOf b = keep (λ p. active (k .extents) (whole k codes) (embed k b p)) (ofOrder (blockExtents k b) 0)
+  pointsOf b = keep (λ p. active (k .extents) (uncutMap k codes) (embed k b p)) (ofOrder (blockExtents k b) 0)
 
   pub record PointCell (b p : ℕ) : Type 0 where
     pub within : p < cells (blockExtents k b)
     pub level : order (blockExtents k b) p ≡ 0
-    pub act : active (k .extents) (whole k codes) (embed k b p) ≡ true
+    pub act : active (k .extents) (uncutMap k codes) (embed k b p) ≡ true
 
   pub cell-out : (b p : ℕ) → List·Memᴰ p (pointsOf b) → PointCell b p
   unfolding pointsOf
   cell-out b p m =
-      let r = keep-out (λ p. active (k .extents) (whole k codes) (embed k b p)) (ofOrder (blockExtents k b) 0) m in
+      let r = keep-out (λ p. active (k .extents) (uncutMap k codes) (embed k b p)) (ofOrder (blockExtents k b) 0) m in
       let q = of-order-out (blockExtents k b) 0 (r .0) in
       record { within = q .0; level = q .1; act = r .1 }
 
   cell-in : (b p : ℕ) → PointCell b p → List·Memᴰ p (pointsOf b)
   unfolding pointsOf
   cell-in b p c =
-      keep-in (λ p. active (k .extents) (whole k codes) (embed k b p)) (ofOrder (blockExtents k b) 0) (subst (λ (j : ℕ). List·Memᴰ p (ofOrder (blockExtents k b) j)) (c .level) (of-order-in (blockExtents k b) (c .within))) (c .act)
+      keep-in (λ p. active (k .extents) (uncutMap k codes) (embed k b p)) (ofOrder (blockExtents k b) 0) (subst (λ (j : ℕ). List·Memᴰ p (ofOrder (blockExtents k b) j)) (c .level) (of-order-in (blockExtents k b) (c .within))) (c .act)
 
   cells-up : (b : ℕ) → Ascends 0 (pointsOf b)
   unfolding pointsOf ofOrder
@@ -66,7 +66,7 @@ module _ (k : Cutting) (good : goodCut k ≡ true) (codes : List ℕ) where
     pub ticked-in : List·Memᴰ (pointStep b) done
     pub cell : List·Memᴰ p (pointsOf b)
     pub first-at : firstAt t Point x ≡ embed k b p
-    pub row-at : (i : ℕ) → i < 6 → getD (t .rows Point) (6 * x + i) 0 ≡ getD (row (k .extents) (whole k codes) (embed k b p)) i 0
+    pub row-at : (i : ℕ) → i < 6 → getD (t .rows Point) (6 * x + i) 0 ≡ getD (row (k .extents) (uncutMap k codes) (embed k b p)) i 0
 
   -- the first n places hold the points of the blocks done, each once
   pub record PointsSo (t : Tables) (done : List ℕ) (n : ℕ) : Type 0 where
@@ -81,7 +81,7 @@ module _ (k : Cutting) (good : goodCut k ≡ true) (codes : List ℕ) where
   pub record MorePoints (t u : Tables) (b n : ℕ) : Type 0 where
     pub keys : u .keys Point ≡ overlay (t .keys Point) n (λ i. keyOf (embed k b (getD (pointsOf b) i 0)) b) (length (pointsOf b))
     pub rows : u .rows Point
-        ≡ overlay (t .rows Point) (6 * n) (λ i. getD (row (k .extents) (whole k codes) (embed k b (getD (pointsOf b) (i / 6) 0))) (i % 6) 0) (6 * length (pointsOf b))
+        ≡ overlay (t .rows Point) (6 * n) (λ i. getD (row (k .extents) (uncutMap k codes) (embed k b (getD (pointsOf b) (i / 6) 0))) (i % 6) 0) (6 * length (pointsOf b))
     pub keys-room : n + length (pointsOf b) ≤ length (t .keys Point)
     pub rows-room : 6 * n + 6 * length (pointsOf b) ≤ length (t .rows Point)
 
@@ -120,7 +120,7 @@ module _ (k : Cutting) (good : goodCut k ≡ true) (codes : List ℕ) where
           cell = getD-in (pointsOf b) i h;
           first-at = new-first i h;
           row-at = λ j hj. ap (λ (l : List ℕ). getD l (6 * (n + i) + j) 0) (M .rows)
-              ∙ rows-at (t .rows Point) 6 n (λ x j. getD (row (k .extents) (whole k codes) (embed k b (getD (pointsOf b) x 0))) j 0) (length (pointsOf b)) i j h hj (M .rows-room);
+              ∙ rows-at (t .rows Point) 6 n (λ x j. getD (row (k .extents) (uncutMap k codes) (embed k b (getD (pointsOf b) x 0))) j 0) (length (pointsOf b)) i j h hj (M .rows-room);
         }
 
     out′ : (x : ℕ) → x < n + length (pointsOf b) → PointAt u (pointStep b ∷ done) x
@@ -204,14 +204,14 @@ module _ (k : Cutting) (good : goodCut k ≡ true) (codes : List ℕ) where
   -- ---- all blocks done
 
   abbrev pub volPoint : Tables → ℕ → ℕ
-  volPoint t x = getD (whole k codes) (firstAt t Point x) 0
+  volPoint t x = getD (uncutMap k codes) (firstAt t Point x) 0
 
   module _ (t : Tables) (done : List ℕ) (n : ℕ) (P : PointsSo t done n) (every : (b : ℕ) → b < blocks k → List·Memᴰ (pointStep b) done) where
     -- a found point's cell in the volume
     record Spot (x : ℕ) : Type 0 where
       inside : firstAt t Point x < cells (k .extents)
       level : order (k .extents) (firstAt t Point x) ≡ 0
-      act : active (k .extents) (whole k codes) (firstAt t Point x) ≡ true
+      act : active (k .extents) (uncutMap k codes) (firstAt t Point x) ≡ true
 
     spot : (x : ℕ) → x < n → Spot x
     spot x h =
@@ -220,46 +220,46 @@ module _ (k : Cutting) (good : goodCut k ≡ true) (codes : List ℕ) where
         record {
           inside = subst (λ (y : ℕ). y < cells (k .extents)) (sym (o .first-at)) (embed-inside k good (o .b) (o .listed) (o .p) (c .within));
           level = ap (order (k .extents)) (o .first-at) ∙ embed-order k good (o .b) (o .listed) (o .p) (c .within) ∙ c .level;
-          act = ap (active (k .extents) (whole k codes)) (o .first-at) ∙ c .act;
+          act = ap (active (k .extents) (uncutMap k codes)) (o .first-at) ∙ c .act;
         }
 
-    reached′ : (N : ℕ) → 0 < N → N ≤ largest (k .extents) (whole k codes) 0 → (x : ℕ) × (x < n) × (volPoint t x ≡ N) × (firstAt t Point x ≡ firstCell (k .extents) (whole k codes) 0 N)
+    reached′ : (N : ℕ) → 0 < N → N ≤ largest (k .extents) (uncutMap k codes) 0 → (x : ℕ) × (x < n) × (volPoint t x ≡ N) × (firstAt t Point x ≡ firstCell (k .extents) (uncutMap k codes) 0 N)
     reached′ N h0 hN =
-        let r : Somewhere (k .extents) (whole k codes) 0 N = every-number (k .extents) codes (whole k codes) (labels-numbering (k .extents) codes) 0 (omega arith) N h0 hN in
-        let q : ℕ = firstCell (k .extents) (whole k codes) 0 N in
-        let f : Belongs (k .extents) (whole k codes) 0 N q = belongs-at (k .extents) (whole k codes) 0 N (r .p) (r .there .within) (r .there .level) (r .there .has) in
+        let r : Somewhere (k .extents) (uncutMap k codes) 0 N = every-number (k .extents) codes (uncutMap k codes) (labels-numbering (k .extents) codes) 0 (omega arith) N h0 hN in
+        let q : ℕ = firstCell (k .extents) (uncutMap k codes) 0 N in
+        let f : Belongs (k .extents) (uncutMap k codes) 0 N q = belongs-at (k .extents) (uncutMap k codes) 0 N (r .p) (r .there .within) (r .there .level) (r .there .has) in
         let w : InBlock k q = blocks-cover k good q (f .within) in
         let c : PointCell (w .b) (w .held .p) =
         record {
           within = w .held .within;
           level = sym (embed-order k good (w .b) (w .listed) (w .held .p) (w .held .within)) ∙ ap (order (k .extents)) (w .held .is) ∙ f .level;
-          act = ap (active (k .extents) (whole k codes)) (w .held .is) ∙ numbered-active (k .extents) codes q (f .within) (omega (arith, f .level)) (omega (arith, f .has));
+          act = ap (active (k .extents) (uncutMap k codes)) (w .held .is) ∙ numbered-active (k .extents) codes q (f .within) (omega (arith, f .level)) (omega (arith, f .has));
         } in
         let i = P .into (w .b) (w .held .p) (w .listed) (every (w .b) (w .listed)) (cell-in (w .b) (w .held .p) c) in
         let e : firstAt t Point (i .0) ≡ q = i .2 ∙ w .held .is in
-        (i .0, i .1, ap (λ (y : ℕ). getD (whole k codes) y 0) e ∙ f .has, e)
+        (i .0, i .1, ap (λ (y : ℕ). getD (uncutMap k codes) y 0) e ∙ f .has, e)
 
-    pub ranked-points : Ranked t Point n (volPoint t) (λ N. firstCell (k .extents) (whole k codes) 0 N) (largest (k .extents) (whole k codes) 0)
+    pub ranked-points : Ranked t Point n (volPoint t) (λ N. firstCell (k .extents) (uncutMap k codes) 0 N) (largest (k .extents) (uncutMap k codes) 0)
     unfolding classOf
     ranked-points =
         record {
           positive = λ x h. let s = spot x h in labels-numbering (k .extents) codes .positive (firstAt t Point x) (s .inside) (s .act);
-          most = λ x h. let s = spot x h in subst (λ (j : ℕ). volPoint t x ≤ largest (k .extents) (whole k codes) j) (s .level) (largest-bound (k .extents) (whole k codes) (firstAt t Point x) (s .inside));
-          begins = λ x h. let s = spot x h in least-at (k .extents) (whole k codes) 0 (volPoint t x) (firstAt t Point x) (s .inside) (s .level) refl;
+          most = λ x h. let s = spot x h in subst (λ (j : ℕ). volPoint t x ≤ largest (k .extents) (uncutMap k codes) j) (s .level) (largest-bound (k .extents) (uncutMap k codes) (firstAt t Point x) (s .inside));
+          begins = λ x h. let s = spot x h in least-at (k .extents) (uncutMap k codes) 0 (volPoint t x) (firstAt t Point x) (s .inside) (s .level) refl;
           reached = reached′;
           one = λ x y hx hy. (
             (λ e. ap (volPoint t) e),
             (λ e.
                 let s = spot x hx in
                 let u = spot y hy in
-                P .once x y hx hy (point-alone (k .extents) (whole k codes) (s .level) (labels-numbering (k .extents) codes .shared (firstAt t Point x) (firstAt t Point y) (s .inside) (u .inside) (s .level ∙ sym (u .level)) (s .act) (u .act) .0 e))),
+                P .once x y hx hy (point-alone (k .extents) (uncutMap k codes) (s .level) (labels-numbering (k .extents) codes .shared (firstAt t Point x) (firstAt t Point y) (s .inside) (u .inside) (s .level ∙ sym (u .level)) (s .act) (u .act) .0 e))),
           );
-          ascend = λ M N a b d. firsts-ascend (k .extents) codes (whole k codes) (labels-numbering (k .extents) codes) 0 (omega arith) M N a b d;
+          ascend = λ M N a b d. firsts-ascend (k .extents) codes (uncutMap k codes) (labels-numbering (k .extents) codes) 0 (omega arith) M N a b d;
         }
 
   -- the rows of points are kept as they are
-  pub point-rows : (t : Tables) (done : List ℕ) (n : ℕ) → PointsSo t done n → (x : ℕ) → x < n → (i : ℕ) → i < 6 → getD (rowFinal t Point x) i 0 ≡ getD (row (k .extents) (whole k codes) (firstAt t Point x)) i 0
+  pub point-rows : (t : Tables) (done : List ℕ) (n : ℕ) → PointsSo t done n → (x : ℕ) → x < n → (i : ℕ) → i < 6 → getD (rowFinal t Point x) i 0 ≡ getD (row (k .extents) (uncutMap k codes) (firstAt t Point x)) i 0
   unfolding rowFinal rowAt
   point-rows t done n P x hx i hi =
       let o = P .out x hx in
-      getD-tabulate 6 (λ j. getD (t .rows Point) (6 * x + j) 0) i hi ∙ o .row-at i hi ∙ ap (λ (q : ℕ). getD (row (k .extents) (whole k codes) q) i 0) (sym (o .first-at))
+      getD-tabulate 6 (λ j. getD (t .rows Point) (6 * x + j) 0) i hi ∙ o .row-at i hi ∙ ap (λ (q : ℕ). getD (row (k .extents) (uncutMap k codes) q) i 0) (sym (o .first-at))

@@ -13,7 +13,7 @@ use Rattle.cells.specs.Row.{active}
 use Rattle.union_find.specs.Links.{root}
 use Rattle.labels.specs.Components.{firstCell, largest}
 use Rattle.cutting.specs.Cutting.{Cutting, blockExtents, embed, goodCut}
-use Rattle.cutting.specs.Nodes.{Sees, part, whole}
+use Rattle.cutting.specs.Nodes.{Sees, part, uncutMap}
 use Rattle.joiner.specs.Entries.{classOf}
 use Rattle.joiner.specs.Job.{Curve, Face, Kind, Point, Tables, firstAt, node, orderOf}
 use Rattle.labels.proofs.ComponentLaws.{Belongs, belongs-at, least-at}
@@ -33,50 +33,50 @@ class-root t Point x h = absurd (omega arith)
 
 module _ (k : Cutting) (good : goodCut k ≡ true) (codes : List ℕ) (t : Tables) (κ : Kind) (lo : 0 < orderOf κ) (n : ℕ) (lay : Layout k codes t κ n)
     (C : (x y : ℕ) → x < n → y < n → (root (t .links κ) x ≡ root (t .links κ) y) ↔ (vol k codes t κ x ≡ vol k codes t κ y)) where
-  abbrev F : ℕ → ℕ
-  F N = firstCell (k .extents) (whole k codes) (orderOf κ) N
+  abbrev rootAt : ℕ → ℕ
+  rootAt N = firstCell (k .extents) (uncutMap k codes) (orderOf κ) N
 
   abbrev L : ℕ
-  L = largest (k .extents) (whole k codes) (orderOf κ)
+  L = largest (k .extents) (uncutMap k codes) (orderOf κ)
 
   -- of an enrolled component: its number, and where it begins
   record Facts (x : ℕ) : Type 0 where
     positive : 0 < vol k codes t κ x
     most : vol k codes t κ x ≤ L
-    begins : F (vol k codes t κ x) ≤ firstAt t κ x
+    begins : rootAt (vol k codes t κ x) ≤ firstAt t κ x
 
   facts : (x : ℕ) → x < n → Facts x
   facts x hx =
       let u : NodeAt k codes t κ x = lay .cover x hx in
       let f : ℕ = firstCell (blockExtents k (u .b)) (part k codes (u .b)) (orderOf κ) (u .m) in
       let s = first-sees k good codes κ (u .b) (u .m) (u .listed) (u .positive) (u .most) in
-      let v : vol k codes t κ x ≡ getD (whole k codes) (embed k (u .b) f) 0 = ap (vol k codes t κ) (u .is) ∙ vol-node k good codes t κ n lo lay s in
+      let v : vol k codes t κ x ≡ getD (uncutMap k codes) (embed k (u .b) f) 0 = ap (vol k codes t κ) (u .is) ∙ vol-node k good codes t κ n lo lay s in
       let a : firstAt t κ x ≡ embed k (u .b) f = ap (firstAt t κ) (u .is) ∙ lay .seen (u .b) (u .m) (u .listed) (u .positive) (u .most) in
       let i : embed k (u .b) f < cells (k .extents) = sees-in k good codes (orderOf κ) lo (order-small κ) s in
       let l : order (k .extents) (embed k (u .b) f) ≡ orderOf κ = sees-order k good codes (orderOf κ) lo (order-small κ) s in
       record {
         positive = omega (arith, v, labels-numbering (k .extents) codes .positive (embed k (u .b) f) i (sees-active k good codes (orderOf κ) lo (order-small κ) s));
-        most = omega (arith, v, largest-bound (k .extents) (whole k codes) (embed k (u .b) f) i, ap (largest (k .extents) (whole k codes)) l);
-        begins = subst (λ (y : ℕ). F (vol k codes t κ x) ≤ y) (sym a) (subst (λ (N : ℕ). F N ≤ embed k (u .b) f) (sym v) (least-at (k .extents) (whole k codes) (orderOf κ) _ (embed k (u .b) f) i l refl));
+        most = omega (arith, v, largest-bound (k .extents) (uncutMap k codes) (embed k (u .b) f) i, ap (largest (k .extents) (uncutMap k codes)) l);
+        begins = subst (λ (y : ℕ). rootAt (vol k codes t κ x) ≤ y) (sym a) (subst (λ (N : ℕ). rootAt N ≤ embed k (u .b) f) (sym v) (least-at (k .extents) (uncutMap k codes) (orderOf κ) _ (embed k (u .b) f) i l refl));
       }
 
   -- a number is reached by the component that has its first cell
-  reached′ : (N : ℕ) → 0 < N → N ≤ L → (x : ℕ) × (x < n) × (vol k codes t κ x ≡ N) × (firstAt t κ x ≡ F N)
+  reached′ : (N : ℕ) → 0 < N → N ≤ L → (x : ℕ) × (x < n) × (vol k codes t κ x ≡ N) × (firstAt t κ x ≡ rootAt N)
   reached′ N h0 hN = (
     node t κ b o,
     node-inside k good codes t κ n lo lay s,
     num,
-    le-antisymm (subst (λ (y : ℕ). firstAt t κ (node t κ b o) ≤ y) (w .held .is) low) (subst (λ (y : ℕ). F y ≤ firstAt t κ (node t κ b o)) num (facts (node t κ b o) (node-inside k good codes t κ n lo lay s) .begins)),
+    le-antisymm (subst (λ (y : ℕ). firstAt t κ (node t κ b o) ≤ y) (w .held .is) low) (subst (λ (y : ℕ). rootAt y ≤ firstAt t κ (node t κ b o)) num (facts (node t κ b o) (node-inside k good codes t κ n lo lay s) .begins)),
   )
     where
-      r : Somewhere (k .extents) (whole k codes) (orderOf κ) N
-      r = every-number (k .extents) codes (whole k codes) (labels-numbering (k .extents) codes) (orderOf κ) (order-small κ) N h0 hN
+      r : Somewhere (k .extents) (uncutMap k codes) (orderOf κ) N
+      r = every-number (k .extents) codes (uncutMap k codes) (labels-numbering (k .extents) codes) (orderOf κ) (order-small κ) N h0 hN
 
-      f : Belongs (k .extents) (whole k codes) (orderOf κ) N (F N)
-      f = belongs-at (k .extents) (whole k codes) (orderOf κ) N (r .p) (r .there .within) (r .there .level) (r .there .has)
+      f : Belongs (k .extents) (uncutMap k codes) (orderOf κ) N (rootAt N)
+      f = belongs-at (k .extents) (uncutMap k codes) (orderOf κ) N (r .p) (r .there .within) (r .there .level) (r .there .has)
 
-      w : InBlock k (F N)
-      w = blocks-cover k good (F N) (f .within)
+      w : InBlock k (rootAt N)
+      w = blocks-cover k good (rootAt N) (f .within)
 
       b : ℕ
       b = w .b
@@ -90,21 +90,21 @@ module _ (k : Cutting) (good : goodCut k ≡ true) (codes : List ℕ) (t : Table
       level : order (blockExtents k b) q ≡ orderOf κ
       level = sym (embed-order k good b (w .listed) q (w .held .within)) ∙ ap (order (k .extents)) (w .held .is) ∙ f .level
 
-      act : active (k .extents) (whole k codes) (F N) ≡ true
-      act = numbered-active (k .extents) codes (F N) (f .within) (omega (arith, f .level, order-small κ)) (omega (arith, f .has))
+      act : active (k .extents) (uncutMap k codes) (rootAt N) ≡ true
+      act = numbered-active (k .extents) codes (rootAt N) (f .within) (omega (arith, f .level, order-small κ)) (omega (arith, f .has))
 
       s : Sees k codes (orderOf κ) b o q
-      s = record { listed = w .listed; within = w .held .within; level = level; act = carried k good codes (orderOf κ) lo (order-small κ) b (w .listed) .act q (w .held .within) level ∙ ap (active (k .extents) (whole k codes)) (w .held .is) ∙ act; has = refl }
+      s = record { listed = w .listed; within = w .held .within; level = level; act = carried k good codes (orderOf κ) lo (order-small κ) b (w .listed) .act q (w .held .within) level ∙ ap (active (k .extents) (uncutMap k codes)) (w .held .is) ∙ act; has = refl }
 
       num : vol k codes t κ (node t κ b o) ≡ N
-      num = vol-node k good codes t κ n lo lay s ∙ ap (λ (y : ℕ). getD (whole k codes) y 0) (w .held .is) ∙ f .has
+      num = vol-node k good codes t κ n lo lay s ∙ ap (λ (y : ℕ). getD (uncutMap k codes) y 0) (w .held .is) ∙ f .has
 
       low : firstAt t κ (node t κ b o) ≤ embed k b q
       low =
           subst (λ (y : ℕ). y ≤ embed k b q) (sym (lay .seen b o (w .listed) (sees-positive k good codes (orderOf κ) s) (sees-most k good codes (orderOf κ) s)))
           (embed-le k good b (w .listed) (firstCell (blockExtents k b) (part k codes b) (orderOf κ) o) q (least-at (blockExtents k b) (part k codes b) (orderOf κ) o q (w .held .within) level refl) (w .held .within))
 
-  pub ranked-joined : Ranked t κ n (vol k codes t κ) (λ N. firstCell (k .extents) (whole k codes) (orderOf κ) N) (largest (k .extents) (whole k codes) (orderOf κ))
+  pub ranked-joined : Ranked t κ n (vol k codes t κ) (λ N. firstCell (k .extents) (uncutMap k codes) (orderOf κ) N) (largest (k .extents) (uncutMap k codes) (orderOf κ))
   ranked-joined =
       record {
         positive = λ x h. facts x h .positive;
@@ -113,5 +113,5 @@ module _ (k : Cutting) (good : goodCut k ≡ true) (codes : List ℕ) (t : Table
         reached = reached′;
         one = λ x y hx hy. subst (λ (a : ℕ). (a ≡ classOf t κ y) ↔ (vol k codes t κ x ≡ vol k codes t κ y)) (sym (class-root t κ x lo))
             (subst (λ (a : ℕ). (root (t .links κ) x ≡ a) ↔ (vol k codes t κ x ≡ vol k codes t κ y)) (sym (class-root t κ y lo)) (C x y hx hy));
-        ascend = λ M N a b d. firsts-ascend (k .extents) codes (whole k codes) (labels-numbering (k .extents) codes) (orderOf κ) (order-small κ) M N a b d;
+        ascend = λ M N a b d. firsts-ascend (k .extents) codes (uncutMap k codes) (labels-numbering (k .extents) codes) (orderOf κ) (order-small κ) M N a b d;
       }

@@ -12,7 +12,7 @@ use lib.ListN.{drop, getD, length, length-drop, length-take, take}
 use lib.Seq.{ext-getD, getD-drop, getD-take}
 use borrow.Author.Tests.{eq-eqb, eqb-false, eqb-true, lt-ltb, ltb-false, ltb-true}
 use Rattle.cells.specs.Box.{Triple, index}
-use Rattle.cells.specs.Grid.{cells, order, sides, up}
+use Rattle.cells.specs.Grid.{cells, order, sides, upperNeighbours}
 use Rattle.cells.specs.Row.{active, padTo}
 use Rattle.labels.specs.Components.{componentRow, firstCell, largest}
 use Rattle.labels.specs.Number.{labels, numbered}
@@ -24,7 +24,7 @@ use Rattle.joiner.specs.Entries.{bisect, cellNumber, lookedUp, pointNumb
 use Rattle.joiner.specs.Job.{Curve, Face, Kind, Point, State, Told, orderOf, stageNumber, width}
 use Rattle.joiner.specs.Stages.{codesOf, hasCell, local, shared}
 use Rattle.joiner.specs.Statement.{Labelling}
-use Rattle.lists.proofs.Cases.{and-left, and-right, by-test, picked}
+use Rattle.lists.proofs.Cases.{and-first, and-second, by-test, picked}
 use Rattle.lists.proofs.Overlay.{front-at}
 use Rattle.cells.proofs.GridLaws.{order-most}
 use Rattle.cells.proofs.RowLaws.{getD-pad}
@@ -41,7 +41,7 @@ use Rattle.joiner.proofs.RowsFinal.{final-cell}
 
 -- ---- bisection
 
-module _ (xs : List ℕ) (n v : ℕ) (up : (i j : ℕ) → i < j → j < n → getD xs i 0 < getD xs j 0) where
+module _ (xs : List ℕ) (n v : ℕ) (upperNeighbours : (i j : ℕ) → i < j → j < n → getD xs i 0 < getD xs j 0) where
   -- r parts the m places from lo on: below v before it, not below v from it on
   record Parts (lo m r : ℕ) : Type 0 where
     low : lo ≤ r
@@ -49,8 +49,8 @@ module _ (xs : List ℕ) (n v : ℕ) (up : (i j : ℕ) → i < j → j < n → g
     below : (j : ℕ) → lo ≤ j → j < r → getD xs j 0 < v
     above : (j : ℕ) → r ≤ j → j < lo + m → v ≤ getD xs j 0
 
-  up-le : (i j : ℕ) → i ≤ j → j < n → getD xs i 0 ≤ getD xs j 0
-  up-le i j h l = by-test (ltb i j) (λ t. omega (arith, up i j (ltb-true i j t) l)) (λ t. let e : i ≡ j = omega (arith, ltb-false i j t) in rw e (omega arith))
+  ascends-le : (i j : ℕ) → i ≤ j → j < n → getD xs i 0 ≤ getD xs j 0
+  ascends-le i j h l = by-test (ltb i j) (λ t. omega (arith, upperNeighbours i j (ltb-true i j t) l)) (λ t. let e : i ≡ j = omega (arith, ltb-false i j t) in rw e (omega arith))
 
   bisect-parts : (f lo m : ℕ) → m ≤ f → lo + m ≤ n → Parts lo m (bisect f xs lo m v)
   unfolding bisect
@@ -69,7 +69,7 @@ module _ (xs : List ℕ) (n v : ℕ) (up : (i j : ℕ) → i < j → j < n → g
           record {
             low = omega (arith, P .low);
             high = omega (arith, d, P .high);
-            below = λ j p q. by-test (ltb (lo + m / 2) j) (λ t. P .below j (ltb-true _ _ t) q) (λ t. omega (arith, a, up-le j (lo + m / 2) (ltb-false (lo + m / 2) j t) (omega (arith, d))));
+            below = λ j p q. by-test (ltb (lo + m / 2) j) (λ t. P .below j (ltb-true _ _ t) q) (λ t. omega (arith, a, ascends-le j (lo + m / 2) (ltb-false (lo + m / 2) j t) (omega (arith, d))));
             above = λ j p q. P .above j p (omega (arith, d, q));
           }
 
@@ -79,7 +79,7 @@ module _ (xs : List ℕ) (n v : ℕ) (up : (i j : ℕ) → i < j → j < n → g
             low = P .low;
             high = omega (arith, P .high);
             below = P .below;
-            above = λ j p q. by-test (ltb j (lo + m / 2)) (λ t. P .above j p (ltb-true _ _ t)) (λ t. omega (arith, a, up-le (lo + m / 2) j (ltb-false j (lo + m / 2) t) (omega (arith, q, l))));
+            above = λ j p q. by-test (ltb j (lo + m / 2)) (λ t. P .above j p (ltb-true _ _ t)) (λ t. omega (arith, a, ascends-le (lo + m / 2) j (ltb-false j (lo + m / 2) t) (omega (arith, q, l))));
           }
 
   r : ℕ
@@ -94,14 +94,14 @@ module _ (xs : List ℕ) (n v : ℕ) (up : (i j : ℕ) → i < j → j < n → g
   number-found i h e =
       let a : r ≤ i = by-test (ltb i r) (λ t. absurd (omega (arith, parts .below i (omega arith) (ltb-true i r t)))) (λ t. ltb-false i r t) in
       let b : v ≤ getD xs r 0 = parts .above r (omega arith) (omega arith) in
-      let c : r ≡ i = by-test (ltb r i) (λ t. absurd (omega (arith, up r i (ltb-true r i t) h))) (λ t. omega (arith, ltb-false r i t)) in
+      let c : r ≡ i = by-test (ltb r i) (λ t. absurd (omega (arith, upperNeighbours r i (ltb-true r i t) h))) (λ t. omega (arith, ltb-false r i t)) in
       rw (lt-ltb r n (omega arith), eq-eqb (getD xs r 0) v (ap (λ (j : ℕ). getD xs j 0) c ∙ e)) (ap suc c)
 
   pub number-missing : ((i : ℕ) → i < n → getD xs i 0 ≢ v) → pointNumber xs n v ≡ 0
   unfolding pointNumber r
   number-missing h =
       by-test (ltb r n && eqb (getD xs r 0) v)
-      (λ t. absurd (h r (ltb-true r n (and-left (ltb r n) (eqb (getD xs r 0) v) t)) (eqb-true _ _ (and-right (ltb r n) (eqb (getD xs r 0) v) t))))
+      (λ t. absurd (h r (ltb-true r n (and-first (ltb r n) (eqb (getD xs r 0) v) t)) (eqb-true _ _ (and-second (ltb r n) (eqb (getD xs r 0) v) t))))
       (λ t. rw t refl)
 
 order-low : (e : Triple) (p : ℕ) → order e p ≢ 3 → order e p ≢ 2 → order e p ≢ 1 → order e p ≡ 0
@@ -122,28 +122,28 @@ width-most w a b h l =
 -- ---- the point at a position
 
 module _ (e : Triple) (codes xs : List ℕ) (firsts-are : (i : ℕ) → i < largest e (labels e codes) 0 → getD xs i 0 ≡ firstCell e (labels e codes) 0 (suc i)) where
-  M : Numbering e codes (labels e codes)
-  M = labels-numbering e codes
+  uncut-numbering : Numbering e codes (labels e codes)
+  uncut-numbering = labels-numbering e codes
 
   rises : (i j : ℕ) → i < j → j < largest e (labels e codes) 0 → getD xs i 0 < getD xs j 0
   rises i j h l =
       subst (λ (a : ℕ). a < getD xs j 0) (sym (firsts-are i (omega arith)))
-      (subst (λ (b : ℕ). firstCell e (labels e codes) 0 (suc i) < b) (sym (firsts-are j l)) (firsts-ascend e codes (labels e codes) M 0 (omega arith) (suc i) (suc j) (omega arith) (omega arith) (omega arith)))
+      (subst (λ (b : ℕ). firstCell e (labels e codes) 0 (suc i) < b) (sym (firsts-are j l)) (firsts-ascend e codes (labels e codes) uncut-numbering 0 (omega arith) (suc i) (suc j) (omega arith) (omega arith) (omega arith)))
 
   pub point-held : (q : ℕ) → q < cells e → order e q ≡ 0 → pointNumber xs (largest e (labels e codes) 0) q ≡ getD (labels e codes) q 0
   point-held q hq o = by-test (active e (labels e codes) q) yes no
     where
       first-active : (N : ℕ) → 0 < N → N ≤ largest e (labels e codes) 0 → Belongs e (labels e codes) 0 N (firstCell e (labels e codes) 0 N)
-      first-active N h0 hN = let w = every-number e codes (labels e codes) M 0 (omega arith) N h0 hN in belongs-at e (labels e codes) 0 N (w .p) (w .there .within) (w .there .level) (w .there .has)
+      first-active N h0 hN = let w = every-number e codes (labels e codes) uncut-numbering 0 (omega arith) N h0 hN in belongs-at e (labels e codes) 0 N (w .p) (w .there .within) (w .there .level) (w .there .has)
 
       yes : active e (labels e codes) q ≡ true → pointNumber xs (largest e (labels e codes) 0) q ≡ getD (labels e codes) q 0
       yes a =
           let N : ℕ = getD (labels e codes) q 0 in
-          let h0 : 0 < N = M .positive q hq a in
+          let h0 : 0 < N = uncut-numbering .positive q hq a in
           let hN : N ≤ largest e (labels e codes) 0 = subst (λ (j : ℕ). getD (labels e codes) q 0 ≤ largest e (labels e codes) j) o (largest-bound e (labels e codes) q hq) in
           let b : Belongs e (labels e codes) 0 N (firstCell e (labels e codes) 0 N) = belongs-at e (labels e codes) 0 N q hq o refl in
           let f : ℕ = firstCell e (labels e codes) 0 N in
-          let c : f ≡ q = point-alone e (labels e codes) (b .level) (M .shared f q (b .within) hq (b .level ∙ sym o) (numbered-active e codes f (b .within) (omega (arith, b .level)) (omega (arith, b .has, h0))) a .0 (b .has)) in
+          let c : f ≡ q = point-alone e (labels e codes) (b .level) (uncut-numbering .shared f q (b .within) hq (b .level ∙ sym o) (numbered-active e codes f (b .within) (omega (arith, b .level)) (omega (arith, b .has, h0))) a .0 (b .has)) in
           let s : suc (N - 1) ≡ N = omega arith in
           number-found xs (largest e (labels e codes) 0) q rises (N - 1) (omega arith) (firsts-are (N - 1) (omega arith) ∙ ap (firstCell e (labels e codes) 0) s ∙ c) ∙ s
 
@@ -152,8 +152,8 @@ module _ (e : Triple) (codes xs : List ℕ) (firsts-are : (i : ℕ) → i < larg
           number-missing xs (largest e (labels e codes) 0) q rises
           (λ i h z.
           let b = first-active (suc i) (omega arith) (omega arith) in
-          absurd (omega (arith, sym (b .has) ∙ ap (λ (p : ℕ). getD (labels e codes) p 0) (sym (firsts-are i h) ∙ z) ∙ M .inactive q hq (omega (arith, o)) a)))
-          ∙ sym (M .inactive q hq (omega (arith, o)) a)
+          absurd (omega (arith, sym (b .has) ∙ ap (λ (p : ℕ). getD (labels e codes) p 0) (sym (firsts-are i h) ∙ z) ∙ uncut-numbering .inactive q hq (omega (arith, o)) a)))
+          ∙ sym (uncut-numbering .inactive q hq (omega (arith, o)) a)
 
 -- ---- a closed job
 

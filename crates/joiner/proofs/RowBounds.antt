@@ -8,12 +8,12 @@ use native.Mathlib.Omega.{arith}
 use lib.ListN.{getD}
 use Rattle.lists.specs.Lists.{keep}
 use Rattle.cells.specs.Box.{Triple}
-use Rattle.cells.specs.Grid.{cells, order, up}
-use Rattle.cells.specs.Row.{insertAscending, once, padTo, row, rowOf, sort}
+use Rattle.cells.specs.Grid.{cells, order, upperNeighbours}
+use Rattle.cells.specs.Row.{insertAscending, once, padTo, row, rowOf, sortAscending}
 use Rattle.labels.specs.Components.{component, componentRow, largest, rowAtFirst}
-use Rattle.cutting.specs.Cutting.{level}
+use Rattle.cutting.specs.Cutting.{sameInterval}
 use Rattle.lists.proofs.Cases.{picked}
-use Rattle.cells.proofs.GridLaws.{Upper, upper}
+use Rattle.cells.proofs.GridLaws.{Upper, upper-neighbour}
 use Rattle.labels.proofs.ComponentLaws.{Belongs, component-out}
 use Rattle.labels.proofs.CountLaws.{largest-bound}
 
@@ -25,9 +25,9 @@ most-insert : (M x : ℕ) (l : List ℕ) → x ≤ M → AtMost M l → AtMost M
 most-insert M x [] h b = (h, tt)
 most-insert M x (y ∷ l) h b = (omega (arith, h, b .0), most-insert M (max x y) l (omega (arith, h, b .0)) (b .1))
 
-most-sort : (M : ℕ) (l : List ℕ) → AtMost M l → AtMost M (sort l)
+most-sort : (M : ℕ) (l : List ℕ) → AtMost M l → AtMost M (sortAscending l)
 most-sort M [] b = tt
-most-sort M (x ∷ l) b = most-insert M x (sort l) (b .0) (most-sort M l (b .1))
+most-sort M (x ∷ l) b = most-insert M x (sortAscending l) (b .0) (most-sort M l (b .1))
 
 most-keep : (M : ℕ) (f : ℕ → Bool) (l : List ℕ) → AtMost M l → AtMost M (keep f l)
 most-keep M f [] b = tt
@@ -48,10 +48,10 @@ row-most : (e : Triple) (m : List ℕ) (p i : ℕ) → p < cells e → getD (row
 unfolding row rowOf
 row-most e m p i h =
     let M : ℕ = largest e m (suc (order e p)) in
-    let xs : List ℕ = map (λ q. getD m q 0) (up e p) in
-    most-pad M 6 (sort (keep (once xs) xs)) i
+    let xs : List ℕ = map (λ q. getD m q 0) (upperNeighbours e p) in
+    most-pad M 6 (sortAscending (keep (once xs) xs)) i
     (most-sort M (keep (once xs) xs) (most-keep M (once xs) xs
-    (most-map M (λ q. getD m q 0) (up e p) (λ q k. let u : Upper e p q = upper e p h k in omega (arith, largest-bound e m q (u .within), ap (largest e m) (u .higher))))))
+    (most-map M (λ q. getD m q 0) (upperNeighbours e p) (λ q k. let u : Upper e p q = upper-neighbour e p h k in omega (arith, largest-bound e m q (u .within), ap (largest e m) (u .higher))))))
 
 pub component-row-most : (e : Triple) (m : List ℕ) (j n i : ℕ) → getD (componentRow e m j n) i 0 ≤ largest e m (suc j)
 unfolding componentRow rowAtFirst rowOf

@@ -11,18 +11,18 @@ use lib.ListN.{getD, length, length-map}
 use borrow.Author.Tests.{eq-eqb, eqb-false, eqb-true, ne-eqb}
 use Rattle.lists.specs.Lists.{consecutive, keep, tabulate, zeros}
 use Rattle.cells.specs.Box.{Triple}
-use Rattle.cells.specs.Grid.{cells, order, up}
-use Rattle.cells.specs.Row.{occurrences, once, padTo, row, rowOf, sort}
+use Rattle.cells.specs.Grid.{cells, order, upperNeighbours}
+use Rattle.cells.specs.Row.{occurrences, once, padTo, row, rowOf, sortAscending}
 use Rattle.labels.specs.Components.{component, componentRow, firstCell, largest, rowAtFirst}
 use Rattle.labels.specs.Numbering.{Numbering}
-use Rattle.cutting.specs.Cutting.{Cutting, blockExtents, blocks, embed, goodCut, level}
-use Rattle.cutting.specs.Nodes.{part, whole}
+use Rattle.cutting.specs.Cutting.{Cutting, blockExtents, blocks, embed, goodCut, sameInterval}
+use Rattle.cutting.specs.Nodes.{part, uncutMap}
 use Rattle.joiner.specs.Declines.{finalOf}
 use Rattle.joiner.specs.Entries.{finalFace, rowAt, rowFinal, shifted}
 use Rattle.joiner.specs.Job.{Curve, Face, Kind, Tables, fromOf, node, orderOf}
 use Rattle.lists.proofs.Cases.{by-test, picked}
 use Rattle.lists.proofs.Lists.{consecutive-out, keep-out, map-same}
-use Rattle.cells.proofs.GridLaws.{Upper, length-up, upper}
+use Rattle.cells.proofs.GridLaws.{Upper, length-up, upper-neighbour}
 use Rattle.cells.proofs.RowFacts.{occurrences-sort}
 use Rattle.cells.proofs.RowLaws.{getD-pad, once-positive}
 use Rattle.labels.proofs.ComponentLaws.{component-in}
@@ -78,8 +78,8 @@ there-occurs : (l : List ℕ) (x : ℕ) → 0 < occurrences x l → List·Memᴰ
 there-occurs [] x h = absurd (omega arith)
 there-occurs (y ∷ l) x h = by-test (eqb y x) (λ t. List·Memᴰ·head (sym (eqb-true y x t))) (λ t. List·Memᴰ·tail (there-occurs l x (rw t at h)))
 
-sort-out : (l : List ℕ) {x : ℕ} → List·Memᴰ x (sort l) → List·Memᴰ x l
-sort-out l {x} m = there-occurs l x (omega (arith, occurs (sort l) m, occurrences-sort x l))
+sort-out : (l : List ℕ) {x : ℕ} → List·Memᴰ x (sortAscending l) → List·Memᴰ x l
+sort-out l {x} m = there-occurs l x (omega (arith, occurs (sortAscending l) m, occurrences-sort x l))
 
 f-of : (a : ℕ) (l : List ℕ) (y : ℕ) → cond (eqb (cond (eqb y 0) 0 (a + y)) 0) 0 (getD l (cond (eqb y 0) 0 (a + y) - 1) 0) ≡ cond (eqb y 0) 0 (getD l (a + (y - 1)) 0)
 f-of a l y =
@@ -90,7 +90,7 @@ f-of a l y =
 
 -- the final number of a face or curve cell is what it holds in the volume
 pub final-cell : (k : Cutting) (good : goodCut k ≡ true) (codes : List ℕ) (t : Tables) (κ : Kind) (lo : 0 < orderOf κ) (n : ℕ) → Layout k codes t κ n → ((x : ℕ) → x < n → getD (t .numbers κ) x 0 ≡ vol k codes t κ x)
-    → (b : ℕ) → b < blocks k → (q : ℕ) → q < cells (blockExtents k b) → order (blockExtents k b) q ≡ orderOf κ → finalOf t κ b (getD (part k codes b) q 0) ≡ getD (whole k codes) (embed k b q) 0
+    → (b : ℕ) → b < blocks k → (q : ℕ) → q < cells (blockExtents k b) → order (blockExtents k b) q ≡ orderOf κ → finalOf t κ b (getD (part k codes b) q 0) ≡ getD (uncutMap k codes) (embed k b q) 0
 unfolding finalOf
 final-cell k good codes t κ lo n lay nums b hb q hq l =
     by-test (eqb (getD (part k codes b) q 0) 0)
@@ -107,15 +107,15 @@ module _ (k : Cutting) (good : goodCut k ≡ true) (codes : List ℕ) (t : Table
   g y = finalOf t Face b y
 
   xs : List ℕ
-  xs = map (λ q. getD (part k codes b) q 0) (up (blockExtents k b) p)
+  xs = map (λ q. getD (part k codes b) q 0) (upperNeighbours (blockExtents k b) p)
 
   ys : List ℕ
-  ys = sort (keep (once xs) xs)
+  ys = sortAscending (keep (once xs) xs)
 
-  at : (q : ℕ) → List·Memᴰ q (up (blockExtents k b) p) → (q < cells (blockExtents k b)) × (order (blockExtents k b) q ≡ 2)
-  at q m = let u : Upper (blockExtents k b) p q = upper (blockExtents k b) p hp m in (u .within, u .higher ∙ ap suc op)
+  at : (q : ℕ) → List·Memᴰ q (upperNeighbours (blockExtents k b) p) → (q < cells (blockExtents k b)) × (order (blockExtents k b) q ≡ 2)
+  at q m = let u : Upper (blockExtents k b) p q = upper-neighbour (blockExtents k b) p hp m in (u .within, u .higher ∙ ap suc op)
 
-  g-is : (q : ℕ) → List·Memᴰ q (up (blockExtents k b) p) → g (getD (part k codes b) q 0) ≡ getD (whole k codes) (embed k b q) 0
+  g-is : (q : ℕ) → List·Memᴰ q (upperNeighbours (blockExtents k b) p) → g (getD (part k codes b) q 0) ≡ getD (uncutMap k codes) (embed k b q) 0
   unfolding g
   g-is q m = final-cell k good codes t Face (omega arith) n lay nums b hb q (at q m .0) (at q m .1)
 
@@ -129,26 +129,26 @@ module _ (k : Cutting) (good : goodCut k ≡ true) (codes : List ℕ) (t : Table
       record {
         nought = g-nought;
         zeros = λ x m e.
-            let r = Memᴰ·of-map (λ q. getD (part k codes b) q 0) (up (blockExtents k b) p) m in
+            let r = Memᴰ·of-map (λ q. getD (part k codes b) q 0) (upperNeighbours (blockExtents k b) p) m in
             sym (r .2) ∙ zero-down k good codes b hb 2 (omega arith) (carried k good codes 2 (omega arith) (omega arith) b hb) (r .0) (at (r .0) (r .1) .0) (at (r .0) (r .1) .1) (sym (g-is (r .0) (r .1)) ∙ ap g (r .2) ∙ e);
         apart = λ x y m i e.
-            let r = Memᴰ·of-map (λ q. getD (part k codes b) q 0) (up (blockExtents k b) p) m in
-            let s = Memᴰ·of-map (λ q. getD (part k codes b) q 0) (up (blockExtents k b) p) i in
+            let r = Memᴰ·of-map (λ q. getD (part k codes b) q 0) (upperNeighbours (blockExtents k b) p) m in
+            let s = Memᴰ·of-map (λ q. getD (part k codes b) q 0) (upperNeighbours (blockExtents k b) p) i in
             sym (r .2) ∙ face-apart k good codes b hb p hp op (r .0) (s .0) (r .1) (s .1) (sym (g-is (r .0) (r .1)) ∙ ap g (r .2) ∙ e ∙ ap g (sym (s .2)) ∙ g-is (s .0) (s .1)) ∙ s .2;
       }
 
   -- the row in the volume
-  row-is : row (k .extents) (whole k codes) (embed k b p) ≡ padTo 6 (sort (map g ys))
+  row-is : row (k .extents) (uncutMap k codes) (embed k b p) ≡ padTo 6 (sortAscending (map g ys))
   unfolding xs ys rowOf
   row-is =
-      row-through k good b hb (whole k codes) p hp
-      ∙ ap rowOf (map-same (λ q. getD (whole k codes) (embed k b q) 0) (λ q. g (getD (part k codes b) q 0)) (up (blockExtents k b) p) (λ q m. sym (g-is q m)) ∙ sym (map-map g (λ q. getD (part k codes b) q 0) (up (blockExtents k b) p)))
-      ∙ ap (λ (l : List ℕ). padTo 6 (sort l)) (once-list g xs tells)
+      row-through k good b hb (uncutMap k codes) p hp
+      ∙ ap rowOf (map-same (λ q. getD (uncutMap k codes) (embed k b q) 0) (λ q. g (getD (part k codes b) q 0)) (upperNeighbours (blockExtents k b) p) (λ q m. sym (g-is q m)) ∙ sym (map-map g (λ q. getD (part k codes b) q 0) (upperNeighbours (blockExtents k b) p)))
+      ∙ ap (λ (l : List ℕ). padTo 6 (sortAscending l)) (once-list g xs tells)
       ∙ ap (padTo 6) (sym (sort-map g (keep (once xs) xs)))
 
   ys-short : length ys ≤ 4
   unfolding xs ys
-  ys-short = omega (arith, length-sort (keep (once xs) xs), length-keep (once xs) xs, length-map (up (blockExtents k b) p) (λ q. getD (part k codes b) q 0), length-up (blockExtents k b) p, op)
+  ys-short = omega (arith, length-sort (keep (once xs) xs), length-keep (once xs) xs, length-map (upperNeighbours (blockExtents k b) p) (λ q. getD (part k codes b) q 0), length-up (blockExtents k b) p, op)
 
   ys-more : (y : ℕ) → List·Memᴰ y ys → g y ≢ 0
   unfolding ys
@@ -158,20 +158,20 @@ module _ (k : Cutting) (good : goodCut k ≡ true) (codes : List ℕ) (t : Table
 
   -- what the closed table holds of a curve that begins at this cell
   pub curve-kept : (x : ℕ) → ((i : ℕ) → i < 4 → getD (t .rows Curve) (4 * x + i) 0 ≡ shifted (fromOf t Face b) Curve (getD (row (blockExtents k b) (part k codes b) p) i 0))
-      → (i : ℕ) → i < 4 → getD (rowFinal t Curve x) i 0 ≡ getD (row (k .extents) (whole k codes) (embed k b p)) i 0
+      → (i : ℕ) → i < 4 → getD (rowFinal t Curve x) i 0 ≡ getD (row (k .extents) (uncutMap k codes) (embed k b p)) i 0
   unfolding rowFinal rowAt tabulate
   curve-kept x stored i hi =
-      ap (λ (l : List ℕ). getD (padTo 4 (sort (keep (λ n. not (eqb n 0)) l))) i 0) same-rows
-      ∙ ap (λ (l : List ℕ). getD (padTo 4 (sort l)) i 0) (drop-zeros g 4 ys g-nought ys-short ys-more)
-      ∙ getD-pad 4 i (sort (map g ys)) hi
-      ∙ sym (getD-pad 6 i (sort (map g ys)) (omega arith))
+      ap (λ (l : List ℕ). getD (padTo 4 (sortAscending (keep (λ n. not (eqb n 0)) l))) i 0) same-rows
+      ∙ ap (λ (l : List ℕ). getD (padTo 4 (sortAscending l)) i 0) (drop-zeros g 4 ys g-nought ys-short ys-more)
+      ∙ getD-pad 4 i (sortAscending (map g ys)) hi
+      ∙ sym (getD-pad 6 i (sortAscending (map g ys)) (omega arith))
       ∙ ap (λ (l : List ℕ). getD l i 0) (sym row-is)
     where
       f-shift : (y : ℕ) → finalFace t (shifted (fromOf t Face b) Curve y) ≡ g y
       f-shift y = unfold shifted g finalOf node finalFace in f-of (fromOf t Face b) (t .numbers Face) y
 
       entry : (i : ℕ) → i < 4 → finalFace t (getD (t .rows Curve) (4 * x + i) 0) ≡ g (getD ys i 0)
-      entry i h = ap (finalFace t) (stored i h) ∙ f-shift (getD (row (blockExtents k b) (part k codes b) p) i 0) ∙ ap g (unfold row rowOf xs ys in getD-pad 6 i (sort (keep (once xs) xs)) (omega arith))
+      entry i h = ap (finalFace t) (stored i h) ∙ f-shift (getD (row (blockExtents k b) (part k codes b) p) i 0) ∙ ap g (unfold row rowOf xs ys in getD-pad 6 i (sortAscending (keep (once xs) xs)) (omega arith))
 
       same-rows : map (finalFace t) (map (λ i. getD (t .rows Curve) (4 * x + i) 0) (consecutive 0 4)) ≡ map g (padTo 4 ys)
       same-rows =

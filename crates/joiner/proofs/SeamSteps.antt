@@ -11,10 +11,10 @@ use borrow.Author.Tests.{eqb-true}
 use Rattle.lists.specs.Lists.{consecutive}
 use Rattle.closure.specs.Joined.{edge}
 use Rattle.cells.specs.Box.{Axis, X, Y, Z, coord, index, place}
-use Rattle.cutting.specs.Cutting.{Cutting, blockSides, blocks, follows, interval, level, seam}
+use Rattle.cutting.specs.Cutting.{Cutting, blockSides, blocks, follows, interval, sameInterval, seam}
 use Rattle.joiner.specs.Job.{Seam}
 use Rattle.joiner.specs.Stages.{products, seamAxis, seamStep, seams, stepsOf}
-use Rattle.lists.proofs.Cases.{and-left, and-right, by-test, or-cases}
+use Rattle.lists.proofs.Cases.{and-first, and-second, by-test, or-cases}
 use Rattle.lists.proofs.Lists.{consecutive-in, keep-in}
 use Rattle.cells.proofs.BoxLaws.{index-place, same-triple}
 use Rattle.cutting.proofs.CutLaws.{interval-is}
@@ -26,52 +26,52 @@ pub record Axes (k : Cutting) (b c a : ℕ) : Type 0 where
   pub on-z : interval k c Z ≡ cond (eqb a 3) (suc (interval k b Z)) (interval k b Z)
 
 module _ (k : Cutting) (b c : ℕ) where
-  F : Axis → Bool
-  F a = follows k b c a
+  followsOn : Axis → Bool
+  followsOn a = follows k b c a
 
   L : Axis → Bool
-  L a = level k b c a
+  L a = sameInterval k b c a
 
-  F-is : (a : Axis) → F a ≡ true → interval k c a ≡ suc (interval k b a)
-  unfolding F follows
+  F-is : (a : Axis) → followsOn a ≡ true → interval k c a ≡ suc (interval k b a)
+  unfolding followsOn follows
   F-is a t = eqb-true _ _ t
 
   L-is : (a : Axis) → L a ≡ true → interval k c a ≡ interval k b a
-  unfolding L level
+  unfolding L sameInterval
   L-is a t = eqb-true _ _ t
 
-  not-both : (a : Axis) → L a ≡ true → F a ≡ false
-  not-both a t = by-test (F a) (λ f. absurd (omega (arith, L-is a t, F-is a f))) (λ f. f)
+  not-both : (a : Axis) → L a ≡ true → followsOn a ≡ false
+  not-both a t = by-test (followsOn a) (λ f. absurd (omega (arith, L-is a t, F-is a f))) (λ f. f)
 
   pub seam-axes : seam k b c ≡ true → Axes k b c (seamAxis k b c)
-  unfolding seam seamAxis F L
-  seam-axes z = go (or-cases ((F X && L Y && L Z) || (L X && F Y && L Z)) (L X && L Y && F Z) (and-right (ltb b (blocks k) && ltb c (blocks k)) _ z))
+  unfolding seam seamAxis followsOn L
+  seam-axes z = go (or-cases ((followsOn X && L Y && L Z) || (L X && followsOn Y && L Z)) (L X && L Y && followsOn Z) (and-second (ltb b (blocks k) && ltb c (blocks k)) _ z))
     where
-      on-first : (F X && L Y && L Z) ≡ true → Axes k b c (cond (F X) 1 (cond (F Y) 2 3))
+      on-first : (followsOn X && L Y && L Z) ≡ true → Axes k b c (cond (followsOn X) 1 (cond (followsOn Y) 2 3))
       on-first t =
-          let fx : F X ≡ true = and-left (F X) (L Y) (and-left (F X && L Y) (L Z) t) in
-          let ly : L Y ≡ true = and-right (F X) (L Y) (and-left (F X && L Y) (L Z) t) in
-          let lz : L Z ≡ true = and-right (F X && L Y) (L Z) t in
+          let fx : followsOn X ≡ true = and-first (followsOn X) (L Y) (and-first (followsOn X && L Y) (L Z) t) in
+          let ly : L Y ≡ true = and-second (followsOn X) (L Y) (and-first (followsOn X && L Y) (L Z) t) in
+          let lz : L Z ≡ true = and-second (followsOn X && L Y) (L Z) t in
           rw fx (record { on-x = F-is X fx; on-y = L-is Y ly; on-z = L-is Z lz })
 
-      on-second : (L X && F Y && L Z) ≡ true → Axes k b c (cond (F X) 1 (cond (F Y) 2 3))
+      on-second : (L X && followsOn Y && L Z) ≡ true → Axes k b c (cond (followsOn X) 1 (cond (followsOn Y) 2 3))
       on-second t =
-          let lx : L X ≡ true = and-left (L X) (F Y) (and-left (L X && F Y) (L Z) t) in
-          let fy : F Y ≡ true = and-right (L X) (F Y) (and-left (L X && F Y) (L Z) t) in
-          let lz : L Z ≡ true = and-right (L X && F Y) (L Z) t in
+          let lx : L X ≡ true = and-first (L X) (followsOn Y) (and-first (L X && followsOn Y) (L Z) t) in
+          let fy : followsOn Y ≡ true = and-second (L X) (followsOn Y) (and-first (L X && followsOn Y) (L Z) t) in
+          let lz : L Z ≡ true = and-second (L X && followsOn Y) (L Z) t in
           rw (not-both X lx, fy) (record { on-x = L-is X lx; on-y = F-is Y fy; on-z = L-is Z lz })
 
-      on-third : (L X && L Y && F Z) ≡ true → Axes k b c (cond (F X) 1 (cond (F Y) 2 3))
+      on-third : (L X && L Y && followsOn Z) ≡ true → Axes k b c (cond (followsOn X) 1 (cond (followsOn Y) 2 3))
       on-third t =
-          let lx : L X ≡ true = and-left (L X) (L Y) (and-left (L X && L Y) (F Z) t) in
-          let ly : L Y ≡ true = and-right (L X) (L Y) (and-left (L X && L Y) (F Z) t) in
-          let fz : F Z ≡ true = and-right (L X && L Y) (F Z) t in
+          let lx : L X ≡ true = and-first (L X) (L Y) (and-first (L X && L Y) (followsOn Z) t) in
+          let ly : L Y ≡ true = and-second (L X) (L Y) (and-first (L X && L Y) (followsOn Z) t) in
+          let fz : followsOn Z ≡ true = and-second (L X && L Y) (followsOn Z) t in
           rw (not-both X lx, not-both Y ly) (record { on-x = L-is X lx; on-y = L-is Y ly; on-z = F-is Z fz })
 
-      go : (((F X && L Y && L Z) || (L X && F Y && L Z)) ≡ true) ⊎ ((L X && L Y && F Z) ≡ true) → Axes k b c (cond (F X) 1 (cond (F Y) 2 3))
-      go (inl t) = inner (or-cases (F X && L Y && L Z) (L X && F Y && L Z) t)
+      go : (((followsOn X && L Y && L Z) || (L X && followsOn Y && L Z)) ≡ true) ⊎ ((L X && L Y && followsOn Z) ≡ true) → Axes k b c (cond (followsOn X) 1 (cond (followsOn Y) 2 3))
+      go (inl t) = inner (or-cases (followsOn X && L Y && L Z) (L X && followsOn Y && L Z) t)
         where
-          inner : ((F X && L Y && L Z) ≡ true) ⊎ ((L X && F Y && L Z) ≡ true) → Axes k b c (cond (F X) 1 (cond (F Y) 2 3))
+          inner : ((followsOn X && L Y && L Z) ≡ true) ⊎ ((L X && followsOn Y && L Z) ≡ true) → Axes k b c (cond (followsOn X) 1 (cond (followsOn Y) 2 3))
           inner (inl u) = on-first u
           inner (inr u) = on-second u
       go (inr t) = on-third t

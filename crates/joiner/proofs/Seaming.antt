@@ -35,9 +35,9 @@ module _ (o : Told) (own : ℕ → List ℕ) (good : goodCut (o .cutting) ≡ tr
   abbrev st : ℕ
   st = seamStep (o .cutting) (edge b c)
 
-  none : (κ : Kind) → adds s call κ ≡ 0
+  none-added : (κ : Kind) → adds s call κ ≡ 0
   unfolding adds
-  none κ = refl
+  none-added κ = refl
 
   none-in-book : (κ : Kind) → adds s call κ ≡ bookAdds B call κ
   unfolding adds bookAdds
@@ -69,8 +69,8 @@ module _ (o : Told) (own : ℕ → List ℕ) (good : goodCut (o .cutting) ≡ tr
         same-faces = D .found Face;
         same-curves = D .found Curve;
         same-adds = none-in-book;
-        no-faces = none Face;
-        no-curves = none Curve;
+        no-faces = none-added Face;
+        no-curves = none-added Curve;
         step-in = subst (λ (q : Stage). List·Memᴰ st (stepsOf (o .cutting) q)) (sym at-stage) (seam-in (o .cutting) b c z);
         step-low = step-low′;
         pass = room;
@@ -114,7 +114,7 @@ module _ (o : Told) (own : ℕ → List ℕ) (good : goodCut (o .cutting) ≡ tr
       go (inr n) = inl (record { b = e .b; c = e .c; joint = e .joint; ticked-in = n; at = was })
 
   tally : (κ : Kind) → t .job .sofar κ ≡ s .job .sofar κ
-  tally κ = same-sofar o own good B s I every t call st L κ (none κ)
+  tally κ = same-sofar o own good B s I every t call st L κ (none-added κ)
 
   faces₀ : Connected (t .tables .links Face) (t .job .sofar Face) (EdgeDone o own B₀ t Face)
   faces₀ =

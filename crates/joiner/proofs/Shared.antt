@@ -13,7 +13,7 @@ use Rattle.closure.specs.Joined.{Edge, edge}
 use Rattle.cells.specs.Grid.{cells}
 use Rattle.cutting.specs.Cutting.{Cutting, blockExtents, blocks, embed, seam}
 use Rattle.joiner.specs.Stages.{products, shared}
-use Rattle.lists.proofs.Cases.{and-left, and-right}
+use Rattle.lists.proofs.Cases.{and-first, and-second}
 use Rattle.lists.proofs.Lists.{consecutive-in, consecutive-out, keep-in, keep-out}
 
 pub products-in : (xs ys : List ℕ) {x y : ℕ} → List·Memᴰ x xs → List·Memᴰ y ys → List·Memᴰ (edge x y) (products xs ys)
@@ -61,5 +61,5 @@ shared-out k b c {d} m =
 pub seam-listed : (k : Cutting) (b c : ℕ) → seam k b c ≡ true → (b < blocks k) × (c < blocks k)
 unfolding seam
 seam-listed k b c z =
-    let w = and-left (ltb b (blocks k) && ltb c (blocks k)) _ z in
-    (ltb-true _ _ (and-left (ltb b (blocks k)) (ltb c (blocks k)) w), ltb-true _ _ (and-right (ltb b (blocks k)) (ltb c (blocks k)) w))
+    let w = and-first (ltb b (blocks k) && ltb c (blocks k)) _ z in
+    (ltb-true _ _ (and-first (ltb b (blocks k)) (ltb c (blocks k)) w), ltb-true _ _ (and-second (ltb b (blocks k)) (ltb c (blocks k)) w))

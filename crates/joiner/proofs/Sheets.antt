@@ -15,10 +15,10 @@ use Rattle.cells.specs.Grid.{cells, order, sides, voxel, voxelCell}
 use Rattle.labels.specs.Components.{componentRow, firstCell, largest}
 use Rattle.labels.specs.Number.{labels, numbered}
 use Rattle.cutting.specs.Cutting.{Cutting, blockCodes, blockExtents, blocks, embed, goodCut}
-use Rattle.cutting.specs.Nodes.{part, whole}
+use Rattle.cutting.specs.Nodes.{part, uncutMap}
 use Rattle.joiner.specs.Book.{Book, begun, uncut}
 use Rattle.joiner.specs.Entries.{allTrays, lookedUp}
-use Rattle.joiner.specs.Job.{Kind, State, Told, fits, orderOf, stageNumber, width}
+use Rattle.joiner.specs.Job.{Kind, State, Told, lengthsFit, orderOf, stageNumber, width}
 use Rattle.joiner.specs.Sheets.{ClosedJob, Sheet}
 use Rattle.joiner.specs.Stages.{codeIn, codesOf, hasCell, local, lowestBlock}
 use Rattle.joiner.specs.Statement.{Labelling, Uncut}
@@ -50,7 +50,7 @@ codes-back k good codes own many h =
     in-block : (t : ℕ) → codeIn k own (place (sides (k .extents)) t) ≡ getD (own (lowestBlock k (place (sides (k .extents)) t))) (local k (lowestBlock k (place (sides (k .extents)) t)) (place (sides (k .extents)) t)) 0
     in-block t = unfold codeIn in refl
 
-    code-here : (t : ℕ) → t < cells (k .extents) → order (k .extents) t ≡ 3 → codeIn k own (place (sides (k .extents)) t) ≡ getD (whole k codes) t 0
+    code-here : (t : ℕ) → t < cells (k .extents) → order (k .extents) t ≡ 3 → codeIn k own (place (sides (k .extents)) t) ≡ getD (uncutMap k codes) t 0
     code-here t ht ot =
         let c : Triple = place (sides (k .extents)) t in
         let b : ℕ = lowestBlock k c in
@@ -58,10 +58,10 @@ codes-back k good codes own many h =
         let g = has-held k good b (w .0) c (w .1) in
         let is : embed k b (local k b c) ≡ t = g .1 ∙ index-place (sides (k .extents)) t in
         let o : order (blockExtents k b) (local k b c) ≡ 3 = sym (embed-order k good b (w .0) (local k b c) (g .0)) ∙ ap (order (k .extents)) is ∙ ot in
-        in-block t ∙ ap (λ (l : List ℕ). getD l (local k b c) 0) (h b (w .0)) ∙ voxel-same k good codes b (w .0) (local k b c) (g .0) o ∙ ap (λ (x : ℕ). getD (whole k codes) x 0) is
+        in-block t ∙ ap (λ (l : List ℕ). getD l (local k b c) 0) (h b (w .0)) ∙ voxel-same k good codes b (w .0) (local k b c) (g .0) o ∙ ap (λ (x : ℕ). getD (uncutMap k codes) x 0) is
 
 module _ (e : Triple) (codes : List ℕ) (s : State) (J : ClosedJob e codes s) where
-  abbrev passed-open : (offSize 1024 (J .told .cutting .extents) ≡ false) × (goodCut (J .told .cutting) ≡ true) × (fits (allTrays (J .told) (J .lent)) ≡ true)
+  abbrev passed-open : (offSize 1024 (J .told .cutting .extents) ≡ false) × (goodCut (J .told .cutting) ≡ true) × (lengthsFit (allTrays (J .told) (J .lent)) ≡ true)
   passed-open = opened-passed (J .told) (J .lent) (J .opened .accepted)
 
   -- each map is one that a labelling left

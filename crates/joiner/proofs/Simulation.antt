@@ -21,12 +21,12 @@ use Rattle.cutting.specs.Cutting.{Cutting, blockExtents, blocks, goodCut}
 use Rattle.joiner.specs.Book.{Book, accepts, bookAdds, bookAfter, bookAnswer, bookEarly, bookRefusal, bringsOwn, entered, labelled, turned, uncut, uncutCount}
 use Rattle.joiner.specs.Calls.{Answer, Call, answer, cross, enrol, join, look, placed, point, reading, repeated, stageOf}
 use Rattle.joiner.specs.Declines.{adds, lookStands, pointCells, refusal}
-use Rattle.joiner.specs.Entries.{CrossingDone, Done, EnrolDone, KeptFound, KeptNumbers, NumberedKind, PointDone, SeamDone, Step, lookedUp}
+use Rattle.joiner.specs.Entries.{CrossingDone, Done, EnrolDone, KeptFound, KeptNumbers, NumberedKind, PointDone, SeamDone, CallStep, lookedUp}
 use Rattle.joiner.specs.Job.{Closed, Crossing, Curve, Enrol, Face, Kind, Point, Points, Seam, Stage, State, Told, countOf, firstAt, orderOf, stageNumber, ticked, width}
 use Rattle.joiner.specs.Sheets.{lastState}
 use Rattle.joiner.specs.Stages.{codesOf, crossingStep, enrolStep, finished, hasCell, local, nextAfter, nextStage, pointStep, seamStep, seams, stepsOf}
 use Rattle.joiner.specs.Statement.{Agrees, AllDone, Brings, Entry, Fair, Labelling, Measured, Run, Uncut}
-use Rattle.lists.proofs.Cases.{and-both, and-left, and-right, by-test, picked}
+use Rattle.lists.proofs.Cases.{and-both, and-first, and-second, by-test, picked}
 use Rattle.lists.proofs.Lists.{consecutive-in}
 use Rattle.lists.proofs.Tests.{is-in}
 use Rattle.cells.proofs.RowLaws.{row-same}
@@ -164,7 +164,7 @@ module _ (o : Told) (own : ℕ → List ℕ) (ext : offSize 1024 (o .cutting .ex
         and-both (sameRow m (B .maps b)) (sameRow n (B .maps c)) (maps-at b (l .0) h m (e .0)) (maps-at c (l .1) h n (e .1))
     brings (cross b m) n q p e = maps-at b (ltb-true _ _ p) (omega (arith, q, numbers-of .2)) m e
     brings (point b m) n q p e = maps-at b (ltb-true _ _ p) (omega (arith, q, numbers-of .3)) m e
-    brings (look b m c) n q p e = maps-at b (ltb-true _ _ (and-left (ltb b (blocks (o .cutting))) (hasCell (o .cutting) b c) p)) (omega (arith, q, numbers-of .4)) m e
+    brings (look b m c) n q p e = maps-at b (ltb-true _ _ (and-first (ltb b (blocks (o .cutting))) (hasCell (o .cutting) b c) p)) (omega (arith, q, numbers-of .4)) m e
     brings (reading κ n) k q p e = refl
 
     -- the refusal of a call with the blocks' maps
@@ -369,13 +369,13 @@ module _ (o : Told) (own : ℕ → List ℕ) (ext : offSize 1024 (o .cutting .ex
         let q : stageNumber (B .stage) ≡ 4 = ap stageNumber (book-stage (look b m c) r) ∙ numbers-of .4 in
         let p = placed-at (look b m c) r in (
           D .0 ∙ ap (λ (x : List ℕ). answer 0 (lookedUp s b x c) []) e
-              ∙ ap (λ (v : ℕ). answer 0 v []) (cell-read o own good lab B s I (omega arith) (finals-at B s S q) b c (ltb-true _ _ (and-left (ltb b (blocks (o .cutting))) (hasCell (o .cutting) b c) p)) (and-right (ltb b (blocks (o .cutting))) (hasCell (o .cutting) b c) p)),
+              ∙ ap (λ (v : ℕ). answer 0 v []) (cell-read o own good lab B s I (omega arith) (finals-at B s S q) b c (ltb-true _ _ (and-first (ltb b (blocks (o .cutting))) (hasCell (o .cutting) b c) p)) (and-second (ltb b (blocks (o .cutting))) (hasCell (o .cutting) b c) p)),
           subst (Sim B) (sym (D .1)) S,
         )
     accepted (reading κ n) a t r D e =
         let q : stageNumber (B .stage) ≡ 4 = ap stageNumber (book-stage (reading κ n) r) ∙ numbers-of .4 in
         let p = placed-at (reading κ n) r in (
-          D .0 ∙ ap (λ (l : List ℕ). answer 0 0 l) (row-read o own good lab B s I (omega arith) (finals-at B s S q) κ n (ltb-true _ _ (and-left (ltb 0 n) (leb n (s .job .numbered κ)) p)) (leb-true _ _ (and-right (ltb 0 n) (leb n (s .job .numbered κ)) p))),
+          D .0 ∙ ap (λ (l : List ℕ). answer 0 0 l) (row-read o own good lab B s I (omega arith) (finals-at B s S q) κ n (ltb-true _ _ (and-first (ltb 0 n) (leb n (s .job .numbered κ)) p)) (leb-true _ _ (and-second (ltb 0 n) (leb n (s .job .numbered κ)) p))),
           subst (Sim B) (sym (D .1)) S,
         )
 
@@ -385,7 +385,7 @@ module _ (o : Told) (own : ℕ → List ℕ) (ext : offSize 1024 (o .cutting .ex
       pub agrees : Agrees own B e
       pub after : Sim (turned B (e .call)) (e .after)
 
-    module _ (e : Entry) (P : Step s (e .call) (e .answer) (e .after)) (fair : e .answer .refusal ≡ 0 → Brings own (e .call)) where
+    module _ (e : Entry) (P : CallStep s (e .call) (e .answer) (e .after)) (fair : e .answer .refusal ≡ 0 → Brings own (e .call)) where
       -- what is accepted is what the book accepts
       taken : refusal s (e .call) ≡ 0 → accepts B (e .call) ≡ true
       unfolding accepts
@@ -395,7 +395,7 @@ module _ (o : Told) (own : ℕ → List ℕ) (ext : offSize 1024 (o .cutting .ex
 
       taken-back : accepts B (e .call) ≡ true → refusal s (e .call) ≡ 0
       unfolding accepts
-      taken-back t = own-refused (e .call) (and-right (eqb (bookRefusal B (e .call)) 0) (bringsOwn B (e .call)) t) ∙ eqb-true _ _ (and-left (eqb (bookRefusal B (e .call)) 0) (bringsOwn B (e .call)) t)
+      taken-back t = own-refused (e .call) (and-second (eqb (bookRefusal B (e .call)) 0) (bringsOwn B (e .call)) t) ∙ eqb-true _ _ (and-first (eqb (bookRefusal B (e .call)) 0) (bringsOwn B (e .call)) t)
 
       turned-yes : accepts B (e .call) ≡ true → turned B (e .call) ≡ bookAfter B (e .call)
       unfolding turned
@@ -413,8 +413,8 @@ module _ (o : Told) (own : ℕ → List ℕ) (ext : offSize 1024 (o .cutting .ex
             (λ h. J .stage ∙ w .1 (subst (λ (z : Told). (x : Stage) (i : ℕ) → List·Memᴰ i (stepsOf (z .cutting) x) → List·Memᴰ i (C .done)) (J .btold) h)),
           )
 
-      both : Sim (turned B (e .call)) (e .after) → (e .answer .refusal ≡ 0 → e .answer ≡ bookAnswer B (e .call)) → OneCall e
-      both T a =
+      both-agree : Sim (turned B (e .call)) (e .after) → (e .answer .refusal ≡ 0 → e .answer ≡ bookAnswer B (e .call)) → OneCall e
+      both-agree T a =
           record {
             agrees =
                 record {
@@ -441,12 +441,12 @@ module _ (o : Told) (own : ℕ → List ℕ) (ext : offSize 1024 (o .cutting .ex
           yes r =
               let z : e .answer .refusal ≡ 0 = P .told ∙ r in
               let w = accepted (e .call) (e .answer) (e .after) r (P .accepted r) (fair z) in
-              both (subst (λ (X : Book). Sim X (e .after)) (sym (turned-yes (taken r))) (w .1)) (λ q. w .0)
+              both-agree (subst (λ (X : Book). Sim X (e .after)) (sym (turned-yes (taken r))) (w .1)) (λ q. w .0)
 
           no : refusal s (e .call) ≢ 0 → OneCall e
           no n =
               let t : accepts B (e .call) ≡ false = by-test (accepts B (e .call)) (λ t. absurd (n (taken-back t))) (λ t. t) in
-              both (subst (λ (X : Book). Sim X (e .after)) (sym (turned-no t)) (subst (Sim B) (sym (P .declined n .1)) S)) (λ q. absurd (n (sym (P .told) ∙ q)))
+              both-agree (subst (λ (X : Book). Sim X (e .after)) (sym (turned-no t)) (subst (Sim B) (sym (P .declined n .1)) S)) (λ q. absurd (n (sym (P .told) ∙ q)))
 
   -- ---- the list
 

@@ -11,8 +11,8 @@ use Rattle.cutting.specs.Cutting.{blocks}
 use Rattle.joiner.specs.Calls.{Call, cross, enrol, join, look, point, reading}
 use Rattle.joiner.specs.Declines.{lentTo}
 use Rattle.joiner.specs.Entries.{allTrays}
-use Rattle.joiner.specs.Job.{Curve, Face, Kind, Point, Tables, Told, Tray, blockTrays, firstTrays, fits, foundTrays, kindTrays, linkTrays, listedTrays, numberTrays, tray, width}
-use Rattle.lists.proofs.Cases.{and-both, and-left, and-right}
+use Rattle.joiner.specs.Job.{Curve, Face, Kind, Point, Tables, Told, Tray, blockTrays, firstTrays, lengthsFit, foundTrays, kindTrays, linkTrays, listedTrays, numberTrays, tray, width}
+use Rattle.lists.proofs.Cases.{and-both, and-first, and-second}
 
 pub record Sizes (o : Told) (t : Tables) : Type 0 where
   pub ticks-long : length (t .ticks) ≡ 6 * blocks (o .cutting)
@@ -25,67 +25,67 @@ pub record Sizes (o : Told) (t : Tables) : Type 0 where
   pub firsts-long : (κ : Kind) → length (t .firsts κ) ≡ o .entries κ
   pub listed-long : (κ : Kind) → length (t .listed κ) ≡ width κ * o .entries κ
 
-fits-both : (xs ys : List Tray) → fits xs ≡ true → fits ys ≡ true → fits (xs ++ ys) ≡ true
-unfolding fits
+fits-both : (xs ys : List Tray) → lengthsFit xs ≡ true → lengthsFit ys ≡ true → lengthsFit (xs ++ ys) ≡ true
+unfolding lengthsFit
 fits-both [] ys a b = b
 fits-both (x ∷ xs) ys a b =
-    and-both (eqb (x .has) (x .states)) (fits (xs ++ ys)) (and-left (eqb (x .has) (x .states)) (fits xs) a) (fits-both xs ys (and-right (eqb (x .has) (x .states)) (fits xs) a) b)
+    and-both (eqb (x .has) (x .states)) (lengthsFit (xs ++ ys)) (and-first (eqb (x .has) (x .states)) (lengthsFit xs) a) (fits-both xs ys (and-second (eqb (x .has) (x .states)) (lengthsFit xs) a) b)
 
-fits-parts : (xs ys : List Tray) → fits (xs ++ ys) ≡ true → (fits xs ≡ true) × (fits ys ≡ true)
-unfolding fits
+fits-parts : (xs ys : List Tray) → lengthsFit (xs ++ ys) ≡ true → (lengthsFit xs ≡ true) × (lengthsFit ys ≡ true)
+unfolding lengthsFit
 fits-parts [] ys a = (refl, a)
 fits-parts (x ∷ xs) ys a =
-    let r = fits-parts xs ys (and-right (eqb (x .has) (x .states)) (fits (xs ++ ys)) a) in
-    (and-both (eqb (x .has) (x .states)) (fits xs) (and-left (eqb (x .has) (x .states)) (fits (xs ++ ys)) a) (r .0), r .1)
+    let r = fits-parts xs ys (and-second (eqb (x .has) (x .states)) (lengthsFit (xs ++ ys)) a) in
+    (and-both (eqb (x .has) (x .states)) (lengthsFit xs) (and-first (eqb (x .has) (x .states)) (lengthsFit (xs ++ ys)) a) (r .0), r .1)
 
-one-fits : (n m : ℕ) → n ≡ m → fits (tray n m ∷ []) ≡ true
-unfolding fits
+one-fits : (n m : ℕ) → n ≡ m → lengthsFit (tray n m ∷ []) ≡ true
+unfolding lengthsFit
 one-fits n m e = rw (eq-eqb n m e) refl
 
-two-fit : (n m k l : ℕ) → n ≡ m → k ≡ l → fits (tray n m ∷ tray k l ∷ []) ≡ true
-unfolding fits
+two-fit : (n m k l : ℕ) → n ≡ m → k ≡ l → lengthsFit (tray n m ∷ tray k l ∷ []) ≡ true
+unfolding lengthsFit
 two-fit n m k l e f = rw (eq-eqb n m e, eq-eqb k l f) refl
 
-fits-one : (n m : ℕ) → fits (tray n m ∷ []) ≡ true → n ≡ m
-unfolding fits
-fits-one n m e = eqb-true n m (and-left (eqb n m) true e)
+fits-one : (n m : ℕ) → lengthsFit (tray n m ∷ []) ≡ true → n ≡ m
+unfolding lengthsFit
+fits-one n m e = eqb-true n m (and-first (eqb n m) true e)
 
-fits-two : (n m k l : ℕ) → fits (tray n m ∷ tray k l ∷ []) ≡ true → (n ≡ m) × (k ≡ l)
-unfolding fits
-fits-two n m k l e = (eqb-true n m (and-left (eqb n m) (eqb k l && true) e), eqb-true k l (and-left (eqb k l) true (and-right (eqb n m) (eqb k l && true) e)))
+fits-two : (n m k l : ℕ) → lengthsFit (tray n m ∷ tray k l ∷ []) ≡ true → (n ≡ m) × (k ≡ l)
+unfolding lengthsFit
+fits-two n m k l e = (eqb-true n m (and-first (eqb n m) (eqb k l && true) e), eqb-true k l (and-first (eqb k l) true (and-second (eqb n m) (eqb k l && true) e)))
 
 module _ (o : Told) (t : Tables) where
   -- each table of its stated length: all that a call is lent fit
   module _ (S : Sizes o t) where
-    blocks-fit : fits (blockTrays o t) ≡ true
+    blocks-fit : lengthsFit (blockTrays o t) ≡ true
     unfolding blockTrays
     blocks-fit = two-fit _ _ _ _ (S .ticks-long) (S .blocks-long)
 
-    links-fit : fits (linkTrays o t) ≡ true
+    links-fit : lengthsFit (linkTrays o t) ≡ true
     unfolding linkTrays
     links-fit = two-fit _ _ _ _ (S .face-links) (S .curve-links)
 
-    found-fit : (κ : Kind) → fits (foundTrays o t κ) ≡ true
+    found-fit : (κ : Kind) → lengthsFit (foundTrays o t κ) ≡ true
     unfolding foundTrays
     found-fit κ = two-fit _ _ _ _ (S .keys-long κ) (S .rows-long κ)
 
-    numbers-fit : (κ : Kind) → fits (numberTrays o t κ) ≡ true
+    numbers-fit : (κ : Kind) → lengthsFit (numberTrays o t κ) ≡ true
     unfolding numberTrays
     numbers-fit κ = one-fits _ _ (S .numbers-long κ)
 
-    firsts-fit : (κ : Kind) → fits (firstTrays o t κ) ≡ true
+    firsts-fit : (κ : Kind) → lengthsFit (firstTrays o t κ) ≡ true
     unfolding firstTrays
     firsts-fit κ = one-fits _ _ (S .firsts-long κ)
 
-    listed-fit : (κ : Kind) → fits (listedTrays o t κ) ≡ true
+    listed-fit : (κ : Kind) → lengthsFit (listedTrays o t κ) ≡ true
     unfolding listedTrays
     listed-fit κ = one-fits _ _ (S .listed-long κ)
 
-    kind-fit : (κ : Kind) → fits (kindTrays o t κ) ≡ true
+    kind-fit : (κ : Kind) → lengthsFit (kindTrays o t κ) ≡ true
     unfolding kindTrays
     kind-fit κ = fits-both _ _ (fits-both _ _ (fits-both _ _ (found-fit κ) (numbers-fit κ)) (firsts-fit κ)) (listed-fit κ)
 
-    pub lent-fit : (c : Call) → fits (lentTo o t c) ≡ true
+    pub lent-fit : (c : Call) → lengthsFit (lentTo o t c) ≡ true
     lent-fit (enrol b m) = fits-both _ _ (fits-both _ _ (fits-both _ _ blocks-fit links-fit) (found-fit Face)) (found-fit Curve)
     lent-fit (join b c m n) = fits-both _ _ blocks-fit links-fit
     lent-fit (cross b m) = fits-both _ _ (fits-both _ _ (fits-both _ _ blocks-fit links-fit) (kind-fit Face)) (kind-fit Curve)
@@ -101,7 +101,7 @@ module _ (o : Told) (t : Tables) where
     firsts : length (t .firsts κ) ≡ o .entries κ
     listed : length (t .listed κ) ≡ width κ * o .entries κ
 
-  kind-sizes : (κ : Kind) → fits (kindTrays o t κ) ≡ true → KindSizes κ
+  kind-sizes : (κ : Kind) → lengthsFit (kindTrays o t κ) ≡ true → KindSizes κ
   unfolding kindTrays foundTrays numberTrays firstTrays listedTrays
   kind-sizes κ e =
       let a = fits-parts (foundTrays o t κ ++ numberTrays o t κ ++ firstTrays o t κ) (listedTrays o t κ) e in
@@ -110,7 +110,7 @@ module _ (o : Told) (t : Tables) where
       let d = fits-two _ _ _ _ (c .0) in
       record { keys = d .0; rows = d .1; numbers = fits-one _ _ (c .1); firsts = fits-one _ _ (b .1); listed = fits-one _ _ (a .1) }
 
-  pub sizes-of : fits (allTrays o t) ≡ true → Sizes o t
+  pub sizes-of : lengthsFit (allTrays o t) ≡ true → Sizes o t
   unfolding allTrays
   sizes-of e =
       let a = fits-parts (blockTrays o t ++ linkTrays o t ++ kindTrays o t Face ++ kindTrays o t Curve) (kindTrays o t Point) e in
@@ -119,7 +119,7 @@ module _ (o : Told) (t : Tables) where
       let d = fits-parts (blockTrays o t) (linkTrays o t) (c .0) in
       from (d .0) (d .1) (elim [ Face ↦ kind-sizes Face (c .1) | Curve ↦ kind-sizes Curve (b .1) | Point ↦ kind-sizes Point (a .1) ])
     where
-      from : fits (blockTrays o t) ≡ true → fits (linkTrays o t) ≡ true → ((κ : Kind) → KindSizes κ) → Sizes o t
+      from : lengthsFit (blockTrays o t) ≡ true → lengthsFit (linkTrays o t) ≡ true → ((κ : Kind) → KindSizes κ) → Sizes o t
       from b l k =
           let p : (length (t .ticks) ≡ 6 * blocks (o .cutting)) × (length (t .blocks) ≡ 5 * blocks (o .cutting)) = (unfold blockTrays in fits-two _ _ _ _ b) in
           let q : (length (t .links Face) ≡ o .entries Face) × (length (t .links Curve) ≡ o .entries Curve) = (unfold linkTrays in fits-two _ _ _ _ l) in

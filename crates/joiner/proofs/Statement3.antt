@@ -15,7 +15,7 @@ use Rattle.labels.specs.Number.{numbered}
 use Rattle.cutting.specs.Cutting.{blockExtents, blocks, goodCut}
 use Rattle.joiner.specs.Book.{begun}
 use Rattle.joiner.specs.Entries.{Opened, allTrays, openDeclines, openRefusal}
-use Rattle.joiner.specs.Job.{Curve, Face, Kind, Point, State, Tables, Told, fits, stageNumber, ticked}
+use Rattle.joiner.specs.Job.{Curve, Face, Kind, Point, State, Tables, Told, lengthsFit, stageNumber, ticked}
 use Rattle.joiner.specs.Statement.{Labelling, Statement3}
 use Rattle.refusals.proofs.RefusalLaws.{given-none}
 use Rattle.joiner.proofs.Inv.{Inv, Kept}
@@ -34,7 +34,7 @@ zeros-at (suc n) zero = refl
 zeros-at (suc n) (suc i) = zeros-at n i
 
 -- what an accepted opening passed
-pub opened-passed : (o : Told) (lent : Tables) → openRefusal o lent ≡ 0 → (offSize 1024 (o .cutting .extents) ≡ false) × (goodCut (o .cutting) ≡ true) × (fits (allTrays o lent) ≡ true)
+pub opened-passed : (o : Told) (lent : Tables) → openRefusal o lent ≡ 0 → (offSize 1024 (o .cutting .extents) ≡ false) × (goodCut (o .cutting) ≡ true) × (lengthsFit (allTrays o lent) ≡ true)
 unfolding openRefusal openDeclines standsIn number
 opened-passed o lent r =
     let n : (z : Refusal) → standsIn (openDeclines o lent) z ≡ false = given-none (standsIn (openDeclines o lent)) .0 r in
@@ -58,9 +58,9 @@ module _ (o : Told) (lent : Tables) (s : State) (own : ℕ → List ℕ) (P : Op
         listed-long = λ κ. ap length (C .listed κ) ∙ z .listed-long κ;
       }
 
-  empty : (κ : Kind) → Kept o own (begun o) s κ
+  kept-empty : (κ : Kind) → Kept o own (begun o) s κ
   unfolding begun
-  empty κ =
+  kept-empty κ =
       record {
         from-in = λ b hb i. absurd (List·Memᴰ·not-nil i);
         cover = λ x h. absurd (omega (arith, P .fresh .sofar κ));
@@ -84,8 +84,8 @@ module _ (o : Told) (lent : Tables) (s : State) (own : ℕ → List ℕ) (P : Op
         progress = progress-start (o .cutting);
         maps = λ b hb i. absurd (List·Memᴰ·not-nil i);
         counts = λ κ b hb i. absurd (List·Memᴰ·not-nil i);
-        faces = empty Face;
-        curves = empty Curve;
+        faces = kept-empty Face;
+        curves = kept-empty Curve;
         layers = λ b c z m. absurd (List·Memᴰ·not-nil m);
       }
 

@@ -6,7 +6,7 @@ use Prim.Native.Nat.{ℕ, _+_}
 use lib.Dec.{eqb}
 use lib.ListN.{getD, length}
 use Rattle.lists.specs.Lists.{tabulate, keep, isIn}
-use Rattle.refusals.specs.Refusals.{wrong-stage, no-such-place, done-already, wrong-tray, layers-differ, table-full, Case, _if_, given}
+use Rattle.refusals.specs.Refusals.{wrong-stage, no-such-place, done-already, wrong-tray, layers-differ, table-full, Case, _if_, givenRefusal}
 use Rattle.closure.specs.Joined.{edge}
 use Rattle.cells.specs.Box.{Triple, volume, index}
 use Rattle.cells.specs.Codes.{blank}
@@ -72,11 +72,11 @@ bookDeclines B c =
 
 -- "The lowest case that stands refuses a call."
 unfoldable pub bookRefusal : Book → Call → ℕ
-bookRefusal B c = given (bookDeclines B c)
+bookRefusal B c = givenRefusal (bookDeclines B c)
 
 -- The lowest of 3 to 6 that stands, 0 for none.
 unfoldable pub bookEarly : Book → Call → ℕ
-bookEarly B c = given (earlyCases B c)
+bookEarly B c = givenRefusal (earlyCases B c)
 
 -- A map that a labelling of a block of e voxels leaves: that of the codes at its voxels, none of which is 0.
 unfoldable pub voxelCodes : Triple → List ℕ → List ℕ

@@ -6,15 +6,15 @@ use Prim.Native.Nat.{ℕ, _+_, _*_}
 use lib.Dec.{eqb, leb, ltb}
 use lib.ListN.{getD, length}
 use Rattle.lists.specs.Lists.{consecutive, keep, allOf}
-use Rattle.refusals.specs.Refusals.{off-size, bad-cut, wrong-stage, no-such-place, done-already, wrong-tray, stray-label, layers-differ, table-full, Case, _if_, given}
+use Rattle.refusals.specs.Refusals.{off-size, bad-cut, wrong-stage, no-such-place, done-already, wrong-tray, stray-label, layers-differ, table-full, Case, _if_, givenRefusal}
 use Rattle.union_find.specs.Links.{soundBelow, soundWays}
 use Rattle.cells.specs.Box.{Triple}
 use Rattle.cells.specs.Extents.{offSize}
-use Rattle.cells.specs.Grid.{order, up}
+use Rattle.cells.specs.Grid.{order, upperNeighbours}
 use Rattle.cells.specs.Row.{rowOf, occupied}
 use Rattle.labels.specs.Components.{ofOrder, largest}
 use Rattle.cutting.specs.Cutting.{Cutting, blockExtents, goodCut}
-use Rattle.joiner.specs.Job.{Kind, Face, Curve, Point, orderOf, Crossing, sameStage, Told, Job, Tables, State, Tray, ticked, countOf, fromOf, node, fits, blockTrays, linkTrays, foundTrays, numberTrays, firstTrays, listedTrays, kindTrays}
+use Rattle.joiner.specs.Job.{Kind, Face, Curve, Point, orderOf, Crossing, sameStage, Told, Job, Tables, State, Tray, ticked, countOf, fromOf, node, lengthsFit, blockTrays, linkTrays, foundTrays, numberTrays, firstTrays, listedTrays, kindTrays}
 use Rattle.joiner.specs.Stages.{local, crossingStep, finished}
 use Rattle.joiner.specs.Calls.{Call, enrol, join, cross, point, look, reading, stageOf, repeated, placed, mapsFit, layersDiffer, full}
 
@@ -119,7 +119,7 @@ finalOf t κ b n = cond (eqb n 0) 0 (getD (t .numbers κ) (node t κ b n) 0)
 
 -- "Point rows are worked out over the final curves."
 unfoldable pub finalRow : Cutting → Tables → ℕ → List ℕ → ℕ → List ℕ
-finalRow k t b m p = rowOf (map (λ q. finalOf t Curve b (getD m q 0)) (up (blockExtents k b) p))
+finalRow k t b m p = rowOf (map (λ q. finalOf t Curve b (getD m q 0)) (upperNeighbours (blockExtents k b) p))
 
 -- The block's point cells that are points of the volume.
 unfoldable pub pointCells : Cutting → Tables → ℕ → List ℕ → List ℕ
@@ -157,7 +157,7 @@ declines s c =
     wrong-stage if not (sameStage (s .job .stage) (stageOf c)) ∷
     no-such-place if not (placed (s .job .told .cutting) (s .job .numbered) c) ∷
     done-already if repeated (s .job .told .cutting) (ticked (s .tables)) c ∷
-    wrong-tray if not (mapsFit (s .job .told .cutting) c && fits (lentTo (s .job .told) (s .tables) c)) ∷
+    wrong-tray if not (mapsFit (s .job .told .cutting) c && lengthsFit (lentTo (s .job .told) (s .tables) c)) ∷
     stray-label if stray s c ∷
     layers-differ if layersDiffer (s .job .told .cutting) c ∷
     table-full if full (s .job .told .entries) (s .job .sofar) (adds s c) ∷
@@ -165,4 +165,4 @@ declines s c =
 
 -- The number with which a call is refused, 0 where it is accepted.
 unfoldable pub refusal : State → Call → ℕ
-refusal s c = given (declines s c)
+refusal s c = givenRefusal (declines s c)

@@ -9,16 +9,16 @@ use Prim.Native.Nat.{ℕ, zero, suc, _+_, _-_, _*_, _/_, _%_}
 use lib.Dec.{eqb, leb, ltb}
 use lib.ListN.{getD, length, set, take, drop}
 use Rattle.lists.specs.Lists.{consecutive, tabulate, keep, zeros, allOf, overlay}
-use Rattle.refusals.specs.Refusals.{off-size, bad-cut, wrong-tray, Case, _if_, given}
+use Rattle.refusals.specs.Refusals.{off-size, bad-cut, wrong-tray, Case, _if_, givenRefusal}
 use Rattle.closure.specs.Joined.{Edge, edge}
 use Rattle.union_find.specs.Links.{root, soundAt, Rooted}
 use Rattle.cells.specs.Box.{Triple, triple, index}
 use Rattle.cells.specs.Extents.{offSize}
-use Rattle.cells.specs.Grid.{sides, order, up}
-use Rattle.cells.specs.Row.{rowOf, sort, padTo}
+use Rattle.cells.specs.Grid.{sides, order, upperNeighbours}
+use Rattle.cells.specs.Row.{rowOf, sortAscending, padTo}
 use Rattle.labels.specs.Components.{ofOrder, largest, component, componentRow}
 use Rattle.cutting.specs.Cutting.{Cutting, blockExtents, embed, goodCut}
-use Rattle.joiner.specs.Job.{Kind, Face, Curve, Point, orderOf, width, Stage, Enrol, Points, Closed, Told, Job, Tables, State, ticked, node, column, keyOf, firstAt, Tray, fits, blockTrays, linkTrays, kindTrays}
+use Rattle.joiner.specs.Job.{Kind, Face, Curve, Point, orderOf, width, Stage, Enrol, Points, Closed, Told, Job, Tables, State, ticked, node, column, keyOf, firstAt, Tray, lengthsFit, blockTrays, linkTrays, kindTrays}
 use Rattle.joiner.specs.Stages.{local, shared, enrolStep, seamStep, crossingStep, pointStep, nextAfter}
 use Rattle.joiner.specs.Calls.{Call, enrol, join, cross, point, look, reading, Answer, answer}
 use Rattle.joiner.specs.Declines.{finalOf, finalRow, pointCells, adds, refusal}
@@ -31,11 +31,11 @@ allTrays o t = blockTrays o t ++ linkTrays o t ++ kindTrays o t Face ++ kindTray
 
 -- "1 off size", "2 bad cut", "6 wrong tray".
 unfoldable pub openDeclines : Told → Tables → List Case
-openDeclines o t = off-size if offSize 1024 (o .cutting .extents) ∷ bad-cut if not (goodCut (o .cutting)) ∷ wrong-tray if not (fits (allTrays o t)) ∷ []
+openDeclines o t = off-size if offSize 1024 (o .cutting .extents) ∷ bad-cut if not (goodCut (o .cutting)) ∷ wrong-tray if not (lengthsFit (allTrays o t)) ∷ []
 
 -- What is given, 0 for none.
 unfoldable pub openRefusal : Told → Tables → ℕ
-openRefusal o t = given (openDeclines o t)
+openRefusal o t = givenRefusal (openDeclines o t)
 
 -- The tables that an opening leaves: no step is ticked, and all else may hold another job's numbers.
 pub record Cleared (lent t : Tables) : Type 0 where
@@ -104,12 +104,12 @@ pub record AtSeam (k : Cutting) (t : Tables) (κ : Kind) (b c : ℕ) (m n : List
   pub y-is : y ≡ node t κ c (getD n (cell .to) 0)
 
 -- "Rows, read through the faces joined so far": a face is read as the place of its root + 1.
-unfoldable pub through : Tables → ℕ → ℕ → ℕ
-through t b n = cond (eqb n 0) 0 (suc (root (t .links Face) (node t Face b n)))
+unfoldable pub throughLinks : Tables → ℕ → ℕ → ℕ
+throughLinks t b n = cond (eqb n 0) 0 (suc (root (t .links Face) (node t Face b n)))
 
 -- The row of cell p, read so.
 unfoldable pub joinedRow : Cutting → Tables → ℕ → List ℕ → ℕ → List ℕ
-joinedRow k t b m p = rowOf (map (λ q. through t b (getD m q 0)) (up (blockExtents k b) p))
+joinedRow k t b m p = rowOf (map (λ q. throughLinks t b (getD m q 0)) (upperNeighbours (blockExtents k b) p))
 
 -- "At every point cell, active in the block or not, two active curve cells among its upper neighbours whose rows .. are equal."
 pub record AtCrossing (k : Cutting) (t : Tables) (b : ℕ) (m : List ℕ) (x y : ℕ) : Type 0 where
@@ -117,8 +117,8 @@ pub record AtCrossing (k : Cutting) (t : Tables) (b : ℕ) (m : List ℕ) (x y :
   pub p : ℕ
   pub q : ℕ
   pub cell : List·Memᴰ at (ofOrder (blockExtents k b) 0)
-  pub up-p : List·Memᴰ p (up (blockExtents k b) at)
-  pub up-q : List·Memᴰ q (up (blockExtents k b) at)
+  pub up-p : List·Memᴰ p (upperNeighbours (blockExtents k b) at)
+  pub up-q : List·Memᴰ q (upperNeighbours (blockExtents k b) at)
   pub one : getD m p 0 ≢ 0
   pub two : getD m q 0 ≢ 0
   pub rows : joinedRow k t b m p ≡ joinedRow k t b m q
@@ -245,7 +245,7 @@ finalFace t f = cond (eqb f 0) 0 (getD (t .numbers Face) (f - 1) 0)
 -- The row that the closed table gets.
 unfoldable pub rowFinal : Tables → Kind → ℕ → List ℕ
 rowFinal t Face x = rowAt t Face x
-rowFinal t Curve x = padTo 4 (sort (keep (λ n. not (eqb n 0)) (map (finalFace t) (rowAt t Curve x))))
+rowFinal t Curve x = padTo 4 (sortAscending (keep (λ n. not (eqb n 0)) (map (finalFace t) (rowAt t Curve x))))
 rowFinal t Point x = rowAt t Point x
 
 -- The tables of one kind with its n components numbered.
@@ -335,7 +335,7 @@ Done s (reading κ n) a t = (a ≡ answer 0 0 (rowTaken s κ n)) × (t ≡ s)
 
 -- One call, whatever it is handed. "A refusal returns its number, a job handed in as it was, every other field 0 or empty, and changes no
 -- lent slice and no job."
-pub record Step (s : State) (c : Call) (a : Answer) (t : State) : Type 0 where
+pub record CallStep (s : State) (c : Call) (a : Answer) (t : State) : Type 0 where
   pub told : a .refusal ≡ refusal s c
   pub declined : refusal s c ≢ 0 → (a ≡ answer (refusal s c) 0 []) × (t ≡ s)
   pub accepted : refusal s c ≡ 0 → Done s c a t

@@ -115,9 +115,9 @@ abbrev pub tray : ℕ → ℕ → Tray
 tray n m = record { has = n; states = m }
 
 -- 6 denies it: every table has its stated length.
-unfoldable pub fits : List Tray → Bool
-fits [] = true
-fits (t ∷ ts) = eqb (t .has) (t .states) && fits ts
+unfoldable pub lengthsFit : List Tray → Bool
+lengthsFit [] = true
+lengthsFit (t ∷ ts) = eqb (t .has) (t .states) && lengthsFit ts
 
 -- The tables of blocks: six ticks and five numbers for each.
 unfoldable pub blockTrays : Told → Tables → List Tray

@@ -14,7 +14,7 @@ use Rattle.cutting.specs.Cutting.{blocks, blockExtents}
 use Rattle.joiner.specs.Job.{Kind, orderOf, width, Stage, Closed, Told, Tables, State}
 use Rattle.joiner.specs.Stages.{stepsOf}
 use Rattle.joiner.specs.Calls.{Call, enrol, join, cross, point, look, reading, Answer}
-use Rattle.joiner.specs.Entries.{Opened, Step}
+use Rattle.joiner.specs.Entries.{Opened, CallStep}
 use Rattle.joiner.specs.Book.{Book, begun, uncut, bookRefusal, bookEarly, bringsOwn, accepts, turned, bookAnswer}
 
 -- m is the map that one labelling of a block of e voxels left.
@@ -33,7 +33,7 @@ pub record Entry : Type 0 where
 -- Each call got the job and its tables "as the call before it, or at first the opening, left them".
 pub data Run : State → List Entry → Type 0 where
   none : {s : State} → Run s []
-  next : {s : State} {e : Entry} {es : List Entry} → Step s (e .call) (e .answer) (e .after) → Run (e .after) es → Run s (e ∷ es)
+  next : {s : State} {e : Entry} {es : List Entry} → CallStep s (e .call) (e .answer) (e .after) → Run (e .after) es → Run s (e ∷ es)
 
 -- The call brings the map `own b` of every block b that it names.
 abbrev pub Brings : (ℕ → List ℕ) → Call → Type 0

@@ -12,17 +12,17 @@ use lib.ListN.{length, getD, drop}
 use lib.Seq.{drop-cons}
 use borrow.Author.Tests.{ne-eqb, not-true}
 use Rattle.lists.specs.Lists.{consecutive, keep}
-use Rattle.lists.proofs.Cases.{by-test, and-left, and-right}
+use Rattle.lists.proofs.Cases.{by-test, and-first, and-second}
 use Rattle.lists.proofs.Lists.{keep-append}
 use Rattle.closure.specs.Joined.{Edge, edge, joins}
 use Rattle.union_find.specs.Links.{root, Rooted}
 use Rattle.union_find.proofs.LinkLaws.{Left, rooted-refl}
 use Rattle.cells.specs.Box.{Triple}
-use Rattle.cells.specs.Grid.{sides, cells, order, up}
+use Rattle.cells.specs.Grid.{sides, cells, order, upperNeighbours}
 use Rattle.cells.specs.Row.{row, active, occupied, sameRow}
 use Rattle.cells.proofs.RowLaws.{same-row}
 use Rattle.cells.proofs.ExtentLaws.{cells-high}
-use Rattle.labels.specs.Number.{pairs, alike, edgesAt, below, edges}
+use Rattle.labels.specs.Number.{pairs, alike, edgesAt, orderBelow, edges}
 use Rattle.lines.specs.Lines.{odds, around, lineCount, lineY, lineZ, firstX}
 use Rattle.lines.proofs.LineLaws.{up-around, flank-at, cells-lines, next-line, Tests, line-start, line-next, line-end, order-tests}
 use Rattle.joining.specs.Joining.{Trays, alikeTo, alikePairs}
@@ -67,7 +67,7 @@ to-blank p r [] vs b = refl
 to-blank p r (u ∷ us) [] b = refl
 to-blank p r (u ∷ us) (v ∷ vs) b =
     by-test (occupied r && sameRow r v)
-    (λ t. absurd (false≢true (sym (b .0) ∙ ap occupied (sym (same-row r v (and-right (occupied r) (sameRow r v) t))) ∙ and-left (occupied r) (sameRow r v) t)))
+    (λ t. absurd (false≢true (sym (b .0) ∙ ap occupied (sym (same-row r v (and-second (occupied r) (sameRow r v) t))) ∙ and-first (occupied r) (sameRow r v) t)))
     (λ t. rw t (to-blank p r us vs (b .1)))
 
 pairs-blank : (us : List ℕ) (vs : List (List ℕ)) → Blank vs → alikePairs us vs ≡ []
@@ -90,12 +90,12 @@ module _ (e : Triple) (m us : List ℕ) (vs : List (List ℕ)) (blank : Blank vs
 
   -- The cells around t, joined.
   pub joined-around : {ls ms : List ℕ} {rs : List (List ℕ)} (t : ℕ) (ss : List ℕ) → odds e t ≡ ss → rs ≡ map (row e m) (around t ss) ++ vs
-      → Rooted ls ms (joins (root ls) (alikePairs (around t ss ++ us) rs)) → Rooted ls ms (joins (root ls) (keep (alike e m) (pairs (up e t))))
+      → Rooted ls ms (joins (root ls) (alikePairs (around t ss ++ us) rs)) → Rooted ls ms (joins (root ls) (keep (alike e m) (pairs (upperNeighbours e t))))
   joined-around t ss o q R = rw (up-around e t, o, ← pairs-alike (around t ss), ← q) R
 
 -- Where no cell around t is active, nothing is joined.
 pub idle-around : (e : Triple) (m : List ℕ) {ls : List ℕ} (t : ℕ) (ss : List ℕ) → odds e t ≡ ss → (rs : List (List ℕ)) → rs ≡ map (row e m) (around t ss) → Blank rs
-    → Rooted ls ls (joins (root ls) (keep (alike e m) (pairs (up e t))))
+    → Rooted ls ls (joins (root ls) (keep (alike e m) (pairs (upperNeighbours e t))))
 unfolding joins
 idle-around e m {ls} t ss o rs q b =
     let none : keep (alike e m) (pairs (around t ss)) ≡ [] =
@@ -120,11 +120,11 @@ near {e} {m} {ls} {t} trays h pre s post o =
     }
 
 -- Every entry is below n, and so is the 0 that is read past the end.
-abbrev pub Below : ℕ → List ℕ → Type 0
-Below n [] = 0 < n
-Below n (x ∷ xs) = (x < n) × Below n xs
+abbrev pub EntriesBelow : ℕ → List ℕ → Type 0
+EntriesBelow n [] = 0 < n
+EntriesBelow n (x ∷ xs) = (x < n) × EntriesBelow n xs
 
-pub getD-below : (n : ℕ) (xs : List ℕ) → Below n xs → (k : ℕ) → getD xs k 0 < n
+pub getD-below : (n : ℕ) (xs : List ℕ) → EntriesBelow n xs → (k : ℕ) → getD xs k 0 < n
 getD-below n [] b k = b
 getD-below n (x ∷ xs) b zero = b .0
 getD-below n (x ∷ xs) b (suc k) = getD-below n xs (b .1) k
@@ -132,8 +132,8 @@ getD-below n (x ∷ xs) b (suc k) = getD-below n xs (b .1) k
 -- ---- the cells of a line, and all lines
 
 -- The test for the order below j, along a line.
-below-tests : (e : Triple) (j l : ℕ) → j ≤ 2 → Tests (below e j) (l * sides e .x) (sides e .x) (4 - j) (lineY e l + lineZ e l)
-unfolding below lineY lineZ
+below-tests : (e : Triple) (j l : ℕ) → j ≤ 2 → Tests (orderBelow e j) (l * sides e .x) (sides e .x) (4 - j) (lineY e l + lineZ e l)
+unfolding orderBelow lineY lineZ
 below-tests e zero l h = record { at = λ x k. eqb·suc-zero (order e (l * sides e .x + x)) ∙ sym (ne-eqb (4 - 0) (x % 2 + (lineY e l + lineZ e l)) (λ c. omega arith)) }
 below-tests e (suc j) l h =
     let s : 4 - suc j ≡ 3 - j = omega arith in
@@ -141,15 +141,15 @@ below-tests e (suc j) l h =
 
 -- The edges between cells of order j at a line's cells from x on.
 unfoldable pub fromCell : Triple → List ℕ → ℕ → ℕ → ℕ → List Edge
-fromCell e m j l x = edgesAt e m (keep (below e j) (consecutive (l * sides e .x + x) (sides e .x - x)))
+fromCell e m j l x = edgesAt e m (keep (orderBelow e j) (consecutive (l * sides e .x + x) (sides e .x - x)))
 
 -- All of a line, the next cell of the order below, and none past the end.
 module _ (e : Triple) (m : List ℕ) (j l : ℕ) (h : j ≤ 2) where
-  pub cells-start : edgesAt e m (keep (below e j) (consecutive (l * sides e .x) (sides e .x))) ≡ fromCell e m j l (firstX (4 - j) (lineY e l + lineZ e l) (sides e .x))
+  pub cells-start : edgesAt e m (keep (orderBelow e j) (consecutive (l * sides e .x) (sides e .x))) ≡ fromCell e m j l (firstX (4 - j) (lineY e l + lineZ e l) (sides e .x))
   unfolding fromCell
   cells-start = ap (edgesAt e m) (line-start (below-tests e j l h))
 
-  pub cells-next : (x : ℕ) → x < sides e .x → 4 - j ≡ x % 2 + (lineY e l + lineZ e l) → fromCell e m j l x ≡ keep (alike e m) (pairs (up e (l * sides e .x + x))) ++ fromCell e m j l (x + 2)
+  pub cells-next : (x : ℕ) → x < sides e .x → 4 - j ≡ x % 2 + (lineY e l + lineZ e l) → fromCell e m j l x ≡ keep (alike e m) (pairs (upperNeighbours e (l * sides e .x + x))) ++ fromCell e m j l (x + 2)
   unfolding fromCell edgesAt
   cells-next x k n = ap (edgesAt e m) (line-next (below-tests e j l h) x k n)
 
@@ -160,11 +160,11 @@ module _ (e : Triple) (m : List ℕ) (j l : ℕ) (h : j ≤ 2) where
 edges-append : (e : Triple) (m ts us : List ℕ) → edgesAt e m (ts ++ us) ≡ edgesAt e m ts ++ edgesAt e m us
 unfolding edgesAt
 edges-append e m [] us = refl
-edges-append e m (t ∷ ts) us = rw (edges-append e m ts us) (sym (append-assoc (keep (alike e m) (pairs (up e t))) (edgesAt e m ts) (edgesAt e m us)))
+edges-append e m (t ∷ ts) us = rw (edges-append e m ts us) (sym (append-assoc (keep (alike e m) (pairs (upperNeighbours e t))) (edgesAt e m ts) (edgesAt e m us)))
 
 -- The edges between cells of order j at the cells from line l on.
 unfoldable pub fromLine : Triple → List ℕ → ℕ → ℕ → List Edge
-fromLine e m j l = edgesAt e m (keep (below e j) (consecutive (l * sides e .x) (cells e - l * sides e .x)))
+fromLine e m j l = edgesAt e m (keep (orderBelow e j) (consecutive (l * sides e .x) (cells e - l * sides e .x)))
 
 -- All edges, the next line's, and none past the last line.
 module _ (e : Triple) (m : List ℕ) (j : ℕ) where
@@ -175,9 +175,9 @@ module _ (e : Triple) (m : List ℕ) (j : ℕ) where
       let n : cells e - 0 ≡ cells e = omega arith in
       rw (i, n)
 
-  pub lines-next : (l : ℕ) → l < lineCount e → fromLine e m j l ≡ edgesAt e m (keep (below e j) (consecutive (l * sides e .x) (sides e .x))) ++ fromLine e m j (l + 1)
+  pub lines-next : (l : ℕ) → l < lineCount e → fromLine e m j l ≡ edgesAt e m (keep (orderBelow e j) (consecutive (l * sides e .x) (sides e .x))) ++ fromLine e m j (l + 1)
   unfolding fromLine
-  lines-next l h = rw (next-line e l h, keep-append (below e j), edges-append)
+  lines-next l h = rw (next-line e l h, keep-append (orderBelow e j), edges-append)
 
   pub lines-end : (l : ℕ) → lineCount e ≤ l → fromLine e m j l ≡ []
   unfolding fromLine edgesAt consecutive

@@ -15,9 +15,9 @@ ghost use Rattle.lists.specs.Lists.{consecutive, keep};
 ghost use Rattle.closure.specs.Joined.{joins};
 ghost use Rattle.union_find.specs.Links.{root, Rooted};
 ghost use Rattle.cells.specs.Box.{triple};
-ghost use Rattle.cells.specs.Grid.{cells, up};
+ghost use Rattle.cells.specs.Grid.{cells, upperNeighbours};
 ghost use Rattle.cells.specs.Row.{occupied};
-ghost use Rattle.labels.specs.Number.{pairs, alike, edgesAt, below, edges};
+ghost use Rattle.labels.specs.Number.{pairs, alike, edgesAt, orderBelow, edges};
 ghost use Rattle.lines.specs.Lines.{odds, lineCount, Strided};
 ghost use Rattle.joining.specs.Joining.{Trays, alikeTo, alikePairs};
 
@@ -73,7 +73,7 @@ fn join_faces(
 )
     requires { ⌜ Trays (triple nx ny nz) (now map) (now links) × (t < cells (triple nx ny nz)) × (odds (triple nx ny nz) t ≡ a ∷ b ∷ []) ⌝ }
     ensures { λ _. ⌜ Rooted (now (links .entry)) (now (links .exit))
-        (joins (root (now (links .entry))) (keep (alike (triple nx ny nz) (now (map .entry))) (pairs (up (triple nx ny nz) t)))) ⌝ }
+        (joins (root (now (links .entry))) (keep (alike (triple nx ny nz) (now (map .entry))) (pairs (upperNeighbours (triple nx ny nz) t)))) ⌝ }
 {
     let p = t - a;
     let q = t + a;
@@ -106,7 +106,7 @@ fn join_curves(
 )
     requires { ⌜ Trays (triple nx ny nz) (now map) (now links) × (t < cells (triple nx ny nz)) × (odds (triple nx ny nz) t ≡ a ∷ b ∷ c ∷ []) ⌝ }
     ensures { λ _. ⌜ Rooted (now (links .entry)) (now (links .exit))
-        (joins (root (now (links .entry))) (keep (alike (triple nx ny nz) (now (map .entry))) (pairs (up (triple nx ny nz) t)))) ⌝ }
+        (joins (root (now (links .entry))) (keep (alike (triple nx ny nz) (now (map .entry))) (pairs (upperNeighbours (triple nx ny nz) t)))) ⌝ }
 {
     let r0 = curve_row(map, nx, ny, nz, t - a, b, c);
     let r1 = curve_row(map, nx, ny, nz, t + a, b, c);
@@ -144,7 +144,7 @@ fn join_at(
 )
     requires { ⌜ Trays (triple nx ny nz) (now map) (now links) × (t < cells (triple nx ny nz)) × (1 < n) × Strided (triple nx ny nz) t n a w b ⌝ }
     ensures { λ _. ⌜ Rooted (now (links .entry)) (now (links .exit))
-        (joins (root (now (links .entry))) (keep (alike (triple nx ny nz) (now (map .entry))) (pairs (up (triple nx ny nz) t)))) ⌝ }
+        (joins (root (now (links .entry))) (keep (alike (triple nx ny nz) (now (map .entry))) (pairs (upperNeighbours (triple nx ny nz) t)))) ⌝ }
 {
     if n == 2 {
         join_faces(map, nx, ny, nz, t, a, b, links);
@@ -157,7 +157,7 @@ fn join_at(
 fn join_line(map: &[u32], nx: usize, ny: usize, nz: usize, j: usize, l: usize, links: &mut [u32])
     requires { ⌜ Trays (triple nx ny nz) (now map) (now links) × (j ≤ 2) × (l < lineCount (triple nx ny nz)) ⌝ }
     ensures { λ _. ⌜ Rooted (now (links .entry)) (now (links .exit))
-        (joins (root (now (links .entry))) (edgesAt (triple nx ny nz) (now (map .entry)) (keep (below (triple nx ny nz) j) (consecutive (l * (2 * nx - 1)) (2 * nx - 1))))) ⌝ }
+        (joins (root (now (links .entry))) (edgesAt (triple nx ny nz) (now (map .entry)) (keep (orderBelow (triple nx ny nz) j) (consecutive (l * (2 * nx - 1)) (2 * nx - 1))))) ⌝ }
 {
     let w = 2 * nx - 1;
     let h = 2 * ny - 1;

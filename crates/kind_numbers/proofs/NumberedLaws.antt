@@ -54,14 +54,14 @@ tablesOf links keys = record {
 
 -- There are no more numbers than components, so all rows have room.
 module _ (links keys numbers numbers′ firsts places : List ℕ) (n total : ℕ) (R : anyKind links keys (λ t κ. Ranked t κ n total numbers numbers′ firsts places)) where
-  one : Ranked (tablesOf links keys) Face n total numbers numbers′ firsts places
+  ranked-one : Ranked (tablesOf links keys) Face n total numbers numbers′ firsts places
   unfolding tablesOf classOf
-  one = R (tablesOf links keys) Face refl (λ x. refl)
+  ranked-one = R (tablesOf links keys) Face refl (λ x. refl)
 
   pub rows-room : (w : ℕ) {listed spare : ℕ} → spare ≡ listed → n ≤ length firsts → w * n ≤ listed → (total ≤ length places) × (w * total ≤ spare)
   rows-room w same fit room =
-      let few : total ≤ n = omega (arith, one .total, heads-most (tablesOf links keys) Face n) in
-      (omega (arith, ap length (one .places), length-overlay firsts 0 (λ i. headOf (tablesOf links keys) Face n (suc i)) total), omega (arith, times-low w few))
+      let few : total ≤ n = omega (arith, ranked-one .total, heads-most (tablesOf links keys) Face n) in
+      (omega (arith, ap length (ranked-one .places), length-overlay firsts 0 (λ i. headOf (tablesOf links keys) Face n (suc i)) total), omega (arith, times-low w few))
 
 -- ---- what the passes leave
 

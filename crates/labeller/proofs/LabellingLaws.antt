@@ -11,7 +11,7 @@ use lib.ListN.{length, getD, drop, length-replicate, drop-of-length-le}
 use lib.Seq.{drop-cons}
 use borrow.Author.Tests.{eqb-true, eq-eqb, ne-eqb, not-false}
 use Rattle.lists.specs.Lists.{tabulate, zeros}
-use Rattle.lists.proofs.Cases.{and-left, and-right}
+use Rattle.lists.proofs.Cases.{and-first, and-second}
 use Rattle.refusals.specs.Refusals.{off-size, wrong-tray, number, table, first, givenBy, listedNumbers, standsIn}
 use Rattle.refusals.proofs.RefusalLaws.{given-none}
 use Rattle.closure.specs.Joined.{Edge, joins, rep}
@@ -51,12 +51,12 @@ unfolding refusalOf wrongTray declines standsIn number
 ready-of e codes n m h =
     let none = given-none (standsIn (declines e codes n m)) .0 h in
     let a = not-false (eqb (length codes) (volume e) && (eqb n (cells e) && eqb m (cells e))) (none wrong-tray) in
-    let b = and-right (eqb (length codes) (volume e)) (eqb n (cells e) && eqb m (cells e)) a in
+    let b = and-second (eqb (length codes) (volume e)) (eqb n (cells e) && eqb m (cells e)) a in
     record {
       sized = sized-of 64 e (none off-size);
-      codes-are = eqb-true _ _ (and-left (eqb (length codes) (volume e)) (eqb n (cells e) && eqb m (cells e)) a);
-      map-is = eqb-true _ _ (and-left (eqb n (cells e)) (eqb m (cells e)) b);
-      work-is = eqb-true _ _ (and-right (eqb n (cells e)) (eqb m (cells e)) b);
+      codes-are = eqb-true _ _ (and-first (eqb (length codes) (volume e)) (eqb n (cells e) && eqb m (cells e)) a);
+      map-is = eqb-true _ _ (and-first (eqb n (cells e)) (eqb m (cells e)) b);
+      work-is = eqb-true _ _ (and-second (eqb n (cells e)) (eqb m (cells e)) b);
     }
 
 -- ---- the ways of `label`

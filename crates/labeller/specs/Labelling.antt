@@ -7,7 +7,7 @@ use Prim.Native.Nat.{ℕ}
 use lib.Dec.{eqb}
 use lib.ListN.{length}
 use Rattle.lists.specs.Lists.{zeros}
-use Rattle.refusals.specs.Refusals.{off-size, wrong-tray, blank-voxel, Case, _if_, given}
+use Rattle.refusals.specs.Refusals.{off-size, wrong-tray, blank-voxel, Case, _if_, givenRefusal}
 use Rattle.cells.specs.Box.{Triple, volume}
 use Rattle.cells.specs.Grid.{cells}
 use Rattle.cells.specs.Codes.{blank}
@@ -26,7 +26,7 @@ declines e codes map work = off-size if offSize 64 e ∷ wrong-tray if wrongTray
 
 -- The refusal of a call, 0 for none.
 unfoldable pub refusalOf : Triple → List ℕ → ℕ → ℕ → ℕ
-refusalOf e codes map work = given (declines e codes map work)
+refusalOf e codes map work = givenRefusal (declines e codes map work)
 
 -- The answer, and what the map tray and the working tray hold.
 pub record Outcome : Type 0 where

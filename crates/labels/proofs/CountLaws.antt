@@ -22,7 +22,7 @@ use Rattle.labels.proofs.LabelLaws.{Agree, numbered-own, final-agree}
 use Rattle.labels.specs.Numbering.{Numbering}
 use Rattle.labels.specs.Components.{ofOrder, largest, firstCell}
 use Rattle.labels.proofs.ComponentLaws.{of-order-in, of-order-out, Belongs, least-at, belongs-at}
-use Rattle.lists.proofs.Cases.{by-test, and-left}
+use Rattle.lists.proofs.Cases.{by-test, and-first}
 use Rattle.lists.proofs.Lists.{map-same}
 
 max-bound : (l : List ℕ) {x : ℕ} → List·Memᴰ x l → x ≤ foldr max 0 l
@@ -106,7 +106,7 @@ module _ (e : Triple) (m : List ℕ) (j : ℕ) where
       by-test (ltb 0 leaders)
       (λ t.
       let r = label-last f act (rep-leaders e m j) (cells e) (ltb-true _ _ t) in
-      let o : order e (r .0) ≡ j = eqb-true (order e (r .0)) j (and-left (eqb (order e (r .0)) j) (active e m (r .0)) (r .2)) in
+      let o : order e (r .0) ≡ j = eqb-true (order e (r .0)) j (and-first (eqb (order e (r .0)) j) (active e m (r .0)) (r .2)) in
       let b : getD (numbered e j m) (r .0) 0 ≤ largest e (numbered e j m) j = rw o at (largest-bound e (numbered e j m) (r .0) (r .1)) in
       omega (arith, numbered-own e j m (r .0) (r .1) o, r .3))
       (λ t. omega (arith, ltb-false 0 leaders t))

@@ -13,11 +13,11 @@ use borrow.Author.Tests.{eqb-true, eqb-false, eq-eqb, ne-eqb, ltb-true, ltb-fals
 use Rattle.lists.proofs.Cases.{by-test}
 use Rattle.lists.proofs.Lists.{length-tabulate, getD-tabulate, map-same}
 use Rattle.cells.specs.Box.{Triple, X, Y, Z, stride}
-use Rattle.cells.specs.Grid.{sides, cells, odd, order, along, up, voxel}
+use Rattle.cells.specs.Grid.{sides, cells, parity, order, along, upperNeighbours, voxel}
 use Rattle.cells.specs.Row.{rowOf, occupied, row, active}
 use Rattle.labels.specs.Number.{number, numberedAt, numbered, codeAt, mapDown, labels}
 use Rattle.labels.specs.Numbering.{Joined, here, step, Numbering}
-use Rattle.cells.proofs.GridLaws.{Upper, upper, order-most}
+use Rattle.cells.proofs.GridLaws.{Upper, upper-neighbour, order-most}
 use Rattle.labels.proofs.NumberLaws.{Cell, number-inactive, number-shared, number-positive, number-earlier}
 
 -- Two maps that agree on the cells of order i and above.
@@ -28,7 +28,7 @@ Agree e i m n = (p : ℕ) → p < cells e → i ≤ order e p → getD m p 0 ≡
 pub row-agree : (e : Triple) (i : ℕ) (m n : List ℕ) → Agree e i m n → (p : ℕ) → p < cells e → i ≤ suc (order e p) → row e m p ≡ row e n p
 unfolding row
 row-agree e i m n a p h l =
-    ap rowOf (map-same (λ q. getD m q 0) (λ q. getD n q 0) (up e p) (λ q k. let u : Upper e p q = upper e p h k in a q (u .within) (omega (arith, u .higher))))
+    ap rowOf (map-same (λ q. getD m q 0) (λ q. getD n q 0) (upperNeighbours e p) (λ q k. let u : Upper e p q = upper-neighbour e p h k in a q (u .within) (omega (arith, u .higher))))
 
 pub active-agree : (e : Triple) (i : ℕ) (m n : List ℕ) → Agree e i m n → (p : ℕ) → p < cells e → i ≤ suc (order e p) → active e m p ≡ active e n p
 unfolding active
@@ -37,8 +37,8 @@ active-agree e i m n a p h l = ap occupied (row-agree e i m n a p h l)
 joined-agree : (e : Triple) (m n : List ℕ) {p q : ℕ} → Agree e (suc (order e p)) m n → Joined e m p q → Joined e n p q
 joined-agree e m n a here = here
 joined-agree e m n {p} a (step {q = q} k t s r) =
-    let u : Upper e (k .at) p = upper e (k .at) (k .inside) (k .one) in
-    let v : Upper e (k .at) q = upper e (k .at) (k .inside) (k .two) in
+    let u : Upper e (k .at) p = upper-neighbour e (k .at) (k .inside) (k .one) in
+    let v : Upper e (k .at) q = upper-neighbour e (k .at) (k .inside) (k .two) in
     let o : order e p ≡ order e q = u .higher ∙ sym (v .higher) in
     step k (sym (active-agree e (suc (order e p)) m n a p (u .within) (omega arith)) ∙ t)
     (sym (row-agree e (suc (order e p)) m n a p (u .within) (omega arith)) ∙ s ∙ row-agree e (suc (order e p)) m n a q (v .within) (omega arith))
@@ -51,10 +51,10 @@ no-up zero p t h = refl
 no-up (suc k) p t h = absurd (omega arith)
 
 voxel-inactive : (e : Triple) (m : List ℕ) (p : ℕ) → order e p ≡ 3 → active e m p ≡ false
-unfolding active row up order rowOf occupied
+unfolding active row upperNeighbours order rowOf occupied
 voxel-inactive e m p h =
     let s = sides e in
-    rw (no-up (odd e p X) p (stride s X) (omega arith), no-up (odd e p Y) p (stride s Y) (omega arith), no-up (odd e p Z) p (stride s Z) (omega arith)) refl
+    rw (no-up (parity e p X) p (stride s X) (omega arith), no-up (parity e p Y) p (stride s Y) (omega arith), no-up (parity e p Z) p (stride s Z) (omega arith)) refl
 
 pub active-below : (e : Triple) (m : List ℕ) (p : ℕ) → active e m p ≡ true → order e p < 3
 unfolding order
@@ -236,4 +236,4 @@ numbered-active e codes p h l g = by-test (active e (labels e codes) p) (λ t. t
 -- "Point cells never meet, so each active one is a point alone."
 pub point-alone : (e : Triple) (m : List ℕ) {p q : ℕ} → order e p ≡ 0 → Joined e m p q → p ≡ q
 point-alone e m o here = refl
-point-alone e m o (step r t s l) = absurd (omega (arith, upper e (r .at) (r .inside) (r .one) .higher))
+point-alone e m o (step r t s l) = absurd (omega (arith, upper-neighbour e (r .at) (r .inside) (r .one) .higher))

@@ -10,17 +10,17 @@ use native.Mathlib.Omega.{arith}
 use lib.Dec.{eqb}
 use borrow.Author.Tests.{eqb-true, eq-eqb}
 use Rattle.lists.specs.Lists.{consecutive, keep}
-use Rattle.lists.proofs.Cases.{by-test, and-left, and-right, and-both}
+use Rattle.lists.proofs.Cases.{by-test, and-first, and-second, and-both}
 use Rattle.lists.proofs.Lists.{keep-in, keep-out, consecutive-in, consecutive-out}
 use Rattle.closure.specs.Joined.{Edge, edge, Linked, stay, along, back, via, rep}
 use Rattle.closure.proofs.Classes.{rep-low, rep-idem, rep-path, path-rep, path-to-rep}
 use Rattle.closure.proofs.Numbers.{path-act, Leaders, label-off, label-is, label-same, label-inj, label-earlier}
 use Rattle.cells.specs.Box.{Triple}
-use Rattle.cells.specs.Grid.{cells, order, up}
+use Rattle.cells.specs.Grid.{cells, order, upperNeighbours}
 use Rattle.cells.specs.Row.{row, active, occupied, sameRow}
-use Rattle.cells.proofs.GridLaws.{Upper, upper}
+use Rattle.cells.proofs.GridLaws.{Upper, upper-neighbour}
 use Rattle.cells.proofs.RowLaws.{same-row, row-same}
-use Rattle.labels.specs.Number.{pairs, alike, edgesAt, below, edges, activeOf, number}
+use Rattle.labels.specs.Number.{pairs, alike, edgesAt, orderBelow, edges, activeOf, number}
 use Rattle.labels.specs.Numbering.{Meet, Joined, here, step}
 
 -- ---- pairs
@@ -57,14 +57,14 @@ pairs-in (x ∷ l) {p} {q} m n = go (List·Memᴰ·cases-cons m) (List·Memᴰ·
 
 -- ---- edges
 
-below-in : (e : Triple) (j : ℕ) {t : ℕ} → t < cells e → suc (order e t) ≡ j → List·Memᴰ t (keep (below e j) (consecutive 0 (cells e)))
-unfolding below
-below-in e j {t} h o = keep-in (below e j) (consecutive 0 (cells e)) (consecutive-in 0 (cells e) (omega arith) (omega arith)) (eq-eqb (suc (order e t)) j o)
+below-in : (e : Triple) (j : ℕ) {t : ℕ} → t < cells e → suc (order e t) ≡ j → List·Memᴰ t (keep (orderBelow e j) (consecutive 0 (cells e)))
+unfolding orderBelow
+below-in e j {t} h o = keep-in (orderBelow e j) (consecutive 0 (cells e)) (consecutive-in 0 (cells e) (omega arith) (omega arith)) (eq-eqb (suc (order e t)) j o)
 
-below-out : (e : Triple) (j : ℕ) {t : ℕ} → List·Memᴰ t (keep (below e j) (consecutive 0 (cells e))) → (t < cells e) × (suc (order e t) ≡ j)
-unfolding below
+below-out : (e : Triple) (j : ℕ) {t : ℕ} → List·Memᴰ t (keep (orderBelow e j) (consecutive 0 (cells e))) → (t < cells e) × (suc (order e t) ≡ j)
+unfolding orderBelow
 below-out e j {t} m =
-    let r = keep-out (below e j) (consecutive 0 (cells e)) m in
+    let r = keep-out (orderBelow e j) (consecutive 0 (cells e)) m in
     let b = consecutive-out 0 (cells e) (r .0) in
     (omega arith, eqb-true (suc (order e t)) j (r .1))
 
@@ -72,16 +72,16 @@ below-out e j {t} m =
 record At (e : Triple) (m ts : List ℕ) (d : Edge) : Type 0 where
   t : ℕ
   listed : List·Memᴰ t ts
-  pair : List·Memᴰ d (pairs (up e t))
+  pair : List·Memᴰ d (pairs (upperNeighbours e t))
   like : alike e m d ≡ true
 
 edges-at-out : (e : Triple) (m ts : List ℕ) {d : Edge} → List·Memᴰ d (edgesAt e m ts) → At e m ts d
 unfolding edgesAt
 edges-at-out e m [] h = absurd (List·Memᴰ·not-nil h)
-edges-at-out e m (t ∷ ts) {d} h = go (List·Memᴰ·append-cases (keep (alike e m) (pairs (up e t))) h) (λ k. edges-at-out e m ts k)
+edges-at-out e m (t ∷ ts) {d} h = go (List·Memᴰ·append-cases (keep (alike e m) (pairs (upperNeighbours e t))) h) (λ k. edges-at-out e m ts k)
   where
-    go : List·Memᴰ d (keep (alike e m) (pairs (up e t))) ⊎ List·Memᴰ d (edgesAt e m ts) → (List·Memᴰ d (edgesAt e m ts) → At e m ts d) → At e m (t ∷ ts) d
-    go (inl k) ih = let r = keep-out (alike e m) (pairs (up e t)) k in record { t = t; listed = List·Memᴰ·head refl; pair = r .0; like = r .1 }
+    go : List·Memᴰ d (keep (alike e m) (pairs (upperNeighbours e t))) ⊎ List·Memᴰ d (edgesAt e m ts) → (List·Memᴰ d (edgesAt e m ts) → At e m ts d) → At e m (t ∷ ts) d
+    go (inl k) ih = let r = keep-out (alike e m) (pairs (upperNeighbours e t)) k in record { t = t; listed = List·Memᴰ·head refl; pair = r .0; like = r .1 }
     go (inr k) ih = let r = ih k in record { t = r .t; listed = List·Memᴰ·tail (r .listed); pair = r .pair; like = r .like }
 
 edges-at-in : (e : Triple) (m ts : List ℕ) {d : Edge} → At e m ts d → List·Memᴰ d (edgesAt e m ts)
@@ -90,8 +90,8 @@ edges-at-in e m [] r = absurd (List·Memᴰ·not-nil (r .listed))
 edges-at-in e m (t ∷ ts) {d} r = go (List·Memᴰ·cases-cons (r .listed)) (λ k. edges-at-in e m ts (record { t = r .t; listed = k; pair = r .pair; like = r .like }))
   where
     go : (r .t ≡ t) ⊎ List·Memᴰ (r .t) ts → (List·Memᴰ (r .t) ts → List·Memᴰ d (edgesAt e m ts)) → List·Memᴰ d (edgesAt e m (t ∷ ts))
-    go (inl q) ih = Memᴰ·append-left (edgesAt e m ts) (keep-in (alike e m) (pairs (up e t)) (subst (λ (x : ℕ). List·Memᴰ d (pairs (up e x))) q (r .pair)) (r .like))
-    go (inr k) ih = Memᴰ·append-right (keep (alike e m) (pairs (up e t))) (ih k)
+    go (inl q) ih = Memᴰ·append-left (edgesAt e m ts) (keep-in (alike e m) (pairs (upperNeighbours e t)) (subst (λ (x : ℕ). List·Memᴰ d (pairs (upperNeighbours e x))) q (r .pair)) (r .like))
+    go (inr k) ih = Memᴰ·append-right (keep (alike e m) (pairs (upperNeighbours e t))) (ih k)
 
 -- an active cell of order j
 pub record Cell (e : Triple) (m : List ℕ) (j p : ℕ) : Type 0 where
@@ -109,13 +109,13 @@ record Tied (e : Triple) (m : List ℕ) (j p q : ℕ) : Type 0 where
 edge-tied : (e : Triple) (m : List ℕ) (j : ℕ) {p q : ℕ} → List·Memᴰ (edge p q) (edges e m j) → Tied e m j p q
 unfolding edges alike active
 edge-tied e m j {p} {q} h =
-    let r : At e m (keep (below e j) (consecutive 0 (cells e))) (edge p q) = edges-at-out e m (keep (below e j) (consecutive 0 (cells e))) h in
-    let ends = pairs-out (up e (r .t)) (r .pair) in
+    let r : At e m (keep (orderBelow e j) (consecutive 0 (cells e))) (edge p q) = edges-at-out e m (keep (orderBelow e j) (consecutive 0 (cells e))) h in
+    let ends = pairs-out (upperNeighbours e (r .t)) (r .pair) in
     let o = below-out e j (r .listed) in
-    let up-p : Upper e (r .t) p = upper e (r .t) (o .0) (ends .0) in
-    let up-q : Upper e (r .t) q = upper e (r .t) (o .0) (ends .1) in
-    let act-p : active e m p ≡ true = and-left (active e m p) (sameRow (row e m p) (row e m q)) (r .like) in
-    let same : row e m p ≡ row e m q = same-row (row e m p) (row e m q) (and-right (active e m p) (sameRow (row e m p) (row e m q)) (r .like)) in
+    let up-p : Upper e (r .t) p = upper-neighbour e (r .t) (o .0) (ends .0) in
+    let up-q : Upper e (r .t) q = upper-neighbour e (r .t) (o .0) (ends .1) in
+    let act-p : active e m p ≡ true = and-first (active e m p) (sameRow (row e m p) (row e m q)) (r .like) in
+    let same : row e m p ≡ row e m q = same-row (row e m p) (row e m q) (and-second (active e m p) (sameRow (row e m p) (row e m q)) (r .like)) in
     record {
       meet = record { at = r .t; inside = o .0; one = ends .0; two = ends .1 };
       one = record { within = up-p .within; level = up-p .higher ∙ o .1; act = act-p };
@@ -145,26 +145,26 @@ rep-active e m j x = sym (path-act (edges e m j) (activeOf e m j) (edge-active e
 -- ---- joined cells are those that edges connect
 
 meet-order : (e : Triple) {p q : ℕ} → Meet e p q → order e p ≡ order e q
-meet-order e k = upper e (k .at) (k .inside) (k .one) .higher ∙ sym (upper e (k .at) (k .inside) (k .two) .higher)
+meet-order e k = upper-neighbour e (k .at) (k .inside) (k .one) .higher ∙ sym (upper-neighbour e (k .at) (k .inside) (k .two) .higher)
 
 meet-path : (e : Triple) (m : List ℕ) (j : ℕ) {p q : ℕ} → order e p ≡ j → Meet e p q → active e m p ≡ true → row e m p ≡ row e m q → Linked (edges e m j) p q
 unfolding edges alike active
-meet-path e m j {p} {q} o k a s = go (pairs-in (up e (k .at)) (k .one) (k .two))
+meet-path e m j {p} {q} o k a s = go (pairs-in (upperNeighbours e (k .at)) (k .one) (k .two))
   where
     ds : List Edge
-    ds = edgesAt e m (keep (below e j) (consecutive 0 (cells e)))
+    ds = edgesAt e m (keep (orderBelow e j) (consecutive 0 (cells e)))
 
-    put : {x y : ℕ} → List·Memᴰ (edge x y) (pairs (up e (k .at))) → active e m x ≡ true → row e m x ≡ row e m y → List·Memᴰ (edge x y) ds
+    put : {x y : ℕ} → List·Memᴰ (edge x y) (pairs (upperNeighbours e (k .at))) → active e m x ≡ true → row e m x ≡ row e m y → List·Memᴰ (edge x y) ds
     put {x} {y} n b r =
-        edges-at-in e m (keep (below e j) (consecutive 0 (cells e)))
+        edges-at-in e m (keep (orderBelow e j) (consecutive 0 (cells e)))
         (record {
           t = k .at;
-          listed = below-in e j (k .inside) (sym (upper e (k .at) (k .inside) (k .one) .higher) ∙ o);
+          listed = below-in e j (k .inside) (sym (upper-neighbour e (k .at) (k .inside) (k .one) .higher) ∙ o);
           pair = n;
           like = and-both (active e m x) (sameRow (row e m x) (row e m y)) b (rw r (row-same (row e m y)));
         })
 
-    go : (p ≡ q) ⊎ (List·Memᴰ (edge p q) (pairs (up e (k .at))) ⊎ List·Memᴰ (edge q p) (pairs (up e (k .at)))) → Linked ds p q
+    go : (p ≡ q) ⊎ (List·Memᴰ (edge p q) (pairs (upperNeighbours e (k .at))) ⊎ List·Memᴰ (edge q p) (pairs (upperNeighbours e (k .at)))) → Linked ds p q
     go (inl eq) = subst (Linked ds p) eq stay
     go (inr (inl n)) = along (put n a s)
     go (inr (inr n)) = back (along (put n (ap occupied (sym s) ∙ a) (sym s)))
@@ -221,5 +221,5 @@ module _ (e : Triple) (m : List ℕ) (j : ℕ) where
   number-earlier {p} c k h l =
       let r = label-earlier (rep (edges e m j)) (activeOf e m j) (rep-leaders e m j) p k (cell-active c) h l in
       let q = r .0 in
-      let d : Cell e m j q = record { within = omega (arith, r .1, c .within); level = eqb-true (order e q) j (and-left (eqb (order e q) j) (active e m q) (r .2)); act = and-right (eqb (order e q) j) (active e m q) (r .2) } in
+      let d : Cell e m j q = record { within = omega (arith, r .1, c .within); level = eqb-true (order e q) j (and-first (eqb (order e q) j) (active e m q) (r .2)); act = and-second (eqb (order e q) j) (active e m q) (r .2) } in
       (q, r .1, d, r .3)

@@ -10,7 +10,7 @@ use Rattle.lists.specs.Lists.{consecutive, tabulate, keep}
 use Rattle.closure.specs.Joined.{Edge, edge, rep}
 use Rattle.closure.specs.Numbered.{label}
 use Rattle.cells.specs.Box.{Triple}
-use Rattle.cells.specs.Grid.{cells, order, up, voxel}
+use Rattle.cells.specs.Grid.{cells, order, upperNeighbours, voxel}
 use Rattle.cells.specs.Row.{row, active, sameRow}
 
 -- All pairs of entries of a list.
@@ -25,14 +25,14 @@ alike e m d = active e m (d .from) && sameRow (row e m (d .from)) (row e m (d .t
 -- Such pairs among the upper neighbours of the cells ts.
 unfoldable pub edgesAt : Triple → List ℕ → List ℕ → List Edge
 edgesAt e m [] = []
-edgesAt e m (t ∷ ts) = keep (alike e m) (pairs (up e t)) ++ edgesAt e m ts
+edgesAt e m (t ∷ ts) = keep (alike e m) (pairs (upperNeighbours e t)) ++ edgesAt e m ts
 
 -- Cells of order j meet at cells of the order below. "Point cells never meet."
-unfoldable pub below : Triple → ℕ → ℕ → Bool
-below e j t = eqb (suc (order e t)) j
+unfoldable pub orderBelow : Triple → ℕ → ℕ → Bool
+orderBelow e j t = eqb (suc (order e t)) j
 
 unfoldable pub edges : Triple → List ℕ → ℕ → List Edge
-edges e m j = edgesAt e m (keep (below e j) (consecutive 0 (cells e)))
+edges e m j = edgesAt e m (keep (orderBelow e j) (consecutive 0 (cells e)))
 
 -- An active cell of order j.
 unfoldable pub activeOf : Triple → List ℕ → ℕ → ℕ → Bool

@@ -8,15 +8,15 @@ use mathlib.Core.List.{List, List·Memᴰ}
 use Prim.Native.Nat.{ℕ, _<_}
 use lib.ListN.{getD, length}
 use Rattle.cells.specs.Box.{Triple}
-use Rattle.cells.specs.Grid.{cells, order, up, voxel}
+use Rattle.cells.specs.Grid.{cells, order, upperNeighbours, voxel}
 use Rattle.cells.specs.Row.{row, active}
 
 -- "Two active cells of one order meet if both are upper neighbours of one cell" (document 003, Definition 2).
 pub record Meet (e : Triple) (p q : ℕ) : Type 0 where
   pub at : ℕ
   pub inside : at < cells e
-  pub one : List·Memᴰ p (up e at)
-  pub two : List·Memᴰ q (up e at)
+  pub one : List·Memᴰ p (upperNeighbours e at)
+  pub two : List·Memᴰ q (upperNeighbours e at)
 
 -- "A path of meeting cells joins them on which every row is equal": of active cells, since equal rows are of equal activity.
 pub data Joined (e : Triple) (m : List ℕ) : ℕ → ℕ → Type 0 where

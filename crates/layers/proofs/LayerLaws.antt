@@ -11,14 +11,14 @@ use Rattle.lists.specs.Lists.{consecutive, someOf}
 use Rattle.closure.specs.Joined.{Edge, edge}
 use Rattle.cells.specs.Box.{Axis, Triple, coord, index, place, volume, X, Y, Z}
 use Rattle.cells.specs.Grid.{cells, sides}
-use Rattle.cutting.specs.Cutting.{Cutting, blockExtents, blockSides, blocks, cuts, embed, goodCut, high, interval, intervals, low, origin, seam}
+use Rattle.cutting.specs.Cutting.{Cutting, blockExtents, blockSides, blocks, cuts, embed, goodCut, highEnd, interval, intervals, lowEnd, origin, seam}
 use Rattle.joiner.specs.Stages.{seamAxis, shared}
 use Rattle.layers.specs.Layers.{across, axisOf, cellPair, columnsOf, firstAcross, lastAt, layerPairs, pairsIn, rowPairs, rowsOf}
 use Rattle.lists.proofs.Cases.{by-test, or-left, or-right}
 use Rattle.lists.proofs.Lists.{consecutive-in, consecutive-out}
 use Rattle.cells.proofs.BoxLaws.{Inside, index-inside, index-place, place-index, place-inside, same-triple}
 use Rattle.cells.proofs.GridLaws.{side-on}
-use Rattle.cutting.proofs.CutLaws.{block-sides-on, cut-on, embed-at, extent-on, interval-is, its-interval, origin-on, shift, shift-inside, shift-on}
+use Rattle.cutting.proofs.CutLaws.{block-sides-on, cut-on, embed-at, extent-on, interval-is, its-interval, origin-on, shiftInto, shift-inside, shift-on}
 use Rattle.cutting.proofs.SeamLaws.{cut-ends}
 use Rattle.joiner.proofs.SeamSteps.{Axes, axis-bound, seam-axes}
 use Rattle.joiner.proofs.Shared.{Shares, seam-listed, shared-in, shared-out}
@@ -127,8 +127,8 @@ seam-follows k b c z =
     go (suc (suc (suc (suc n)))) h x d = absurd (omega (arith, h))
 
 module _ (k : Cutting) (good : goodCut k ≡ true) (b c : ℕ) (a : Axis) (F : Follows k b c a) where
-  E : Triple
-  E = blockExtents k b
+  lowerExtents : Triple
+  lowerExtents = blockExtents k b
 
   G : Triple
   G = blockExtents k c
@@ -142,16 +142,16 @@ module _ (k : Cutting) (good : goodCut k ≡ true) (b c : ℕ) (a : Axis) (F : F
   on-axis d zero h e =
       let q : interval k c d ≡ interval k b d = e ∙ omega arith in
       record {
-        begins = origin-on k c d ∙ ap (low (cuts k d)) q ∙ sym (origin-on k b d) ∙ omega arith;
-        sized = λ z. extent-on k c d ∙ ap (λ (i : ℕ). high (cuts k d) i - low (cuts k d) i + 1) q ∙ sym (extent-on k b d);
+        begins = origin-on k c d ∙ ap (lowEnd (cuts k d)) q ∙ sym (origin-on k b d) ∙ omega arith;
+        sized = λ z. extent-on k c d ∙ ap (λ (i : ℕ). highEnd (cuts k d) i - lowEnd (cuts k d) i + 1) q ∙ sym (extent-on k b d);
       }
   on-axis d (suc zero) h e =
       let q : interval k c d ≡ suc (interval k b d) = e ∙ omega arith in
       let i : interval k c d < intervals (cuts k d) = omega (arith, interval-is k c d, block-sides-on k d, place-inside (blockSides k) c (in-blocks c (F .upper-in)) d) in
-      let m : high (cuts k d) (interval k b d) ≡ low (cuts k d) (suc (interval k b d)) = cut-ends (coord (k .extents) d) (cuts k d) (cut-on k good d) (interval k b d) (omega (arith, q, i)) in
+      let m : highEnd (cuts k d) (interval k b d) ≡ lowEnd (cuts k d) (suc (interval k b d)) = cut-ends (coord (k .extents) d) (cuts k d) (cut-on k good d) (interval k b d) (omega (arith, q, i)) in
       let v = its-interval k good b (F .lower-in) d in
       record {
-        begins = origin-on k c d ∙ ap (low (cuts k d)) q ∙ sym m ∙ omega (arith, origin-on k b d, extent-on k b d, v .upward);
+        begins = origin-on k c d ∙ ap (lowEnd (cuts k d)) q ∙ sym m ∙ omega (arith, origin-on k b d, extent-on k b d, v .upward);
         sized = λ z. absurd (omega arith);
       }
     where
@@ -255,7 +255,7 @@ module _ (k : Cutting) (good : goodCut k ≡ true) (b c : ℕ) (a : Axis) (F : F
 
   -- a shared pair is one of the layer
   pub shares-layer : (p q : ℕ) → Shares k b c p q → OnLayer e f a (edge p q)
-  unfolding cellPair lastAt firstAcross embed shift cells
+  unfolding cellPair lastAt firstAcross embed shiftInto cells
   shares-layer p q S =
       record {
         u = r .0;
@@ -285,8 +285,8 @@ module _ (k : Cutting) (good : goodCut k ≡ true) (b c : ℕ) (a : Axis) (F : F
       w = across-inside a (sides e) (coord C a) (r .0) (r .1) (subst (Inside (sides e)) (r .2) C-in)
 
       -- the place in the volume, from either block
-      place-of : (x : ℕ) (hx : x < blocks k) (t : Triple) → Inside (sides (blockExtents k x)) t → (d : Axis) → coord (place (sides (k .extents)) (index (sides (k .extents)) (shift k x t))) d ≡ 2 * coord (origin k x) d + coord t d
-      place-of x hx t i d = let s = shift-inside k good x hx t i in place-index (sides (k .extents)) (shift k x t) (s X) (s Y) d ∙ shift-on k x t d
+      place-of : (x : ℕ) (hx : x < blocks k) (t : Triple) → Inside (sides (blockExtents k x)) t → (d : Axis) → coord (place (sides (k .extents)) (index (sides (k .extents)) (shiftInto k x t))) d ≡ 2 * coord (origin k x) d + coord t d
+      place-of x hx t i d = let s = shift-inside k good x hx t i in place-index (sides (k .extents)) (shiftInto k x t) (s X) (s Y) d ∙ shift-on k x t d
 
       meets : (d : Axis) → 2 * coord (origin k b) d + coord C d ≡ 2 * coord (origin k c) d + coord D d
       meets d =

@@ -16,7 +16,7 @@ use Rattle.lists.proofs.Cases.{by-test, picked}
 use Rattle.lists.proofs.Lists.{consecutive-split}
 use Rattle.cells.specs.Box.{Triple, Axis, X, Y, Z, triple, coord, stride, volume, index, place}
 use Rattle.cells.specs.Extents.{Sized}
-use Rattle.cells.specs.Grid.{sides, cells, odd, order, along, up}
+use Rattle.cells.specs.Grid.{sides, cells, parity, order, along, upperNeighbours}
 use Rattle.cells.proofs.BoxLaws.{index-place, raised, lowered, index-raised, index-lowered}
 use Rattle.cells.proofs.GridLaws.{odd-at, inside, low-side, high-side, raised-inside, lowered-inside, axis-down, axis-up}
 use Rattle.cells.specs.Row.{rowOf, row}
@@ -37,11 +37,11 @@ unfolding along around strideIf
 along-around zero p s = refl
 along-around (suc k) p s = refl
 
-pub up-around : (e : Triple) (p : ℕ) → up e p ≡ around p (odds e p)
-unfolding up odds
+pub up-around : (e : Triple) (p : ℕ) → upperNeighbours e p ≡ around p (odds e p)
+unfolding upperNeighbours odds
 up-around e p =
     let s = sides e in
-    rw (around-append, around-append, along-around (odd e p X) p (stride s X), along-around (odd e p Y) p (stride s Y), along-around (odd e p Z) p (stride s Z))
+    rw (around-append, around-append, along-around (parity e p X) p (stride s X), along-around (parity e p Y) p (stride s Y), along-around (parity e p Z) p (stride s Z))
 
 -- So the cells one stride down and up along the odd axes are those that the row of the table for the cell's pattern leads to: the table of
 -- neighbour steps is the one place where steps are said.
@@ -103,28 +103,28 @@ module _ (e : Triple) where
   abbrev wh : ℕ
   wh = stride (sides e) Z
 
-  pub odds-are : (p kx ky kz : ℕ) → odd e p X ≡ kx → odd e p Y ≡ ky → odd e p Z ≡ kz → odds e p ≡ listed kx ky kz 1 w wh
+  pub odds-are : (p kx ky kz : ℕ) → parity e p X ≡ kx → parity e p Y ≡ ky → parity e p Z ≡ kz → odds e p ≡ listed kx ky kz 1 w wh
   unfolding odds stride
   odds-are p kx ky kz x y z = rw (x, y, z)
 
-  module _ (p : ℕ) (h : p < cells e) (a : Axis) (o : 0 < odd e p a) where
-    odd-below : (b : Axis) → odd e (p - stride (sides e) a) b ≡ evened a b (odd e p b)
-    unfolding odd
+  module _ (p : ℕ) (h : p < cells e) (a : Axis) (o : 0 < parity e p a) where
+    odd-below : (b : Axis) → parity e (p - stride (sides e) a) b ≡ evened a b (parity e p b)
+    unfolding parity
     odd-below b =
         let s = sides e in
         let c = place s p in
         let at : index s (lowered a c) ≡ p - stride s a = index-lowered s c a (low-side e p a o) ∙ ap (λ (n : ℕ). n - stride s a) (index-place s p) in
-        ap (λ (n : ℕ). odd e n b) (sym at) ∙ odd-at e (lowered a c) (lowered-inside s c a (inside e p h)) b ∙ lowered-odd a b c o
+        ap (λ (n : ℕ). parity e n b) (sym at) ∙ odd-at e (lowered a c) (lowered-inside s c a (inside e p h)) b ∙ lowered-odd a b c o
 
-    odd-above : (b : Axis) → odd e (p + stride (sides e) a) b ≡ evened a b (odd e p b)
-    unfolding odd
+    odd-above : (b : Axis) → parity e (p + stride (sides e) a) b ≡ evened a b (parity e p b)
+    unfolding parity
     odd-above b =
         let s = sides e in
         let c = place s p in
         let at : index s (raised a c) ≡ p + stride s a = index-raised s c a ∙ ap (λ (n : ℕ). n + stride s a) (index-place s p) in
-        ap (λ (n : ℕ). odd e n b) (sym at) ∙ odd-at e (raised a c) (raised-inside s c a (inside e p h) (high-side e p a h o)) b ∙ raised-odd a b c o
+        ap (λ (n : ℕ). parity e n b) (sym at) ∙ odd-at e (raised a c) (raised-inside s c a (inside e p h) (high-side e p a h o)) b ∙ raised-odd a b c o
 
-    flank : (kx ky kz : ℕ) → odd e p X ≡ kx → odd e p Y ≡ ky → odd e p Z ≡ kz → Flank e p (stride (sides e) a) (listed (evened a X kx) (evened a Y ky) (evened a Z kz) 1 w wh)
+    flank : (kx ky kz : ℕ) → parity e p X ≡ kx → parity e p Y ≡ ky → parity e p Z ≡ kz → Flank e p (stride (sides e) a) (listed (evened a X kx) (evened a Y ky) (evened a Z kz) 1 w wh)
     flank kx ky kz x y z = record {
       low = axis-down e p a o;
       high = axis-up e p a h o;
@@ -138,12 +138,12 @@ record First (k t : ℕ) (rest pre : List ℕ) (s : ℕ) (post : List ℕ) : Typ
   is : t ≡ s
   others : rest ≡ pre ++ post
 
-record Rest (k t : ℕ) (rest pre : List ℕ) (s : ℕ) (post : List ℕ) : Type 0 where
+record InRest (k t : ℕ) (rest pre : List ℕ) (s : ℕ) (post : List ℕ) : Type 0 where
   front : List ℕ
   before : pre ≡ strideIf k t ++ front
   split : rest ≡ front ++ s ∷ post
 
-first-or-rest : (k t : ℕ) (rest pre : List ℕ) (s : ℕ) (post : List ℕ) → strideIf k t ++ rest ≡ pre ++ s ∷ post → First k t rest pre s post ⊎ Rest k t rest pre s post
+first-or-rest : (k t : ℕ) (rest pre : List ℕ) (s : ℕ) (post : List ℕ) → strideIf k t ++ rest ≡ pre ++ s ∷ post → First k t rest pre s post ⊎ InRest k t rest pre s post
 unfolding strideIf
 first-or-rest zero t rest pre s post q = inr (record { front = pre; before = refl; split = q })
 first-or-rest (suc k) t rest [] s post q = inl (record { is-odd = omega arith; is = head-eq-of-cons-eq q; others = tail-eq-of-cons-eq q })
@@ -156,15 +156,15 @@ unfolding evened strideIf stride
 flank-at e p h pre s post q = on-x (first-or-rest kx 1 (strideIf ky (w e) ++ strideIf kz (wh e)) pre s post (sym (append-assoc (strideIf kx 1) (strideIf ky (w e)) (strideIf kz (wh e))) ∙ sym (odds-are e p kx ky kz refl refl refl) ∙ q))
   where
     kx : ℕ
-    kx = odd e p X
+    kx = parity e p X
 
     ky : ℕ
-    ky = odd e p Y
+    ky = parity e p Y
 
     kz : ℕ
-    kz = odd e p Z
+    kz = parity e p Z
 
-    on-z : (f g : List ℕ) → pre ≡ strideIf kx 1 ++ f → f ≡ strideIf ky (w e) ++ g → First kz (wh e) [] g s post ⊎ Rest kz (wh e) [] g s post → Flank e p s (pre ++ post)
+    on-z : (f g : List ℕ) → pre ≡ strideIf kx 1 ++ f → f ≡ strideIf ky (w e) ++ g → First kz (wh e) [] g s post ⊎ InRest kz (wh e) [] g s post → Flank e p s (pre ++ post)
     on-z f g x y (inl r) =
         let same : pre ++ post ≡ listed kx ky 0 1 (w e) (wh e) =
         ap (λ (l : List ℕ). l ++ post) (x ∙ ap (λ (l : List ℕ). strideIf kx 1 ++ l) y ∙ sym (append-assoc (strideIf kx 1) (strideIf ky (w e)) g))
@@ -173,7 +173,7 @@ flank-at e p h pre s post q = on-x (first-or-rest kx 1 (strideIf ky (w e) ++ str
         rw (same, ← r .is) (flank e p h Z (r .is-odd) kx ky kz refl refl refl)
     on-z f g x y (inr r) = absurd (omega (arith, simp length-append at (ap (λ (l : List ℕ). length l) (r .split))))
 
-    on-y : (f : List ℕ) → pre ≡ strideIf kx 1 ++ f → First ky (w e) (strideIf kz (wh e)) f s post ⊎ Rest ky (w e) (strideIf kz (wh e)) f s post → Flank e p s (pre ++ post)
+    on-y : (f : List ℕ) → pre ≡ strideIf kx 1 ++ f → First ky (w e) (strideIf kz (wh e)) f s post ⊎ InRest ky (w e) (strideIf kz (wh e)) f s post → Flank e p s (pre ++ post)
     on-y f x (inl r) =
         let same : pre ++ post ≡ listed kx 0 kz 1 (w e) (wh e) =
         ap (λ (l : List ℕ). l ++ post) x
@@ -182,7 +182,7 @@ flank-at e p h pre s post q = on-x (first-or-rest kx 1 (strideIf ky (w e) ++ str
         rw (same, ← r .is) (flank e p h Y (r .is-odd) kx ky kz refl refl refl)
     on-y f x (inr r) = on-z f (r .front) x (r .before) (first-or-rest kz (wh e) [] (r .front) s post (append-nil _ ∙ r .split))
 
-    on-x : First kx 1 (strideIf ky (w e) ++ strideIf kz (wh e)) pre s post ⊎ Rest kx 1 (strideIf ky (w e) ++ strideIf kz (wh e)) pre s post → Flank e p s (pre ++ post)
+    on-x : First kx 1 (strideIf ky (w e) ++ strideIf kz (wh e)) pre s post ⊎ InRest kx 1 (strideIf ky (w e) ++ strideIf kz (wh e)) pre s post → Flank e p s (pre ++ post)
     on-x (inl r) = rw (← r .is, ← r .others) (flank e p h X (r .is-odd) kx ky kz refl refl refl)
     on-x (inr r) = on-y (r .front) (r .before) (first-or-rest ky (w e) (strideIf kz (wh e)) (r .front) s post (r .split))
 
@@ -206,16 +206,16 @@ module _ (e : Triple) (l x : ℕ) (h : x < sides e .x) where
   line-place Y = ap (λ (n : ℕ). n % sides e .y) (digits-div l h)
   line-place Z = sym (div-div-eq-div-mul (l * sides e .x + x) (sides e .x) (sides e .y)) ∙ ap (λ (n : ℕ). n / sides e .y) (digits-div l h)
 
-  pub line-x : odd e (l * sides e .x + x) X ≡ x % 2
-  unfolding odd
+  pub line-x : parity e (l * sides e .x + x) X ≡ x % 2
+  unfolding parity
   line-x = ap (λ (n : ℕ). n % 2) (line-place X)
 
-  pub line-y : odd e (l * sides e .x + x) Y ≡ lineY e l
-  unfolding odd lineY
+  pub line-y : parity e (l * sides e .x + x) Y ≡ lineY e l
+  unfolding parity lineY
   line-y = ap (λ (n : ℕ). n % 2) (line-place Y)
 
-  pub line-z : odd e (l * sides e .x + x) Z ≡ lineZ e l
-  unfolding odd lineZ
+  pub line-z : parity e (l * sides e .x + x) Z ≡ lineZ e l
+  unfolding parity lineZ
   line-z = ap (λ (n : ℕ). n % 2) (line-place Z)
 
   pub line-order : order e (l * sides e .x + x) ≡ 3 - (x % 2 + lineY e l + lineZ e l)
@@ -265,9 +265,9 @@ module _ {f : ℕ → Bool} {base w n q : ℕ} (T : Tests f base w n q) where
   unfolding consecutive
   line-end x h = let r : w - x ≡ 0 = omega arith in rw r
 
-  none : ((x : ℕ) → n ≢ x % 2 + q) → (k x : ℕ) → w ≤ x + k → keep f (consecutive (base + x) (w - x)) ≡ []
-  none d zero x h = line-end x (omega arith)
-  none d (suc k) x h = skip x (λ _. d x) ∙ none d k (suc x) (omega arith)
+  none-pass : ((x : ℕ) → n ≢ x % 2 + q) → (k x : ℕ) → w ≤ x + k → keep f (consecutive (base + x) (w - x)) ≡ []
+  none-pass d zero x h = line-end x (omega arith)
+  none-pass d (suc k) x h = skip x (λ _. d x) ∙ none-pass d k (suc x) (omega arith)
 
   -- The first cell that passes.
   pub line-start : keep f (consecutive base w) ≡ keep f (consecutive (base + firstX n q w) (w - firstX n q w))
@@ -283,7 +283,7 @@ module _ {f : ℕ → Bool} {base w n q : ℕ} (T : Tests f base w n q) where
       (λ u.
       let g : n ≢ suc q = eqb-false n (suc q) u in
       let far : (x : ℕ) → n ≢ x % 2 + q = λ x c. by-test (eqb (x % 2) 0) (λ a. d (omega (arith, eqb-true (x % 2) 0 a))) (λ a. let b : x % 2 ≢ 0 = eqb-false (x % 2) 0 a in g (omega arith)) in
-      rw (t, u) ((rw (z, v) at (none far w 0 (omega arith))) ∙ sym (line-end w (omega arith)))))
+      rw (t, u) ((rw (z, v) at (none-pass far w 0 (omega arith))) ∙ sym (line-end w (omega arith)))))
 
   -- A cell that passes, and the next one, two further on.
   pub line-next : (x : ℕ) → x < w → n ≡ x % 2 + q → keep f (consecutive (base + x) (w - x)) ≡ (base + x) ∷ keep f (consecutive (base + (x + 2)) (w - (x + 2)))

@@ -6,8 +6,8 @@ use mathlib.Core.Bool.{cond}
 use mathlib.Core.List.{List, [], _∷_, _++_}
 use lib.Dec.{eqb}
 use Rattle.cells.specs.Box.{Triple, X, Y, Z, stride}
-use Rattle.cells.specs.Grid.{sides, odd}
-use Rattle.cells.specs.Steps.{stepAt, reach}
+use Rattle.cells.specs.Grid.{sides, parity}
+use Rattle.cells.specs.Steps.{stepAt, stepLength}
 
 -- The stride of an axis, where it is odd.
 unfoldable pub strideIf : ℕ → ℕ → List ℕ
@@ -16,7 +16,7 @@ strideIf (suc k) s = s ∷ []
 
 -- The strides of the odd axes of cell p, x first.
 unfoldable pub odds : Triple → ℕ → List ℕ
-odds e p = strideIf (odd e p X) (stride (sides e) X) ++ strideIf (odd e p Y) (stride (sides e) Y) ++ strideIf (odd e p Z) (stride (sides e) Z)
+odds e p = strideIf (parity e p X) (stride (sides e) X) ++ strideIf (parity e p Y) (stride (sides e) Y) ++ strideIf (parity e p Z) (stride (sides e) Z)
 
 -- The cells one stride down and up from p, for each stride of a list.
 unfoldable pub around : ℕ → List ℕ → List ℕ
@@ -41,11 +41,11 @@ firstX n q w = cond (eqb n q) 0 (cond (eqb n (suc q)) 1 w)
 -- The first stride of the odd axes of a cell, by the parities of its x and y: how far the first step of its pattern goes. That of z counts
 -- only where x and y are even, and there z is odd.
 unfoldable pub firstStride : ℕ → ℕ → ℕ → ℕ → ℕ
-firstStride x y w wh = reach w wh (stepAt (x % 2 + 2 * (y % 2) + 4) 0)
+firstStride x y w wh = stepLength w wh (stepAt (x % 2 + 2 * (y % 2) + 4) 0)
 
 -- The last stride of two or more, by the parity of its z: that of the last steps where x, y and z are odd, or x and y.
 unfoldable pub lastStride : ℕ → ℕ → ℕ → ℕ
-lastStride z w wh = reach w wh (stepAt (3 + 4 * (z % 2)) (2 + 2 * (z % 2)))
+lastStride z w wh = stepLength w wh (stepAt (3 + 4 * (z % 2)) (2 + 2 * (z % 2)))
 
 -- Cell p has n odd axes, 1 to 3: a is the first stride, b the last one of two or more, and w the middle one of three.
 pub data Strided (e : Triple) (p : ℕ) : ℕ → ℕ → ℕ → ℕ → Type 0 where

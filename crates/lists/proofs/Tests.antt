@@ -9,7 +9,7 @@ use lib.Dec.{eqb}
 use lib.ListN.{getD}
 use borrow.Author.Tests.{eqb-true, eq-eqb}
 use Rattle.lists.specs.Lists.{keep, allOf, someOf, isIn}
-use Rattle.lists.proofs.Cases.{by-test, and-left, and-right, and-both, neither}
+use Rattle.lists.proofs.Cases.{by-test, and-first, and-second, and-both, neither}
 
 module _ {A : Type 0} where
   pub all-in : (f : A → Bool) (l : List A) → ((x : A) → List·Memᴰ x l → f x ≡ true) → allOf f l ≡ true
@@ -18,10 +18,10 @@ module _ {A : Type 0} where
 
   pub all-out : (f : A → Bool) (l : List A) {x : A} → allOf f l ≡ true → List·Memᴰ x l → f x ≡ true
   all-out f [] e m = absurd (List·Memᴰ·not-nil m)
-  all-out f (y ∷ l) {x} e m = go (List·Memᴰ·cases-cons m) (λ k. all-out f l (and-right (f y) (allOf f l) e) k)
+  all-out f (y ∷ l) {x} e m = go (List·Memᴰ·cases-cons m) (λ k. all-out f l (and-second (f y) (allOf f l) e) k)
     where
       go : (x ≡ y) ⊎ List·Memᴰ x l → (List·Memᴰ x l → f x ≡ true) → f x ≡ true
-      go (inl q) ih = ap f q ∙ and-left (f y) (allOf f l) e
+      go (inl q) ih = ap f q ∙ and-first (f y) (allOf f l) e
       go (inr k) ih = ih k
 
   pub all-same : (f g : A → Bool) (l : List A) → ((x : A) → f x ≡ g x) → allOf f l ≡ allOf g l

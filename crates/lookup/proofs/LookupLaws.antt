@@ -7,16 +7,16 @@ use Prim.Native.Nat.{ℕ, _<_}
 use native.Mathlib.Omega.{arith}
 use lib.Dec.{eqb, ltb}
 use borrow.Author.Tests.{eqb-true, ltb-true, not-true, not-false}
-use Rattle.lists.proofs.Cases.{and-left, and-right}
+use Rattle.lists.proofs.Cases.{and-first, and-second}
 use Rattle.cells.specs.Box.{Triple}
 use Rattle.cells.specs.Extents.{Sized}
 use Rattle.cells.specs.Grid.{cells}
 use Rattle.cutting.specs.Cutting.{Cutting, blocks, blockExtents, goodCut}
-use Rattle.joiner.specs.Job.{Kind, Face, Curve, Point, Closed, State, fits, blockTrays, numberTrays, firstTrays}
+use Rattle.joiner.specs.Job.{Kind, Face, Curve, Point, Closed, State, lengthsFit, blockTrays, numberTrays, firstTrays}
 use Rattle.joiner.specs.Stages.{hasCell, local}
 use Rattle.joiner.specs.Calls.{Call, look, answer, mapsFit}
 use Rattle.joiner.specs.Declines.{adds, lentTo, lookStands, refusal, standsFor, talliesFit}
-use Rattle.joiner.specs.Entries.{Step}
+use Rattle.joiner.specs.Entries.{CallStep}
 use Rattle.blocks.specs.Blocks.{anyExtents, sizeOf, Tells, hasIn}
 use Rattle.blocks.specs.declared.Block.{Block}
 use Rattle.blocks.proofs.BlockLaws.{has-told}
@@ -24,11 +24,11 @@ use Rattle.job.specs.declared.Job.{Job}
 use Rattle.job.specs.Jobs.{anyCuts, jobOf, toldOf, stateOf}
 use Rattle.job.proofs.JobLaws.{fits-append}
 use Rattle.steps.specs.declared.Entry.{Entry}
-use Rattle.steps.specs.Steps.{orElse, openedOf, entryOf, placedOf, lateOf, mapStandsIn}
+use Rattle.steps.specs.Steps.{firstRefusal, openedOf, entryOf, placedOf, lateOf, mapStandsIn}
 use Rattle.steps.proofs.StepLaws.{Passed, opened-passed, or-first, or-then, or-none, or-else-assoc, refusal-opened, late-none, block-sized, stands-is, step-refused, step-accepted}
 use Rattle.lookup.specs.declared.Looked.{Looked}
 use Rattle.lookup.specs.declared.Sizes.{Sizes}
-use Rattle.lookup.specs.Inner.{lent, sizesOf, traysFit, standIn, restOf, refusalOf, Ready, HasPlace, Looks}
+use Rattle.lookup.specs.Inner.{lent, sizesOf, traysFit, standIn, laterRefusal, refusalOf, Ready, HasPlace, Looks}
 use Rattle.lookup.proofs.NumberLaws.{place-there}
 
 and-two : (a b c : Bool) → (a && (b && c)) ≡ ((a && b) && c)
@@ -40,8 +40,8 @@ four-none true x h = refl
 four-none false x h = absurd (omega arith)
 
 -- 8 decided in two steps, the second after all others
-last-decided : (place trays a b : Bool) → _≡_ {A = ℕ} (cond (not place) 4 (cond (not trays) 6 (cond (not (a && b)) 8 0))) (orElse (cond (not place) 4 (cond (not trays) 6 (cond (not a) 8 0))) (cond (not b) 8 0))
-unfolding orElse
+last-decided : (place trays a b : Bool) → _≡_ {A = ℕ} (cond (not place) 4 (cond (not trays) 6 (cond (not (a && b)) 8 0))) (firstRefusal (cond (not place) 4 (cond (not trays) 6 (cond (not a) 8 0))) (cond (not b) 8 0))
+unfolding firstRefusal
 last-decided true true true b = refl
 last-decided true true false b = refl
 last-decided true false a b = refl
@@ -84,7 +84,7 @@ module _ (k : Cutting) (b : ℕ) (r : Block) (T : Tells k b r) where
 
 pub map-length : (e : Triple) (count faces curves points : ℕ) (z : Sizes) (u : Bool) → u ≡ traysFit count e faces curves points z → not u ≡ false → (n : ℕ) → z .map ≡ n → n ≡ cells e
 unfolding traysFit
-map-length e count faces curves points z u h p n q = sym q ∙ eqb-true _ _ (and-left (eqb (z .map) (cells e)) _ (sym h ∙ not-false u p))
+map-length e count faces curves points z u h p n q = sym q ∙ eqb-true _ _ (and-first (eqb (z .map) (cells e)) _ (sym h ∙ not-false u p))
 
 -- ---- the ways of `refusal`
 
@@ -104,7 +104,7 @@ module _ (j : Job) (cx cy cz : List ℕ) (z : Sizes) (table : List ℕ) (b : ℕ
     unfolding refusalOf
     look-4 p = rw (← e, sym is-there ∙ not-true t p) (or-then r _ 4 q refl)
 
-    pub look-rest : not t ≡ false → (x : ℕ) → x ≡ restOf j cx cy cz z table b m → Refuses x
+    pub look-rest : not t ≡ false → (x : ℕ) → x ≡ laterRefusal j cx cy cz z table b m → Refuses x
     unfolding refusalOf
     look-rest p x f = rw (← e, sym is-there ∙ not-false t p) (or-then r _ x q f)
 
@@ -114,7 +114,7 @@ pub look-passed : (j : Job) (cx cy cz : List ℕ) (b : ℕ) (c : Triple) (r : �
     → (goodCut (toldOf j cx cy cz .cutting) ≡ true) × (b < blocks (toldOf j cx cy cz .cutting))
 look-passed j cx cy cz b c r e q t h p = (
   opened-passed (jobOf j cx cy cz) Closed (sym e ∙ q) .good,
-  ltb-true _ _ (and-left (ltb b (blocks (toldOf j cx cy cz .cutting))) _ (sym (h (j .nx) (j .ny) (j .nz)) ∙ not-false t p)),
+  ltb-true _ _ (and-first (ltb b (blocks (toldOf j cx cy cz .cutting))) _ (sym (h (j .nx) (j .ny) (j .nz)) ∙ not-false t p)),
 )
 
 -- ---- the refusal is the joiner's
@@ -129,7 +129,7 @@ module _ (j : Job) (cx cy cz ticks table faces curves points : List ℕ) (b : �
   abbrev call : Call
   call = look b m c
 
-  trays-is : (mapsFit k call && fits (lentTo (before .job .told) (before .tables) call))
+  trays-is : (mapsFit k call && lengthsFit (lentTo (before .job .told) (before .tables) call))
       ≡ traysFit (blocks k) (blockExtents k b) (j .«face_entries») (j .«curve_entries») (j .«point_entries») (sizesOf ticks table faces curves points m)
   unfolding blockTrays numberTrays firstTrays traysFit
   trays-is =
@@ -138,7 +138,7 @@ module _ (j : Job) (cx cy cz ticks table faces curves points : List ℕ) (b : �
       let C = numberTrays (before .job .told) (before .tables) Curve in
       let P = firstTrays (before .job .told) (before .tables) Point in
       ap (λ (x : Bool). mapsFit k call && x)
-      (fits-append B (F ++ C ++ P) ∙ ap (λ (x : Bool). fits B && x) (fits-append F (C ++ P) ∙ ap (λ (x : Bool). fits F && x) (fits-append C P)))
+      (fits-append B (F ++ C ++ P) ∙ ap (λ (x : Bool). lengthsFit B && x) (fits-append F (C ++ P) ∙ ap (λ (x : Bool). lengthsFit F && x) (fits-append C P)))
 
   abbrev trays : Bool
   trays = traysFit (blocks k) (blockExtents k b) (j .«face_entries») (j .«curve_entries») (j .«point_entries») (sizesOf ticks table faces curves points m)
@@ -153,17 +153,17 @@ module _ (j : Job) (cx cy cz ticks table faces curves points : List ℕ) (b : �
   unfolding standIn
   stands-told = rw (stands-is before (blockExtents k b) b m) (and-two (talliesFit (before .job)) _ last-part)
 
-  none : (κ : Kind) → adds before call κ ≡ 0
+  none-added : (κ : Kind) → adds before call κ ≡ 0
   unfolding adds
-  none κ = refl
+  none-added κ = refl
 
   -- the final number that is handed out is tested last
-  pub refusal-is : refusal before call ≡ orElse (refusalOf j cx cy cz (sizesOf ticks table faces curves points m) table b m c) (cond (not last-part) 8 0)
-  unfolding refusalOf restOf placedOf lateOf
+  pub refusal-is : refusal before call ≡ firstRefusal (refusalOf j cx cy cz (sizesOf ticks table faces curves points m) table b m c) (cond (not last-part) 8 0)
+  unfolding refusalOf laterRefusal placedOf lateOf
   refusal-is =
       refusal-opened before call refl
-      ∙ rw (trays-is, late-none before call none false, stands-told)
-      (ap (orElse (openedOf (jobOf j cx cy cz) Closed)) (last-decided (ltb b (blocks k) && hasCell k b c) trays first-part last-part) ∙ or-else-assoc (openedOf (jobOf j cx cy cz) Closed) _ _)
+      ∙ rw (trays-is, late-none before call none-added false, stands-told)
+      (ap (firstRefusal (openedOf (jobOf j cx cy cz) Closed)) (last-decided (ltb b (blocks k) && hasCell k b c) trays first-part last-part) ∙ or-else-assoc (openedOf (jobOf j cx cy cz) Closed) _ _)
 
   -- ---- an accepted lookup
 
@@ -177,10 +177,10 @@ module _ (j : Job) (cx cy cz ticks table faces curves points : List ℕ) (b : �
     there = four-none (ltb b (blocks k) && hasCell k b c) _ (or-none (openedOf (jobOf j cx cy cz) Closed) _ (acc .none) .1)
 
     block-there : b < blocks k
-    block-there = ltb-true b (blocks k) (and-left (ltb b (blocks k)) (hasCell k b c) there)
+    block-there = ltb-true b (blocks k) (and-first (ltb b (blocks k)) (hasCell k b c) there)
 
     pub cell-there : (r : Block) → Tells k b r → hasIn r c ≡ true
-    cell-there r T = has-told k b r T c ∙ and-right (ltb b (blocks k)) (hasCell k b c) there
+    cell-there r T = has-told k b r T c ∙ and-second (ltb b (blocks k)) (hasCell k b c) there
 
     pub cell-local : (r : Block) → Tells k b r → (hasIn r c ≡ true) × Sized 64 (sizeOf r)
     cell-local r T = (cell-there r T, block-sized k (passed .good) b block-there r T)
@@ -191,7 +191,7 @@ module _ (j : Job) (cx cy cz ticks table faces curves points : List ℕ) (b : �
   -- ---- the entry
 
   module _ (number′ : ℕ) (e : number′ ≡ refusalOf j cx cy cz (sizesOf ticks table faces curves points m) table b m c) where
-    pub look-refused : (number′ ≡ 0 → ⊥) → Step before call (answer number′ 0 []) before
+    pub look-refused : (number′ ≡ 0 → ⊥) → CallStep before call (answer number′ 0 []) before
     look-refused n = step-refused before call number′ (rw (refusal-is, ← e) (or-first number′ _ n)) n
 
     pub ready : number′ ≡ 0 → Ready j cx cy cz ticks table faces curves points b m c
@@ -201,8 +201,8 @@ module _ (j : Job) (cx cy cz ticks table faces curves points : List ℕ) (b : �
       handed : (number : ℕ) → number ≡ cond (not (r .stands)) 8 0 → number ≡ refusal before call
       handed number q = rw (refusal-is, ← e) (or-then number′ _ number z (q ∙ ap (λ (t : Bool). cond (not t) 8 0) (L .stands)))
 
-      pub look-stray : not (r .stands) ≡ true → Step before call (answer 8 0 []) before
+      pub look-stray : not (r .stands) ≡ true → CallStep before call (answer 8 0 []) before
       look-stray p = step-refused before call 8 (handed 8 (rw p)) (λ h. omega (arith, h))
 
-      pub look-accepted : not (r .stands) ≡ false → Step before call (answer 0 (r .number) []) before
+      pub look-accepted : not (r .stands) ≡ false → CallStep before call (answer 0 (r .number) []) before
       look-accepted p = step-accepted before call 0 (handed 0 (rw p)) refl (answer 0 (r .number) []) before refl (ap (λ (x : ℕ). answer 0 x []) (L .number), refl)

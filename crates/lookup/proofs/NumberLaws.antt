@@ -44,10 +44,10 @@ even x o h = omega (arith, h)
 
 module _ (r : Block) (c : Triple) (t : hasIn r c ≡ true) where
   -- its place in the block
-  abbrev back : Triple
-  back = each (λ a. coord c a - 2 * coord (originOf r) a)
+  abbrev place-back : Triple
+  place-back = each (λ a. coord c a - 2 * coord (originOf r) a)
 
-  back-inside : Inside (sides (sizeOf r)) back
+  back-inside : Inside (sides (sizeOf r)) place-back
   back-inside X = omega (arith, in-low r c t X, in-high r c t X)
   back-inside Y = omega (arith, in-low r c t Y, in-high r c t Y)
   back-inside Z = omega (arith, in-low r c t Z, in-high r c t Z)
@@ -57,16 +57,16 @@ module _ (r : Block) (c : Triple) (t : hasIn r c ≡ true) where
   unfolding order localIn orderAt
   order-is =
       rw (
-        odd-at (sizeOf r) back back-inside X,
-        odd-at (sizeOf r) back back-inside Y,
-        odd-at (sizeOf r) back back-inside Z,
+        odd-at (sizeOf r) place-back back-inside X,
+        odd-at (sizeOf r) place-back back-inside Y,
+        odd-at (sizeOf r) place-back back-inside Z,
         even (c .x) (r .ox) (in-low r c t X),
         even (c .y) (r .oy) (in-low r c t Y),
         even (c .z) (r .oz) (in-low r c t Z),
       )
 
   -- The place in the volume of its place in the block is its own.
-  pub shift-back : shiftIn r back ≡ c
+  pub shift-back : shiftIn r place-back ≡ c
   unfolding shiftIn
   shift-back =
       let x : 2 * r .ox + (c .x - 2 * r .ox) ≡ c .x = omega (arith, in-low r c t X) in
@@ -169,5 +169,5 @@ module _ (j : Job) (cx cy cz ticks table faces curves points : List ℕ) (b : �
       record {
         sized = s;
         has = t;
-        inside = rw (shift-back r c t) at (shift-inside-told k b r T good hb (back r c t) (back-inside r c t));
+        inside = rw (shift-back r c t) at (shift-inside-told k b r T good hb (place-back r c t) (back-inside r c t));
       }

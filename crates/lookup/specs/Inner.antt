@@ -10,7 +10,7 @@ use Rattle.cells.specs.Box.{Triple, Axis, triple, coord, index}
 use Rattle.cells.specs.Extents.{Sized}
 use Rattle.cells.specs.Grid.{cells, sides}
 use Rattle.cutting.specs.Cutting.{Cutting, blocks, blockExtents}
-use Rattle.joiner.specs.Job.{Closed, State, Tables, tray, fits}
+use Rattle.joiner.specs.Job.{Closed, State, Tables, tray, lengthsFit}
 use Rattle.joiner.specs.Stages.{hasCell, local}
 use Rattle.joiner.specs.Declines.{lookStands, talliesFit}
 use Rattle.joiner.specs.Entries.{lookedUp, pointNumber}
@@ -19,7 +19,7 @@ use Rattle.blocks.specs.declared.Block.{Block}
 use Rattle.job.specs.declared.Job.{Job}
 use Rattle.job.specs.Jobs.{blockLengths, tablesOf, toldOf, jobOf}
 use Rattle.steps.specs.declared.Entry.{Entry}
-use Rattle.steps.specs.Steps.{orElse, openedOf, entryOf, mapStandsIn, numberStandsIn}
+use Rattle.steps.specs.Steps.{firstRefusal, openedOf, entryOf, mapStandsIn, numberStandsIn}
 use Rattle.lookup.specs.declared.Looked.{Looked}
 use Rattle.lookup.specs.declared.Sizes.{Sizes}
 use Rattle.lookup.specs.declared.Span.{Span}
@@ -46,16 +46,16 @@ sizesOf ticks blocks faces curves points m =
 unfoldable pub traysFit : ℕ → Triple → ℕ → ℕ → ℕ → Sizes → Bool
 traysFit count e faces curves points z =
     eqb (z .map) (cells e) &&
-    (fits (blockLengths count (z .ticks) (z .blocks)) &&
-    (fits (tray (z .«face_numbers») faces ∷ []) && (fits (tray (z .«curve_numbers») curves ∷ []) && fits (tray (z .«point_firsts») points ∷ []))))
+    (lengthsFit (blockLengths count (z .ticks) (z .blocks)) &&
+    (lengthsFit (tray (z .«face_numbers») faces ∷ []) && (lengthsFit (tray (z .«curve_numbers») curves ∷ []) && lengthsFit (tray (z .«point_firsts») points ∷ []))))
 
 -- 8 denies it: the tallies fit, and the map keeps to its entry.
 unfoldable pub standIn : Bool → Triple → Entry → ℕ → ℕ → List ℕ → Bool
 standIn tallies e d all-faces all-curves m = tallies && mapStandsIn e d all-faces all-curves m
 
 -- The refusal of a call that names a cell of a block: 6, 8 or none. 10 cannot stand, since nothing is added.
-unfoldable pub restOf : Job → List ℕ → List ℕ → List ℕ → Sizes → List ℕ → ℕ → List ℕ → ℕ
-restOf j cx cy cz z table b m =
+unfoldable pub laterRefusal : Job → List ℕ → List ℕ → List ℕ → Sizes → List ℕ → ℕ → List ℕ → ℕ
+laterRefusal j cx cy cz z table b m =
     let k : Cutting = toldOf j cx cy cz .cutting in
     cond (not (traysFit (blocks k) (blockExtents k b) (j .«face_entries») (j .«curve_entries») (j .«point_entries») z)) 6
     (cond (not (standIn (talliesFit (jobOf j cx cy cz)) (blockExtents k b) (entryOf table b) (j .«face_entries») (j .«curve_entries») m)) 8 0)
@@ -64,7 +64,7 @@ restOf j cx cy cz z table b m =
 unfoldable pub refusalOf : Job → List ℕ → List ℕ → List ℕ → Sizes → List ℕ → ℕ → List ℕ → Triple → ℕ
 refusalOf j cx cy cz z table b m c =
     let k : Cutting = toldOf j cx cy cz .cutting in
-    orElse (openedOf (jobOf j cx cy cz) Closed) (cond (not (ltb b (blocks k) && hasCell k b c)) 4 (restOf j cx cy cz z table b m))
+    firstRefusal (openedOf (jobOf j cx cy cz) Closed) (cond (not (ltb b (blocks k) && hasCell k b c)) 4 (laterRefusal j cx cy cz z table b m))
 
 -- The call is not refused before the cell is read.
 pub record Ready (j : Job) (cx cy cz ticks table faces curves points : List ℕ) (b : ℕ) (m : List ℕ) (c : Triple) : Type 0 where

@@ -34,10 +34,10 @@ ghost use Rattle.cutting.specs.Cutting.{goodCut, blocks};
 ghost use Rattle.joiner.specs.Stages.{hasCell};
 ghost use Rattle.joiner.specs.Calls.{look, answer};
 ghost use Rattle.joiner.specs.Declines.{talliesFit};
-ghost use Rattle.joiner.specs.Entries.{Step, bisect, pointNumber};
+ghost use Rattle.joiner.specs.Entries.{CallStep, bisect, pointNumber};
 ghost use Rattle.blocks.specs.Blocks.{anyExtents, cutOf, sizeOf};
 ghost use Rattle.job.specs.Jobs.{anyCuts, jobOf, stateOf};
-ghost use Rattle.lookup.specs.Inner.{lent, traysFit, standIn, restOf, refusalOf, Ready, halvedOf, finalIn, orderAt, HasPlace, numberIn, handedIn, lookIn, Looks};
+ghost use Rattle.lookup.specs.Inner.{lent, traysFit, standIn, laterRefusal, refusalOf, Ready, halvedOf, finalIn, orderAt, HasPlace, numberIn, handedIn, lookIn, Looks};
 
 // What a lookup answers: the number of its refusal, 0 for none, and the final number of the cell.
 pub struct Found {
@@ -112,7 +112,7 @@ fn rest(
 ) -> u32
     requires { ⌜ (goodCut (cutOf (job .nx) (job .ny) (job .nz) (now cx) (now cy) (now cz)) ≡ true)
         × (b < blocks (cutOf (job .nx) (job .ny) (job .nz) (now cx) (now cy) (now cz))) × (sizes .map ≡ length (now m)) ⌝ }
-    ensures { λ r. ⌜ r ≡ restOf job (now (cx .entry)) (now (cy .entry)) (now (cz .entry)) sizes (now (table .entry)) b (now (m .entry)) ⌝ }
+    ensures { λ r. ⌜ r ≡ laterRefusal job (now (cx .entry)) (now (cy .entry)) (now (cz .entry)) sizes (now (table .entry)) b (now (m .entry)) ⌝ }
 {
     let block = block_at(cx, cy, cz, b as usize);
     if !trays_fit(block_count(cx, cy, cz), block, job, sizes) {
@@ -377,7 +377,7 @@ pub fn lookup(
     y: u32,
     z: u32,
 ) -> Found
-    ensures { λ r. ⌜ Step
+    ensures { λ r. ⌜ CallStep
         (stateOf job (now (cx .entry)) (now (cy .entry)) (now (cz .entry))
         (lent (now (ticks .entry)) (now (blocks .entry)) (now («face_numbers» .entry)) (now («curve_numbers» .entry)) (now («point_firsts» .entry))))
         (look block (now (m .entry)) (triple x y z)) (answer (r .refusal) (r .number) [])

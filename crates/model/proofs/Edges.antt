@@ -10,14 +10,14 @@ use lib.ListN.{getD}
 use borrow.Author.Tests.{eq-eqb, eqb-false, eqb-true, ne-eqb, not-true}
 use Rattle.lists.specs.Lists.{keep}
 use Rattle.closure.specs.Joined.{Edge, edge}
-use Rattle.cells.specs.Grid.{order, up}
+use Rattle.cells.specs.Grid.{order, upperNeighbours}
 use Rattle.cells.specs.Row.{sameRow}
 use Rattle.labels.specs.Components.{ofOrder}
 use Rattle.cutting.specs.Cutting.{Cutting, blockExtents}
 use Rattle.joiner.specs.Job.{Kind, orderOf, Tables}
 use Rattle.joiner.specs.Stages.{products, shared}
 use Rattle.joiner.specs.Entries.{AtCrossing, AtSeam, joinedRow}
-use Rattle.lists.proofs.Cases.{and-both, and-left, and-right}
+use Rattle.lists.proofs.Cases.{and-both, and-first, and-second}
 use Rattle.lists.proofs.Lists.{keep-in, keep-out}
 use Rattle.cells.proofs.RowLaws.{row-same, same-row}
 use Rattle.joiner.proofs.Shared.{products-in, products-out}
@@ -50,13 +50,13 @@ module _ (k : Cutting) (t : Tables) (κ : Kind) (b c : ℕ) (m n : List ℕ) whe
       let r = Memᴰ·of-map (seamEdge t κ b c m n) (keep (atSeam k κ b m n) (shared k b c)) h in
       let d : Edge = r .0 in
       let q = keep-out (atSeam k κ b m n) (shared k b c) (r .1) in
-      let a : (not (eqb (getD m (d .from) 0) 0) && not (eqb (getD n (d .to) 0) 0)) ≡ true = and-right (eqb (order (blockExtents k b) (d .from)) (orderOf κ)) _ (q .1) in
+      let a : (not (eqb (getD m (d .from) 0) 0) && not (eqb (getD n (d .to) 0) 0)) ≡ true = and-second (eqb (order (blockExtents k b) (d .from)) (orderOf κ)) _ (q .1) in
       record {
         cell = d;
         both = q .0;
-        level = eqb-true _ _ (and-left (eqb (order (blockExtents k b) (d .from)) (orderOf κ)) (not (eqb (getD m (d .from) 0) 0) && not (eqb (getD n (d .to) 0) 0)) (q .1));
-        one = there-not (getD m (d .from) 0) (and-left (not (eqb (getD m (d .from) 0) 0)) (not (eqb (getD n (d .to) 0) 0)) a);
-        two = there-not (getD n (d .to) 0) (and-right (not (eqb (getD m (d .from) 0) 0)) (not (eqb (getD n (d .to) 0) 0)) a);
+        level = eqb-true _ _ (and-first (eqb (order (blockExtents k b) (d .from)) (orderOf κ)) (not (eqb (getD m (d .from) 0) 0) && not (eqb (getD n (d .to) 0) 0)) (q .1));
+        one = there-not (getD m (d .from) 0) (and-first (not (eqb (getD m (d .from) 0) 0)) (not (eqb (getD n (d .to) 0) 0)) a);
+        two = there-not (getD n (d .to) 0) (and-second (not (eqb (getD m (d .from) 0) 0)) (not (eqb (getD n (d .to) 0) 0)) a);
         x-is = ap (λ (z : Edge). z .from) (sym (r .2));
         y-is = ap (λ (z : Edge). z .to) (sym (r .2));
       }
@@ -75,10 +75,10 @@ module _ (k : Cutting) (t : Tables) (b : ℕ) (m : List ℕ) where
   at-out : (d : Edge) → atCrossing k t b m d ≡ true → (getD m (d .from) 0 ≢ 0) × (getD m (d .to) 0 ≢ 0) × (joinedRow k t b m (d .from) ≡ joinedRow k t b m (d .to))
   unfolding atCrossing
   at-out d e =
-      let a : (not (eqb (getD m (d .from) 0) 0) && not (eqb (getD m (d .to) 0) 0)) ≡ true = and-left (not (eqb (getD m (d .from) 0) 0) && not (eqb (getD m (d .to) 0) 0)) _ e in (
-        there-not (getD m (d .from) 0) (and-left (not (eqb (getD m (d .from) 0) 0)) (not (eqb (getD m (d .to) 0) 0)) a),
-        there-not (getD m (d .to) 0) (and-right (not (eqb (getD m (d .from) 0) 0)) (not (eqb (getD m (d .to) 0) 0)) a),
-        same-row _ _ (and-right (not (eqb (getD m (d .from) 0) 0) && not (eqb (getD m (d .to) 0) 0)) (sameRow (joinedRow k t b m (d .from)) (joinedRow k t b m (d .to))) e),
+      let a : (not (eqb (getD m (d .from) 0) 0) && not (eqb (getD m (d .to) 0) 0)) ≡ true = and-first (not (eqb (getD m (d .from) 0) 0) && not (eqb (getD m (d .to) 0) 0)) _ e in (
+        there-not (getD m (d .from) 0) (and-first (not (eqb (getD m (d .from) 0) 0)) (not (eqb (getD m (d .to) 0) 0)) a),
+        there-not (getD m (d .to) 0) (and-second (not (eqb (getD m (d .from) 0) 0)) (not (eqb (getD m (d .to) 0) 0)) a),
+        same-row _ _ (and-second (not (eqb (getD m (d .from) 0) 0) && not (eqb (getD m (d .to) 0) 0)) (sameRow (joinedRow k t b m (d .from)) (joinedRow k t b m (d .to))) e),
       )
 
   edges-in : (ps : List ℕ) (x y : ℕ) (r : AtCrossing k t b m x y) → List·Memᴰ (r .at) ps → List·Memᴰ (edge x y) (crossEdgesAt k t b m ps)
@@ -89,29 +89,29 @@ module _ (k : Cutting) (t : Tables) (b : ℕ) (m : List ℕ) where
       go : (r .at ≡ a) ⊎ List·Memᴰ (r .at) ps → (List·Memᴰ (r .at) ps → List·Memᴰ (edge x y) (crossEdgesAt k t b m ps)) → List·Memᴰ (edge x y) (crossEdgesAt k t b m (a ∷ ps))
       go (inl e) ih =
           Memᴰ·append-left (crossEdgesAt k t b m ps)
-          (subst (λ (z : Edge). List·Memᴰ z (map (crossEdge t b m) (keep (atCrossing k t b m) (products (up (blockExtents k b) a) (up (blockExtents k b) a)))))
+          (subst (λ (z : Edge). List·Memᴰ z (map (crossEdge t b m) (keep (atCrossing k t b m) (products (upperNeighbours (blockExtents k b) a) (upperNeighbours (blockExtents k b) a)))))
           (λ i. edge (sym (r .x-is) i) (sym (r .y-is) i))
           (Memᴰ·map (crossEdge t b m)
-          (keep-in (atCrossing k t b m) (products (up (blockExtents k b) a) (up (blockExtents k b) a))
-          (products-in _ _ (subst (λ (z : ℕ). List·Memᴰ (r .p) (up (blockExtents k b) z)) e (r .up-p)) (subst (λ (z : ℕ). List·Memᴰ (r .q) (up (blockExtents k b) z)) e (r .up-q)))
+          (keep-in (atCrossing k t b m) (products (upperNeighbours (blockExtents k b) a) (upperNeighbours (blockExtents k b) a))
+          (products-in _ _ (subst (λ (z : ℕ). List·Memᴰ (r .p) (upperNeighbours (blockExtents k b) z)) e (r .up-p)) (subst (λ (z : ℕ). List·Memᴰ (r .q) (upperNeighbours (blockExtents k b) z)) e (r .up-q)))
           (at-in (r .p) (r .q) (r .one) (r .two) (r .rows)))))
-      go (inr j) ih = Memᴰ·append-right (map (crossEdge t b m) (keep (atCrossing k t b m) (products (up (blockExtents k b) a) (up (blockExtents k b) a)))) (ih j)
+      go (inr j) ih = Memᴰ·append-right (map (crossEdge t b m) (keep (atCrossing k t b m) (products (upperNeighbours (blockExtents k b) a) (upperNeighbours (blockExtents k b) a)))) (ih j)
 
   edges-out : (ps : List ℕ) → ((p : ℕ) → List·Memᴰ p ps → List·Memᴰ p (ofOrder (blockExtents k b) 0)) → (e : Edge) → List·Memᴰ e (crossEdgesAt k t b m ps)
       → AtCrossing k t b m (e .from) (e .to)
   unfolding crossEdgesAt crossEdge
   edges-out [] w e h = absurd (List·Memᴰ·not-nil h)
   edges-out (a ∷ ps) w e h =
-      go (List·Memᴰ·append-cases (map (crossEdge t b m) (keep (atCrossing k t b m) (products (up (blockExtents k b) a) (up (blockExtents k b) a)))) h)
+      go (List·Memᴰ·append-cases (map (crossEdge t b m) (keep (atCrossing k t b m) (products (upperNeighbours (blockExtents k b) a) (upperNeighbours (blockExtents k b) a)))) h)
       (λ j. edges-out ps (λ p i. w p (List·Memᴰ·tail i)) e j)
     where
-      go : List·Memᴰ e (map (crossEdge t b m) (keep (atCrossing k t b m) (products (up (blockExtents k b) a) (up (blockExtents k b) a)))) ⊎ List·Memᴰ e (crossEdgesAt k t b m ps)
+      go : List·Memᴰ e (map (crossEdge t b m) (keep (atCrossing k t b m) (products (upperNeighbours (blockExtents k b) a) (upperNeighbours (blockExtents k b) a)))) ⊎ List·Memᴰ e (crossEdgesAt k t b m ps)
           → (List·Memᴰ e (crossEdgesAt k t b m ps) → AtCrossing k t b m (e .from) (e .to)) → AtCrossing k t b m (e .from) (e .to)
       go (inl j) ih =
-          let r = Memᴰ·of-map (crossEdge t b m) (keep (atCrossing k t b m) (products (up (blockExtents k b) a) (up (blockExtents k b) a))) j in
+          let r = Memᴰ·of-map (crossEdge t b m) (keep (atCrossing k t b m) (products (upperNeighbours (blockExtents k b) a) (upperNeighbours (blockExtents k b) a))) j in
           let d : Edge = r .0 in
-          let q = keep-out (atCrossing k t b m) (products (up (blockExtents k b) a) (up (blockExtents k b) a)) (r .1) in
-          let u = products-out (up (blockExtents k b) a) (up (blockExtents k b) a) (q .0) in
+          let q = keep-out (atCrossing k t b m) (products (upperNeighbours (blockExtents k b) a) (upperNeighbours (blockExtents k b) a)) (r .1) in
+          let u = products-out (upperNeighbours (blockExtents k b) a) (upperNeighbours (blockExtents k b) a) (q .0) in
           let v = at-out d (q .1) in
           record {
             at = a;

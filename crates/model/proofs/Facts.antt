@@ -13,17 +13,17 @@ use Rattle.refusals.specs.Refusals.{Refusal, bad-cut, stray-label, table-full, 
 use Rattle.cells.specs.Box.{Triple}
 use Rattle.cells.specs.Grid.{cells, order}
 use Rattle.labels.specs.Components.{largest}
-use Rattle.joiner.specs.Job.{Kind, Face, Curve, Point, orderOf, Job, State, Tray, tray, fits, countOf, fromOf, node}
+use Rattle.joiner.specs.Job.{Kind, Face, Curve, Point, orderOf, Job, State, Tray, tray, lengthsFit, countOf, fromOf, node}
 use Rattle.joiner.specs.Calls.{Call, full, mapsFit, overfull, placed}
 use Rattle.joiner.specs.Declines.{adds, counted, cutFor, declines, filled, lentTo, mapStands, refusal, standing, standsFor, stray, talliesFit, tallyFits}
-use Rattle.lists.proofs.Cases.{and-left, and-right, neither}
+use Rattle.lists.proofs.Cases.{and-first, and-second, neither}
 use Rattle.refusals.proofs.RefusalLaws.{given-none}
 use Rattle.labels.proofs.CountLaws.{largest-bound}
 
 pub record Facts (s : State) (c : Call) : Type 0 where
   pub cut : cutFor s c ≡ true
   pub at : placed (s .job .told .cutting) (s .job .numbered) c ≡ true
-  pub lent : fits (lentTo (s .job .told) (s .tables) c) ≡ true
+  pub lent : lengthsFit (lentTo (s .job .told) (s .tables) c) ≡ true
   pub tallies : talliesFit (s .job) ≡ true
   pub stands : standsFor s c ≡ true
   pub room : full (s .job .told .entries) (s .job .sofar) (adds s c) ≡ false
@@ -36,31 +36,31 @@ facts s c e =
     record {
       cut = not-false _ (n bad-cut);
       at = not-false _ (n no-such-place);
-      lent = and-right (mapsFit (s .job .told .cutting) c) (fits (lentTo (s .job .told) (s .tables) c)) (not-false _ (n wrong-tray));
-      tallies = and-left (talliesFit (s .job)) (standsFor s c) w;
-      stands = and-right (talliesFit (s .job)) (standsFor s c) w;
+      lent = and-second (mapsFit (s .job .told .cutting) c) (lengthsFit (lentTo (s .job .told) (s .tables) c)) (not-false _ (n wrong-tray));
+      tallies = and-first (talliesFit (s .job)) (standsFor s c) w;
+      stands = and-second (talliesFit (s .job)) (standsFor s c) w;
       room = n table-full;
     }
 
 -- ---- lengths
 
 -- The table at place i of a list of lent ones has its stated length.
-pub fits-at : (ts : List Tray) (i : ℕ) → fits ts ≡ true → getD ts i (tray 0 0) .has ≡ getD ts i (tray 0 0) .states
-unfolding fits
+pub fits-at : (ts : List Tray) (i : ℕ) → lengthsFit ts ≡ true → getD ts i (tray 0 0) .has ≡ getD ts i (tray 0 0) .states
+unfolding lengthsFit
 fits-at [] i e = refl
-fits-at (t ∷ ts) zero e = eqb-true _ _ (and-left (eqb (t .has) (t .states)) (fits ts) e)
-fits-at (t ∷ ts) (suc i) e = fits-at ts i (and-right (eqb (t .has) (t .states)) (fits ts) e)
+fits-at (t ∷ ts) zero e = eqb-true _ _ (and-first (eqb (t .has) (t .states)) (lengthsFit ts) e)
+fits-at (t ∷ ts) (suc i) e = fits-at ts i (and-second (eqb (t .has) (t .states)) (lengthsFit ts) e)
 
 -- ---- tallies
 
 pub tally-fits : (j : Job) → talliesFit j ≡ true → (κ : Kind) → j .sofar κ ≤ j .told .entries κ
 unfolding talliesFit tallyFits
-tally-fits j e κ = leb-true _ _ (and-left (leb (j .sofar κ) (j .told .entries κ)) (leb (j .numbered κ) (j .told .entries κ)) (go κ))
+tally-fits j e κ = leb-true _ _ (and-first (leb (j .sofar κ) (j .told .entries κ)) (leb (j .numbered κ) (j .told .entries κ)) (go κ))
   where
     go : (κ : Kind) → tallyFits j κ ≡ true
-    go Face = and-left (tallyFits j Face) (tallyFits j Curve && tallyFits j Point) e
-    go Curve = and-left (tallyFits j Curve) (tallyFits j Point) (and-right (tallyFits j Face) (tallyFits j Curve && tallyFits j Point) e)
-    go Point = and-right (tallyFits j Curve) (tallyFits j Point) (and-right (tallyFits j Face) (tallyFits j Curve && tallyFits j Point) e)
+    go Face = and-first (tallyFits j Face) (tallyFits j Curve && tallyFits j Point) e
+    go Curve = and-first (tallyFits j Curve) (tallyFits j Point) (and-second (tallyFits j Face) (tallyFits j Curve && tallyFits j Point) e)
+    go Point = and-second (tallyFits j Curve) (tallyFits j Point) (and-second (tallyFits j Face) (tallyFits j Curve && tallyFits j Point) e)
 
 -- Found points and new ones have room.
 pub points-room : (entries sofar more : Kind → ℕ) → full entries sofar more ≡ false → sofar Point + more Point ≤ entries Point
@@ -80,20 +80,20 @@ pub record Standing (s : State) (e : Triple) (b : ℕ) (m : List ℕ) (κ : Kind
 pub faces-stand : (s : State) (e : Triple) (b : ℕ) (m : List ℕ) → mapStands s e b m ≡ true → Standing s e b m Face
 unfolding mapStands counted standing
 faces-stand s e b m h =
-    let h1 = and-right (filled e m) _ h in
-    let h2 = and-right (counted (s .tables) e b m Face) _ h1 in
-    let h3 = and-right (counted (s .tables) e b m Curve) _ h2 in
-    let h4 = and-right (counted (s .tables) e b m Point) _ h3 in
-    record { most = leb-true _ _ (and-left (counted (s .tables) e b m Face) _ h1); behind = leb-true _ _ (and-left (standing s b Face) (standing s b Curve) h4) }
+    let h1 = and-second (filled e m) _ h in
+    let h2 = and-second (counted (s .tables) e b m Face) _ h1 in
+    let h3 = and-second (counted (s .tables) e b m Curve) _ h2 in
+    let h4 = and-second (counted (s .tables) e b m Point) _ h3 in
+    record { most = leb-true _ _ (and-first (counted (s .tables) e b m Face) _ h1); behind = leb-true _ _ (and-first (standing s b Face) (standing s b Curve) h4) }
 
 pub curves-stand : (s : State) (e : Triple) (b : ℕ) (m : List ℕ) → mapStands s e b m ≡ true → Standing s e b m Curve
 unfolding mapStands counted standing
 curves-stand s e b m h =
-    let h1 = and-right (filled e m) _ h in
-    let h2 = and-right (counted (s .tables) e b m Face) _ h1 in
-    let h3 = and-right (counted (s .tables) e b m Curve) _ h2 in
-    let h4 = and-right (counted (s .tables) e b m Point) _ h3 in
-    record { most = leb-true _ _ (and-left (counted (s .tables) e b m Curve) _ h2); behind = leb-true _ _ (and-right (standing s b Face) (standing s b Curve) h4) }
+    let h1 = and-second (filled e m) _ h in
+    let h2 = and-second (counted (s .tables) e b m Face) _ h1 in
+    let h3 = and-second (counted (s .tables) e b m Curve) _ h2 in
+    let h4 = and-second (counted (s .tables) e b m Point) _ h3 in
+    record { most = leb-true _ _ (and-first (counted (s .tables) e b m Curve) _ h2); behind = leb-true _ _ (and-second (standing s b Face) (standing s b Curve) h4) }
 
 pub node-in : (s : State) (e : Triple) (b : ℕ) (m : List ℕ) (κ : Kind) → Standing s e b m κ → (p : ℕ) → p < cells e → order e p ≡ orderOf κ → getD m p 0 ≢ 0
     → node (s .tables) κ b (getD m p 0) < s .job .told .entries κ

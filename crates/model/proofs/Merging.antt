@@ -8,7 +8,7 @@ use native.Mathlib.Omega.{arith}
 use lib.Dec.{ltb}
 use lib.ListN.{length, List·getD-eq-default}
 use borrow.Author.Tests.{ltb-false, ltb-true}
-use Rattle.closure.specs.Joined.{Edge, edge, join, joins}
+use Rattle.closure.specs.Joined.{Edge, edge, joinClasses, joins}
 use Rattle.union_find.specs.Links.{parent, root, soundAt, Rooted}
 use Rattle.joiner.specs.Entries.{Merged, Together, back, joined, same, via}
 use Rattle.lists.proofs.Cases.{by-test}
@@ -54,8 +54,8 @@ abbrev pub Within : List ℕ → List Edge → Type 0
 Within ls es = (e : Edge) → List·Memᴰ e es → (e .from < length ls) × (e .to < length ls)
 
 -- An id behind the table stays alone.
-join-past : (f : ℕ → ℕ) (a b n x : ℕ) → ((y : ℕ) → f y ≤ y) → f x ≡ x → n ≤ x → a < n → b < n → join f a b x ≡ x
-unfolding join
+join-past : (f : ℕ → ℕ) (a b n x : ℕ) → ((y : ℕ) → f y ≤ y) → f x ≡ x → n ≤ x → a < n → b < n → joinClasses f a b x ≡ x
+unfolding joinClasses
 join-past f a b n x low e h ha hb = merge-miss (f a) (f b) (f x) (λ q. absurd (omega (arith, low a, low b))) ∙ e
 
 joins-past : (es : List Edge) (f : ℕ → ℕ) (n x : ℕ) → ((y : ℕ) → f y ≤ y) → f x ≡ x → n ≤ x → ((e : Edge) → List·Memᴰ e es → (e .from < n) × (e .to < n))
@@ -64,7 +64,7 @@ unfolding joins
 joins-past [] f n x low e h w = e
 joins-past (d ∷ es) f n x low e h w =
     let i = w d (List·Memᴰ·head refl) in
-    joins-past es (join f (d .from) (d .to)) n x (join-low f (d .from) (d .to) low) (join-past f (d .from) (d .to) n x low e h (i .0) (i .1)) h
+    joins-past es (joinClasses f (d .from) (d .to)) n x (join-low f (d .from) (d .to) low) (join-past f (d .from) (d .to) n x low e h (i .0) (i .1)) h
     (λ c m. w c (List·Memᴰ·tail m))
 
 module _ (ls : List ℕ) (es : List Edge) (inside : Within ls es) where

@@ -16,15 +16,15 @@ use Rattle.joiner.specs.Job.{Kind, Face, Curve, Point, orderOf, Stage, Points, 
 use Rattle.joiner.specs.Stages.{nextAfter}
 use Rattle.joiner.specs.Calls.{Call, enrol, join, cross, point, look, reading}
 use Rattle.joiner.specs.Declines.{adds, mapStands, refusal, lentTo}
-use Rattle.joiner.specs.Entries.{AtCrossing, AtSeam, CrossingDone, Done, EnrolDone, Merged, NumberedKind, Opening, PointDone, SeamDone, Step, openRefusal, nothing, heads, leads, isOne, classOf, notAfter, rank, headOf, rowAt, rowFinal, finalFace}
-use Rattle.lists.proofs.Cases.{and-left, and-right, by-test, picked}
-use Rattle.cells.proofs.GridLaws.{upper}
+use Rattle.joiner.specs.Entries.{AtCrossing, AtSeam, CrossingDone, Done, EnrolDone, Merged, NumberedKind, Opening, PointDone, SeamDone, CallStep, openRefusal, nothing, heads, leads, isOne, classOf, notAfter, rank, headOf, rowAt, rowFinal, finalFace}
+use Rattle.lists.proofs.Cases.{and-first, and-second, by-test, picked}
+use Rattle.cells.proofs.GridLaws.{upper-neighbour}
 use Rattle.union_find.proofs.LinkLaws.{rooted-refl}
 use Rattle.labels.proofs.ComponentLaws.{of-order-out}
 use Rattle.cutting.proofs.CutLaws.{embed-order}
 use Rattle.joiner.proofs.Accepted.{stage-same}
 use Rattle.joiner.proofs.Shared.{seam-listed, shared-out}
-use Rattle.model.specs.Model.{after, answerOf, cleared, crossEdges, crossLast, crossTables, crossed, enrolTables, freshJob, given, instead, left, moved, numberKind, openedState, pointLast, pointTables, pointed, relinked, seamEdges, seamTables}
+use Rattle.model.specs.Model.{after, answerOf, cleared, crossEdges, crossLast, crossTables, crossed, enrolTables, freshJob, acceptedAnswer, instead, acceptedState, moved, numberKind, openedState, pointLast, pointTables, pointed, relinked, seamEdges, seamTables}
 use Rattle.model.proofs.Merging.{relinked-merged}
 use Rattle.model.proofs.Edges.{cross-edges-in, cross-edges-out, seam-edges-in, seam-edges-out}
 use Rattle.model.proofs.Numbers.{numbered-by}
@@ -32,8 +32,8 @@ use Rattle.model.proofs.Facts.{Facts, Standing, curves-stand, faces-sta
 
 -- ---- enrol
 
-enrol-done : (s : State) (b : ℕ) (m : List ℕ) → EnrolDone s b m (left s (enrol b m))
-unfolding left moved enrolTables adds overlay
+enrol-done : (s : State) (b : ℕ) (m : List ℕ) → EnrolDone s b m (acceptedState s (enrol b m))
+unfolding acceptedState moved enrolTables adds overlay
 enrol-done s b m = record {
   step = record { told = refl; ticks = refl; stage = refl; sofar = λ κ. refl };
   blocks = refl;
@@ -76,11 +76,11 @@ module _ (s : State) (b c : ℕ) (m n : List ℕ) (F : Facts s (join b c m n)) w
   unfolding blockTrays linkTrays
   curve-links-long = fits-at (lentTo (s .job .told) (s .tables) (join b c m n)) 3 (F .lent)
 
-  seam-done : SeamDone s b c m n (left s (join b c m n))
-  unfolding left moved seamTables
+  seam-done : SeamDone s b c m n (acceptedState s (join b c m n))
+  unfolding acceptedState moved seamTables
   seam-done =
-      let h : mapStands s (blockExtents k₁ b) b m ≡ true = and-left (mapStands s (blockExtents k₁ b) b m) _ (F .stands) in
-      let i : mapStands s (blockExtents k₁ c) c n ≡ true = and-left (mapStands s (blockExtents k₁ c) c n) _ (and-right (mapStands s (blockExtents k₁ b) b m) _ (F .stands)) in
+      let h : mapStands s (blockExtents k₁ b) b m ≡ true = and-first (mapStands s (blockExtents k₁ b) b m) _ (F .stands) in
+      let i : mapStands s (blockExtents k₁ c) c n ≡ true = and-first (mapStands s (blockExtents k₁ c) c n) _ (and-second (mapStands s (blockExtents k₁ b) b m) _ (F .stands)) in
       record {
         step = record { told = refl; ticks = refl; stage = refl; sofar = λ κ. refl };
         blocks = refl;
@@ -122,14 +122,14 @@ module _ (s : State) (b : ℕ) (m : List ℕ) (F : Facts s (cross b m)) where
       record { curve-links = at 3; face-firsts = at 7; face-listed = at 8; curve-firsts = at 12; curve-listed = at 13 }
 
   cross-stands : Standing s (blockExtents k₂ b) b m Curve
-  cross-stands = curves-stand s (blockExtents k₂ b) b m (and-left (mapStands s (blockExtents k₂ b) b m) _ (F .stands))
+  cross-stands = curves-stand s (blockExtents k₂ b) b m (and-first (mapStands s (blockExtents k₂ b) b m) _ (F .stands))
 
   -- the places that a crossing joins are in their table
   pub cross-inside : (x y : ℕ) → AtCrossing k₂ (s .tables) b m x y → (x < length (s .tables .links Curve)) × (y < length (s .tables .links Curve))
   cross-inside x y r =
       let o = of-order-out (blockExtents k₂ b) 0 (r .cell) in
-      let u = upper (blockExtents k₂ b) (r .at) (o .0) (r .up-p) in
-      let v = upper (blockExtents k₂ b) (r .at) (o .0) (r .up-q) in
+      let u = upper-neighbour (blockExtents k₂ b) (r .at) (o .0) (r .up-p) in
+      let v = upper-neighbour (blockExtents k₂ b) (r .at) (o .0) (r .up-q) in
       let l : s .job .told .entries Curve ≤ length (s .tables .links Curve) = omega (arith, cross-sizes .curve-links) in (
         omega (arith, r .x-is, node-in s (blockExtents k₂ b) b m Curve cross-stands (r .p) (u .within) (u .higher ∙ ap suc (o .1)) (r .one), l),
         omega (arith, r .y-is, node-in s (blockExtents k₂ b) b m Curve cross-stands (r .q) (v .within) (v .higher ∙ ap suc (o .1)) (r .two), l),
@@ -182,8 +182,8 @@ module _ (s : State) (b : ℕ) (m : List ℕ) (F : Facts s (cross b m)) where
     points = record { numbered = refl; numbers = refl; firsts = refl; listed = refl };
   }
 
-  cross-done : CrossingDone s b m (left s (cross b m))
-  unfolding left crossed
+  cross-done : CrossingDone s b m (acceptedState s (cross b m))
+  unfolding acceptedState crossed
   cross-done = picked (CrossingDone s b m) (sameStage stage₂ Points) (crossLast s b m) (moved s (cross b m) (crossTables s b m) (s .job .numbered)) cross-last cross-before
 
 -- ---- point
@@ -239,14 +239,14 @@ module _ (s : State) (b : ℕ) (m : List ℕ) (F : Facts s (point b m)) where
     before = λ _. record { numbered = refl; numbers = refl; firsts = refl; listed = refl };
   }
 
-  point-done : PointDone s b m (left s (point b m))
-  unfolding left pointed
+  point-done : PointDone s b m (acceptedState s (point b m))
+  unfolding acceptedState pointed
   point-done = picked (PointDone s b m) (sameStage stage₃ Closed) (pointLast s b m) (moved s (point b m) (pointTables s b m) (s .job .numbered)) point-last point-before
 
 -- ---- one call
 
-done-by : (s : State) (c : Call) → Facts s c → Done s c (given s c) (left s c)
-unfolding given left
+done-by : (s : State) (c : Call) → Facts s c → Done s c (acceptedAnswer s c) (acceptedState s c)
+unfolding acceptedAnswer acceptedState
 done-by s (enrol b m) F = (refl, enrol-done s b m)
 done-by s (join b c m n) F = (refl, seam-done s b c m n F)
 done-by s (cross b m) F = (refl, cross-done s b m F)
@@ -254,8 +254,8 @@ done-by s (point b m) F = (refl, point-done s b m F)
 done-by s (look b m c) F = (refl, refl)
 done-by s (reading κ n) F = (refl, refl)
 
-given-none : (s : State) (c : Call) → given s c .refusal ≡ 0
-unfolding given
+given-none : (s : State) (c : Call) → acceptedAnswer s c .refusal ≡ 0
+unfolding acceptedAnswer
 given-none s (enrol b m) = refl
 given-none s (join b c m n) = refl
 given-none s (cross b m) = refl
@@ -264,7 +264,7 @@ given-none s (look b m c) = refl
 given-none s (reading κ n) = refl
 
 -- Every call in every state has an outcome.
-pub model-step : (s : State) (c : Call) → Step s c (answerOf s c) (after s c)
+pub model-step : (s : State) (c : Call) → CallStep s c (answerOf s c) (after s c)
 unfolding answerOf after
 model-step s c =
     by-test (eqb (refusal s c) 0)

@@ -9,7 +9,7 @@ use lib.ListN.{getD, length, set}
 use Rattle.lists.specs.Lists.{tabulate, keep, zeros, overlay}
 use Rattle.closure.specs.Joined.{Edge, edge, joins}
 use Rattle.union_find.specs.Links.{root}
-use Rattle.cells.specs.Grid.{order, up}
+use Rattle.cells.specs.Grid.{order, upperNeighbours}
 use Rattle.cells.specs.Row.{sameRow}
 use Rattle.labels.specs.Components.{ofOrder}
 use Rattle.cutting.specs.Cutting.{Cutting, blockExtents, embed}
@@ -46,7 +46,7 @@ crossEdge t b m d = edge (node t Curve b (getD m (d .from) 0)) (node t Curve b (
 unfoldable pub crossEdgesAt : Cutting → Tables → ℕ → List ℕ → List ℕ → List Edge
 crossEdgesAt k t b m [] = []
 crossEdgesAt k t b m (p ∷ ps) =
-    map (crossEdge t b m) (keep (atCrossing k t b m) (products (up (blockExtents k b) p) (up (blockExtents k b) p))) ++ crossEdgesAt k t b m ps
+    map (crossEdge t b m) (keep (atCrossing k t b m) (products (upperNeighbours (blockExtents k b) p) (upperNeighbours (blockExtents k b) p))) ++ crossEdgesAt k t b m ps
 
 unfoldable pub crossEdges : Cutting → Tables → ℕ → List ℕ → List Edge
 crossEdges k t b m = crossEdgesAt k t b m (ofOrder (blockExtents k b) 0)
@@ -177,28 +177,28 @@ pointed s b m =
 -- ---- one call
 
 -- What an accepted call answers and leaves.
-unfoldable pub given : State → Call → Answer
-given s (enrol b m) = answer 0 0 []
-given s (join b c m n) = answer 0 0 []
-given s (cross b m) = answer 0 0 []
-given s (point b m) = answer 0 0 []
-given s (look b m c) = answer 0 (lookedUp s b m c) []
-given s (reading κ n) = answer 0 0 (rowTaken s κ n)
+unfoldable pub acceptedAnswer : State → Call → Answer
+acceptedAnswer s (enrol b m) = answer 0 0 []
+acceptedAnswer s (join b c m n) = answer 0 0 []
+acceptedAnswer s (cross b m) = answer 0 0 []
+acceptedAnswer s (point b m) = answer 0 0 []
+acceptedAnswer s (look b m c) = answer 0 (lookedUp s b m c) []
+acceptedAnswer s (reading κ n) = answer 0 0 (rowTaken s κ n)
 
-unfoldable pub left : State → Call → State
-left s (enrol b m) = moved s (enrol b m) (enrolTables s b m) (s .job .numbered)
-left s (join b c m n) = moved s (join b c m n) (seamTables s b c m n) (s .job .numbered)
-left s (cross b m) = crossed s b m
-left s (point b m) = pointed s b m
-left s (look b m c) = s
-left s (reading κ n) = s
+unfoldable pub acceptedState : State → Call → State
+acceptedState s (enrol b m) = moved s (enrol b m) (enrolTables s b m) (s .job .numbered)
+acceptedState s (join b c m n) = moved s (join b c m n) (seamTables s b c m n) (s .job .numbered)
+acceptedState s (cross b m) = crossed s b m
+acceptedState s (point b m) = pointed s b m
+acceptedState s (look b m c) = s
+acceptedState s (reading κ n) = s
 
 -- "A refusal returns its number, a job handed in as it was .. and changes no lent slice and no job."
 unfoldable pub answerOf : State → Call → Answer
-answerOf s c = cond (eqb (refusal s c) 0) (given s c) (answer (refusal s c) 0 [])
+answerOf s c = cond (eqb (refusal s c) 0) (acceptedAnswer s c) (answer (refusal s c) 0 [])
 
 unfoldable pub after : State → Call → State
-after s c = cond (eqb (refusal s c) 0) (left s c) s
+after s c = cond (eqb (refusal s c) 0) (acceptedState s c) s
 
 -- ---- opening
 

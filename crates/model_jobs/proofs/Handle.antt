@@ -7,27 +7,27 @@ use lib.ListN.{getD}
 use lib.Dec.{eqb}
 use mathlib.Core.Bool.{not}
 use Rattle.lists.specs.Lists.{consecutive, tabulate, zeros, overlay, keep}
-use Rattle.closure.specs.Joined.{merge, join as join-roots, joins, rep}
+use Rattle.closure.specs.Joined.{mergeIds, joinClasses as join-roots, joins, rep}
 use Rattle.closure.specs.Numbered.{countBelow, leader, numberBy, label}
-use Rattle.closure.specs.Trees.{climb, rootOf}
+use Rattle.closure.specs.Trees.{ancestor, rootOf}
 use Rattle.union_find.specs.Links.{parent, root, soundAt, soundWay, soundFrom, soundBelow, soundRange, stepsWithin, depth, depths, soundWays}
 use Rattle.refusals.specs.Refusals.{number as refusal-number, table, first, givenBy, standsIn}
 use Rattle.cells.specs.Box.{stride, volume, index, place}
 use Rattle.cells.specs.Extents.{isExtent, offSize}
-use Rattle.cells.specs.Grid.{sides, cells, odd, order, voxel, along, up}
+use Rattle.cells.specs.Grid.{sides, cells, parity, order, voxel, along, upperNeighbours}
 use Rattle.cells.specs.Row.{rowOf, row, occupied, active}
-use Rattle.labels.specs.Number.{pairs, alike, edgesAt, below, edges, activeOf, number, numberedAt, numbered as numbered-of, codeAt, mapDown, labels}
+use Rattle.labels.specs.Number.{pairs, alike, edgesAt, orderBelow, edges, activeOf, number, numberedAt, numbered as numbered-of, codeAt, mapDown, labels}
 use Rattle.labels.specs.Components.{ofOrder, largest, component, rowAtFirst, componentRow}
-use Rattle.cutting.specs.Cutting.{ascends, cutList, intervals, low, high, blockSides, blocks, goodCut, interval, origin, blockExtents, embed, blockCodes, follows, level, seam}
-use Rattle.joiner.specs.Job.{stageNumber, sameStage, ticked, countOf, fromOf, node, keyOf, firstAt, fits, blockTrays, linkTrays, foundTrays, numberTrays, firstTrays, listedTrays, kindTrays, Seam, Crossing, Points, Closed}
+use Rattle.cutting.specs.Cutting.{ascends, cutList, intervals, lowEnd, highEnd, blockSides, blocks, goodCut, interval, origin, blockExtents, embed, blockCodes, follows, sameInterval, seam}
+use Rattle.joiner.specs.Job.{stageNumber, sameStage, ticked, countOf, fromOf, node, keyOf, firstAt, lengthsFit, blockTrays, linkTrays, foundTrays, numberTrays, firstTrays, listedTrays, kindTrays, Seam, Crossing, Points, Closed}
 use Rattle.joiner.specs.Stages.{hasOn, hasCell, products, shared, seams, enrolStep, seamAxis, seamStep, crossingStep, pointStep, stepsOf, nextStage, finished, nextAfter}
 use Rattle.joiner.specs.Calls.{differs, overfull, full, Call, enrol, join, cross, point}
 use Rattle.joiner.specs.Declines.{tallyFits, talliesFit, filled, counted, standing, mapStands, waysStand, linksStand, allLinksStand, rowsStand, numberStands, curvesStand, handedStands, lookStands, lastCrossing, stray, finalOf, finalRow, pointCells, adds, declines, refusal}
-use Rattle.joiner.specs.Entries.{allTrays, openDeclines, openRefusal, nothing, through, joinedRow, firstOf, enrolledKey, shifted, enrolledRow, blockEntry, notAfter, classOf, isOne, leads, heads, rank, headOf, rowAt, finalFace, rowFinal}
+use Rattle.joiner.specs.Entries.{allTrays, openDeclines, openRefusal, nothing, throughLinks, joinedRow, firstOf, enrolledKey, shifted, enrolledRow, blockEntry, notAfter, classOf, isOne, leads, heads, rank, headOf, rowAt, finalFace, rowFinal}
 use Rattle.model_jobs.specs.Large.{handle}
-use Rattle.model.specs.Model.{relinked, atSeam, seamEdge, seamEdges, atCrossing, crossEdge, crossEdgesAt, crossEdges, instead, numberKind, moved, enrolTables, seamTables, crossTables, crossLast, crossed, pointTables, pointLast, pointed, left, after, freshJob, cleared, openedState}
+use Rattle.model.specs.Model.{relinked, atSeam, seamEdge, seamEdges, atCrossing, crossEdge, crossEdgesAt, crossEdges, instead, numberKind, moved, enrolTables, seamTables, crossTables, crossLast, crossed, pointTables, pointLast, pointed, acceptedState, after, freshJob, cleared, openedState}
 use Rattle.model.specs.Scripts.{run, used, mapOf, steps, held, outcome, joinedUp}
-use Rattle.model_jobs.proofs.Images.{Image, three, imageOf, stateOf, runImage, accepted-left, run-by-image}
+use Rattle.model_jobs.proofs.Images.{Image, threeKinds, imageOf, stateOf, runImage, accepted-left, run-by-image}
 
 -- ---- the maps of the two blocks
 
@@ -68,18 +68,18 @@ map₁ =
     2 ∷ 0 ∷ 2 ∷ 0 ∷ 2 ∷ 4 ∷ 3 ∷ 0 ∷ 3 ∷ []
 
 map₀-is : mapOf (handle .told .cutting) (handle .codes) 0 ≡ map₀
-unfolding handle map₀ consecutive tabulate merge join-roots joins rep countBelow leader numberBy label stride volume index place sides cells odd order voxel along up rowOf row occupied active pairs alike edgesAt below edges activeOf number numberedAt numbered-of codeAt mapDown labels intervals low high blockSides interval origin blockExtents blockCodes mapOf
+unfolding handle map₀ consecutive tabulate mergeIds join-roots joins rep countBelow leader numberBy label stride volume index place sides cells parity order voxel along upperNeighbours rowOf row occupied active pairs alike edgesAt orderBelow edges activeOf number numberedAt numbered-of codeAt mapDown labels intervals lowEnd highEnd blockSides interval origin blockExtents blockCodes mapOf
 map₀-is = refl
 
 map₁-is : mapOf (handle .told .cutting) (handle .codes) 1 ≡ map₁
-unfolding handle map₁ consecutive tabulate merge join-roots joins rep countBelow leader numberBy label stride volume index place sides cells odd order voxel along up rowOf row occupied active pairs alike edgesAt below edges activeOf number numberedAt numbered-of codeAt mapDown labels intervals low high blockSides interval origin blockExtents blockCodes mapOf
+unfolding handle map₁ consecutive tabulate mergeIds join-roots joins rep countBelow leader numberBy label stride volume index place sides cells parity order voxel along upperNeighbours rowOf row occupied active pairs alike edgesAt orderBelow edges activeOf number numberedAt numbered-of codeAt mapDown labels intervals lowEnd highEnd blockSides interval origin blockExtents blockCodes mapOf
 map₁-is = refl
 
 calls : List Call
 calls = enrol 0 map₀ ∷ enrol 1 map₁ ∷ join 0 1 map₀ map₁ ∷ cross 0 map₀ ∷ cross 1 map₁ ∷ point 0 map₀ ∷ point 1 map₁ ∷ []
 
 steps-are : steps (handle .told .cutting) (mapOf (handle .told .cutting) (handle .codes)) ≡ calls
-unfolding calls handle steps consecutive blocks blockSides intervals volume seams products seam follows level interval place
+unfolding calls handle steps consecutive blocks blockSides intervals volume seams products seam follows sameInterval interval place
 steps-are = ap₂ {C = List Call} (λ (l u : List ℕ). enrol 0 l ∷ enrol 1 u ∷ join 0 1 l u ∷ cross 0 l ∷ cross 1 u ∷ point 0 l ∷ point 1 u ∷ []) map₀-is map₁-is
 
 -- ---- the state after each stage
@@ -145,36 +145,36 @@ closed = record {
 }
 
 enrols : runImage (handle .told) (imageOf (openedState (handle .told) (used (handle .told)))) (enrol 0 map₀ ∷ enrol 1 map₁ ∷ []) ≡ enrolled
-unfolding handle map₀ map₁ enrolled consecutive tabulate zeros overlay merge join-roots joins climb rootOf parent root refusal-number table first givenBy standsIn stride volume index place isExtent offSize sides cells odd order along up rowOf row occupied ofOrder largest component rowAtFirst componentRow ascends cutList intervals low high blockSides blocks goodCut interval origin blockExtents embed follows level seam stageNumber sameStage ticked countOf fromOf node keyOf firstAt fits blockTrays linkTrays foundTrays numberTrays firstTrays listedTrays kindTrays hasOn hasCell products shared seams enrolStep seamAxis seamStep crossingStep pointStep stepsOf nextStage finished nextAfter differs overfull full tallyFits talliesFit filled counted standing mapStands waysStand linksStand allLinksStand soundAt soundWay soundFrom soundBelow soundRange stepsWithin depth depths soundWays rowsStand numberStands curvesStand handedStands lookStands lastCrossing stray finalOf finalRow pointCells adds declines refusal allTrays openDeclines openRefusal nothing through joinedRow firstOf enrolledKey shifted enrolledRow blockEntry notAfter classOf isOne leads heads rank headOf rowAt finalFace rowFinal relinked atSeam seamEdge seamEdges atCrossing crossEdge crossEdgesAt crossEdges instead numberKind moved enrolTables seamTables crossTables crossLast crossed pointTables pointLast pointed left after freshJob cleared openedState used three imageOf stateOf runImage
+unfolding handle map₀ map₁ enrolled consecutive tabulate zeros overlay mergeIds join-roots joins ancestor rootOf parent root refusal-number table first givenBy standsIn stride volume index place isExtent offSize sides cells parity order along upperNeighbours rowOf row occupied ofOrder largest component rowAtFirst componentRow ascends cutList intervals lowEnd highEnd blockSides blocks goodCut interval origin blockExtents embed follows sameInterval seam stageNumber sameStage ticked countOf fromOf node keyOf firstAt lengthsFit blockTrays linkTrays foundTrays numberTrays firstTrays listedTrays kindTrays hasOn hasCell products shared seams enrolStep seamAxis seamStep crossingStep pointStep stepsOf nextStage finished nextAfter differs overfull full tallyFits talliesFit filled counted standing mapStands waysStand linksStand allLinksStand soundAt soundWay soundFrom soundBelow soundRange stepsWithin depth depths soundWays rowsStand numberStands curvesStand handedStands lookStands lastCrossing stray finalOf finalRow pointCells adds declines refusal allTrays openDeclines openRefusal nothing throughLinks joinedRow firstOf enrolledKey shifted enrolledRow blockEntry notAfter classOf isOne leads heads rank headOf rowAt finalFace rowFinal relinked atSeam seamEdge seamEdges atCrossing crossEdge crossEdgesAt crossEdges instead numberKind moved enrolTables seamTables crossTables crossLast crossed pointTables pointLast pointed acceptedState after freshJob cleared openedState used threeKinds imageOf stateOf runImage
 enrols = refl
 
 seam-accepted : refusal (stateOf (handle .told) enrolled) (join 0 1 map₀ map₁) ≡ 0
-unfolding handle map₀ map₁ enrolled consecutive refusal-number table first givenBy standsIn stride volume index place isExtent offSize sides cells odd order along up rowOf occupied ofOrder largest ascends cutList intervals low high blockSides blocks goodCut interval origin blockExtents embed follows level seam stageNumber sameStage ticked countOf fromOf node fits blockTrays linkTrays foundTrays numberTrays firstTrays listedTrays kindTrays hasOn hasCell products shared seams enrolStep seamAxis seamStep crossingStep pointStep stepsOf finished differs overfull full tallyFits talliesFit filled counted standing mapStands waysStand linksStand allLinksStand soundAt soundWay soundFrom soundBelow soundRange stepsWithin depth depths soundWays rowsStand numberStands curvesStand handedStands lookStands lastCrossing stray finalOf finalRow pointCells adds declines refusal stateOf parent
+unfolding handle map₀ map₁ enrolled consecutive refusal-number table first givenBy standsIn stride volume index place isExtent offSize sides cells parity order along upperNeighbours rowOf occupied ofOrder largest ascends cutList intervals lowEnd highEnd blockSides blocks goodCut interval origin blockExtents embed follows sameInterval seam stageNumber sameStage ticked countOf fromOf node lengthsFit blockTrays linkTrays foundTrays numberTrays firstTrays listedTrays kindTrays hasOn hasCell products shared seams enrolStep seamAxis seamStep crossingStep pointStep stepsOf finished differs overfull full tallyFits talliesFit filled counted standing mapStands waysStand linksStand allLinksStand soundAt soundWay soundFrom soundBelow soundRange stepsWithin depth depths soundWays rowsStand numberStands curvesStand handedStands lookStands lastCrossing stray finalOf finalRow pointCells adds declines refusal stateOf parent
 seam-accepted = refl
 
-seam-left : imageOf (left (stateOf (handle .told) enrolled) (join 0 1 map₀ map₁)) ≡ seamed
-unfolding handle map₀ map₁ enrolled seamed consecutive tabulate overlay merge join-roots joins climb rootOf parent root stride volume index place sides cells odd order along up rowOf row occupied ofOrder largest component rowAtFirst componentRow intervals low high blockSides blocks interval origin blockExtents embed follows level seam stageNumber sameStage ticked fromOf node keyOf firstAt products shared seams enrolStep seamAxis seamStep crossingStep pointStep stepsOf nextStage finished nextAfter finalOf finalRow pointCells adds through joinedRow firstOf enrolledKey shifted enrolledRow blockEntry notAfter classOf isOne leads heads rank headOf rowAt finalFace rowFinal relinked atSeam seamEdge seamEdges atCrossing crossEdge crossEdgesAt crossEdges instead numberKind moved enrolTables seamTables crossTables crossLast crossed pointTables pointLast pointed left three imageOf stateOf
+seam-left : imageOf (acceptedState (stateOf (handle .told) enrolled) (join 0 1 map₀ map₁)) ≡ seamed
+unfolding handle map₀ map₁ enrolled seamed consecutive tabulate overlay mergeIds join-roots joins ancestor rootOf parent root stride volume index place sides cells parity order along upperNeighbours rowOf row occupied ofOrder largest component rowAtFirst componentRow intervals lowEnd highEnd blockSides blocks interval origin blockExtents embed follows sameInterval seam stageNumber sameStage ticked fromOf node keyOf firstAt products shared seams enrolStep seamAxis seamStep crossingStep pointStep stepsOf nextStage finished nextAfter finalOf finalRow pointCells adds throughLinks joinedRow firstOf enrolledKey shifted enrolledRow blockEntry notAfter classOf isOne leads heads rank headOf rowAt finalFace rowFinal relinked atSeam seamEdge seamEdges atCrossing crossEdge crossEdgesAt crossEdges instead numberKind moved enrolTables seamTables crossTables crossLast crossed pointTables pointLast pointed acceptedState threeKinds imageOf stateOf
 seam-left = refl
 
 crosses : runImage (handle .told) seamed (cross 0 map₀ ∷ cross 1 map₁ ∷ []) ≡ crossed-over
-unfolding handle map₀ map₁ seamed crossed-over consecutive tabulate overlay merge join-roots joins climb rootOf parent root refusal-number table first givenBy standsIn stride volume index place isExtent offSize sides cells odd order along up rowOf row occupied ofOrder largest component rowAtFirst componentRow ascends cutList intervals low high blockSides blocks goodCut interval origin blockExtents embed follows level seam stageNumber sameStage ticked countOf fromOf node keyOf firstAt fits blockTrays linkTrays foundTrays numberTrays firstTrays listedTrays kindTrays hasOn hasCell products shared seams enrolStep seamAxis seamStep crossingStep pointStep stepsOf nextStage finished nextAfter differs overfull full tallyFits talliesFit filled counted standing mapStands waysStand linksStand allLinksStand soundAt soundWay soundFrom soundBelow soundRange stepsWithin depth depths soundWays rowsStand numberStands curvesStand handedStands lookStands lastCrossing stray finalOf finalRow pointCells adds declines refusal through joinedRow firstOf enrolledKey shifted enrolledRow blockEntry notAfter classOf isOne leads heads rank headOf rowAt finalFace rowFinal relinked atSeam seamEdge seamEdges atCrossing crossEdge crossEdgesAt crossEdges instead numberKind moved enrolTables seamTables crossTables crossLast crossed pointTables pointLast pointed left after three imageOf stateOf runImage
+unfolding handle map₀ map₁ seamed crossed-over consecutive tabulate overlay mergeIds join-roots joins ancestor rootOf parent root refusal-number table first givenBy standsIn stride volume index place isExtent offSize sides cells parity order along upperNeighbours rowOf row occupied ofOrder largest component rowAtFirst componentRow ascends cutList intervals lowEnd highEnd blockSides blocks goodCut interval origin blockExtents embed follows sameInterval seam stageNumber sameStage ticked countOf fromOf node keyOf firstAt lengthsFit blockTrays linkTrays foundTrays numberTrays firstTrays listedTrays kindTrays hasOn hasCell products shared seams enrolStep seamAxis seamStep crossingStep pointStep stepsOf nextStage finished nextAfter differs overfull full tallyFits talliesFit filled counted standing mapStands waysStand linksStand allLinksStand soundAt soundWay soundFrom soundBelow soundRange stepsWithin depth depths soundWays rowsStand numberStands curvesStand handedStands lookStands lastCrossing stray finalOf finalRow pointCells adds declines refusal throughLinks joinedRow firstOf enrolledKey shifted enrolledRow blockEntry notAfter classOf isOne leads heads rank headOf rowAt finalFace rowFinal relinked atSeam seamEdge seamEdges atCrossing crossEdge crossEdgesAt crossEdges instead numberKind moved enrolTables seamTables crossTables crossLast crossed pointTables pointLast pointed acceptedState after threeKinds imageOf stateOf runImage
 crosses = refl
 
 -- "Keeping only active points for the crossing pass" would join nothing.
 active-only : relinked (getD (seamed .links) 1 [])
     (crossEdgesAt (handle .told .cutting) (stateOf (handle .told) seamed .tables) 1 map₁ (keep (λ p. not (eqb (getD map₁ p 0) 0)) (ofOrder (blockExtents (handle .told .cutting) 1) 0)))
     ≡ getD (seamed .links) 1 []
-unfolding handle map₁ seamed consecutive tabulate merge join-roots joins climb rootOf parent root stride volume place sides cells odd order along up rowOf ofOrder intervals low high blockSides blocks interval blockExtents fromOf node products through joinedRow relinked atCrossing crossEdge crossEdgesAt crossEdges stateOf
+unfolding handle map₁ seamed consecutive tabulate mergeIds join-roots joins ancestor rootOf parent root stride volume place sides cells parity order along upperNeighbours rowOf ofOrder intervals lowEnd highEnd blockSides blocks interval blockExtents fromOf node products throughLinks joinedRow relinked atCrossing crossEdge crossEdgesAt crossEdges stateOf
 active-only = refl
 
 points : runImage (handle .told) crossed-over (point 0 map₀ ∷ point 1 map₁ ∷ []) ≡ closed
-unfolding handle map₀ map₁ crossed-over closed consecutive tabulate overlay merge join-roots joins climb rootOf parent root refusal-number table first givenBy standsIn stride volume index place isExtent offSize sides cells odd order along up rowOf row occupied ofOrder largest component rowAtFirst componentRow ascends cutList intervals low high blockSides blocks goodCut interval origin blockExtents embed follows level seam stageNumber sameStage ticked countOf fromOf node keyOf firstAt fits blockTrays linkTrays foundTrays numberTrays firstTrays listedTrays kindTrays hasOn hasCell products shared seams enrolStep seamAxis seamStep crossingStep pointStep stepsOf nextStage finished nextAfter differs overfull full tallyFits talliesFit filled counted standing mapStands waysStand linksStand allLinksStand soundAt soundWay soundFrom soundBelow soundRange stepsWithin depth depths soundWays rowsStand numberStands curvesStand handedStands lookStands lastCrossing stray finalOf finalRow pointCells adds declines refusal through joinedRow firstOf enrolledKey shifted enrolledRow blockEntry notAfter classOf isOne leads heads rank headOf rowAt finalFace rowFinal relinked atSeam seamEdge seamEdges atCrossing crossEdge crossEdgesAt crossEdges instead numberKind moved enrolTables seamTables crossTables crossLast crossed pointTables pointLast pointed left after three imageOf stateOf runImage
+unfolding handle map₀ map₁ crossed-over closed consecutive tabulate overlay mergeIds join-roots joins ancestor rootOf parent root refusal-number table first givenBy standsIn stride volume index place isExtent offSize sides cells parity order along upperNeighbours rowOf row occupied ofOrder largest component rowAtFirst componentRow ascends cutList intervals lowEnd highEnd blockSides blocks goodCut interval origin blockExtents embed follows sameInterval seam stageNumber sameStage ticked countOf fromOf node keyOf firstAt lengthsFit blockTrays linkTrays foundTrays numberTrays firstTrays listedTrays kindTrays hasOn hasCell products shared seams enrolStep seamAxis seamStep crossingStep pointStep stepsOf nextStage finished nextAfter differs overfull full tallyFits talliesFit filled counted standing mapStands waysStand linksStand allLinksStand soundAt soundWay soundFrom soundBelow soundRange stepsWithin depth depths soundWays rowsStand numberStands curvesStand handedStands lookStands lastCrossing stray finalOf finalRow pointCells adds declines refusal throughLinks joinedRow firstOf enrolledKey shifted enrolledRow blockEntry notAfter classOf isOne leads heads rank headOf rowAt finalFace rowFinal relinked atSeam seamEdge seamEdges atCrossing crossEdge crossEdgesAt crossEdges instead numberKind moved enrolTables seamTables crossTables crossLast crossed pointTables pointLast pointed acceptedState after threeKinds imageOf stateOf runImage
 points = refl
 
 -- ---- the whole
 
 opened-told : openedState (handle .told) (used (handle .told)) .job .told ≡ handle .told
-unfolding handle consecutive tabulate zeros refusal-number table first givenBy standsIn volume isExtent offSize ascends cutList intervals blockSides blocks goodCut fits blockTrays linkTrays foundTrays numberTrays firstTrays listedTrays kindTrays allTrays openDeclines openRefusal nothing freshJob cleared openedState used
+unfolding handle consecutive tabulate zeros refusal-number table first givenBy standsIn volume isExtent offSize ascends cutList intervals blockSides blocks goodCut lengthsFit blockTrays linkTrays foundTrays numberTrays firstTrays listedTrays kindTrays allTrays openDeclines openRefusal nothing freshJob cleared openedState used
 opened-told = refl
 
 runs : runImage (handle .told) (imageOf (openedState (handle .told) (used (handle .told)))) calls ≡ closed

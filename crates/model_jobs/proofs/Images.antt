@@ -9,9 +9,9 @@ use borrow.Author.Tests.{eq-eqb, eqb-false, eqb-true}
 use Rattle.joiner.specs.Job.{Kind, Face, Curve, Point, Stage, Told, State, column}
 use Rattle.joiner.specs.Calls.{Call, enrol, join, cross, point, look, reading, Answer}
 use Rattle.joiner.specs.Declines.{refusal}
-use Rattle.joiner.specs.Entries.{Done, Step}
+use Rattle.joiner.specs.Entries.{Done, CallStep}
 use Rattle.lists.proofs.Cases.{by-test}
-use Rattle.model.specs.Model.{after, answerOf, left}
+use Rattle.model.specs.Model.{after, answerOf, acceptedState}
 use Rattle.model.specs.Scripts.{run}
 use Rattle.model.proofs.Steps.{model-step}
 
@@ -29,23 +29,23 @@ pub record Image : Type 0 where
   pub firsts : List (List ℕ)
   pub listed : List (List ℕ)
 
-unfoldable pub three : {A : Type 0} → (Kind → A) → List A
-three f = f Face ∷ f Curve ∷ f Point ∷ []
+unfoldable pub threeKinds : {A : Type 0} → (Kind → A) → List A
+threeKinds f = f Face ∷ f Curve ∷ f Point ∷ []
 
 unfoldable pub imageOf : State → Image
 imageOf s =
     record {
       stage = s .job .stage;
-      sofar = three (s .job .sofar);
-      numbered = three (s .job .numbered);
+      sofar = threeKinds (s .job .sofar);
+      numbered = threeKinds (s .job .numbered);
       ticks = s .tables .ticks;
       blocks = s .tables .blocks;
-      links = three (s .tables .links);
-      keys = three (s .tables .keys);
-      rows = three (s .tables .rows);
-      numbers = three (s .tables .numbers);
-      firsts = three (s .tables .firsts);
-      listed = three (s .tables .listed);
+      links = threeKinds (s .tables .links);
+      keys = threeKinds (s .tables .keys);
+      rows = threeKinds (s .tables .rows);
+      numbers = threeKinds (s .tables .numbers);
+      firsts = threeKinds (s .tables .firsts);
+      listed = threeKinds (s .tables .listed);
     }
 
 unfoldable pub stateOf : Told → Image → State
@@ -71,8 +71,8 @@ runImage o i (c ∷ cs) = runImage o (imageOf (after (stateOf o i) c)) cs
 
 -- ---- an image is the whole state
 
-three-back : {A : Type 0} (f : Kind → A) (d : A) (κ : Kind) → getD (three f) (column κ) d ≡ f κ
-unfolding three
+three-back : {A : Type 0} (f : Kind → A) (d : A) (κ : Kind) → getD (threeKinds f) (column κ) d ≡ f κ
+unfolding threeKinds
 three-back f d Face = refl
 three-back f d Curve = refl
 three-back f d Point = refl
@@ -109,12 +109,12 @@ told-kept s (point b m) a t d = d .1 .step .told
 told-kept s (look b m c) a t d = ap (λ (z : State). z .job .told) (d .1)
 told-kept s (reading κ n) a t d = ap (λ (z : State). z .job .told) (d .1)
 
-pub step-told : (s : State) (c : Call) (a : Answer) (t : State) → Step s c a t → t .job .told ≡ s .job .told
+pub step-told : (s : State) (c : Call) (a : Answer) (t : State) → CallStep s c a t → t .job .told ≡ s .job .told
 step-told s c a t S =
     by-test (eqb (refusal s c) 0) (λ e. told-kept s c a t (S .accepted (eqb-true _ _ e)))
     (λ e. ap (λ (z : State). z .job .told) (S .declined (eqb-false (refusal s c) 0 e) .1))
 
-pub accepted-left : (s : State) (c : Call) → refusal s c ≡ 0 → after s c ≡ left s c
+pub accepted-left : (s : State) (c : Call) → refusal s c ≡ 0 → after s c ≡ acceptedState s c
 unfolding after
 accepted-left s c e = rw (eq-eqb (refusal s c) 0 e)
 

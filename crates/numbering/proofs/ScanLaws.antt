@@ -13,7 +13,7 @@ use lib.ListN.{length, getD, set, drop}
 use lib.Seq.{drop-cons}
 use borrow.Author.Tests.{eqb-true, eqb-false, eq-eqb, ne-eqb, ltb-true, ltb-false}
 use Rattle.lists.specs.Lists.{consecutive, tabulate, keep}
-use Rattle.lists.proofs.Cases.{by-test, and-left}
+use Rattle.lists.proofs.Cases.{by-test, and-first}
 use Rattle.lists.proofs.Lists.{tabulate-snoc, front-more, front-all, front-done, front-rest}
 use Rattle.closure.specs.Joined.{rep}
 use Rattle.closure.specs.Numbered.{countBelow, leader, label}
@@ -160,7 +160,7 @@ module _ (e : Triple) (j : ℕ) (m : List ℕ) where
             let c : act q ≡ true = sym (rep-active e m j q) ∙ ap act s ∙ rep-active e m j p ∙ b in
             let n : getD (front p) q 0 ≡ label f act p =
             front-done p m (numberedAt e j m) q (omega (arith, parent-low links p))
-            ∙ rw (and-left (eqb (order e q) j) (active e m q) c) (label-same f act leaders q p c b s) in
+            ∙ rw (and-first (eqb (order e q) j) (active e m q) c) (label-same f act leaders q p c b s) in
             rw (same, a, k) (stored n (sym (count-miss (leader f act) p (rw (u, a) (ne-eqb (f p) p (λ z. d (own-root links p (roots p ∙ z))))))))
 
         own : scanAt e links p (numberedTo p) ≡ numberedTo (suc p)

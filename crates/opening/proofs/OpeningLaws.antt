@@ -9,7 +9,7 @@ use borrow.Author.Tests.{not-false}
 use Rattle.lists.specs.Lists.{zeros}
 use Rattle.refusals.specs.Refusals.{number, table, first, givenBy, standsIn}
 use Rattle.cutting.specs.Cutting.{Cutting, intervals, blocks, goodCut}
-use Rattle.joiner.specs.Job.{Face, Curve, Point, Told, Tables, fits, blockTrays, linkTrays, foundTrays, numberTrays, firstTrays, listedTrays, kindTrays}
+use Rattle.joiner.specs.Job.{Face, Curve, Point, Told, Tables, lengthsFit, blockTrays, linkTrays, foundTrays, numberTrays, firstTrays, listedTrays, kindTrays}
 use Rattle.joiner.specs.Entries.{allTrays, openDeclines, openRefusal, Opening}
 use Rattle.blocks.proofs.BlockLaws.{good-few}
 use Rattle.blocks.proofs.CodeLaws.{blocks-are}
@@ -47,16 +47,16 @@ sizesOf t =
     }
 
 module _ (o : Told) (t : Tables) where
-  fitting-is : fits (allTrays o t) ≡ tablesFit (blocks (o .cutting)) (o .entries Face) (o .entries Curve) (o .entries Point) (sizesOf t)
+  fitting-is : lengthsFit (allTrays o t) ≡ tablesFit (blocks (o .cutting)) (o .entries Face) (o .entries Curve) (o .entries Point) (sizesOf t)
   unfolding allTrays blockTrays linkTrays kindTrays foundTrays numberTrays firstTrays listedTrays tablesFit kindsFit
   fitting-is =
       let faces = kindTrays o t Face in
       let curves = kindTrays o t Curve in
       let points = kindTrays o t Point in
       fits-append (blockTrays o t) (linkTrays o t ++ faces ++ curves ++ points) ∙
-      ap (λ (b : Bool). fits (blockTrays o t) && b)
+      ap (λ (b : Bool). lengthsFit (blockTrays o t) && b)
       (fits-append (linkTrays o t) (faces ++ curves ++ points) ∙
-      ap (λ (b : Bool). fits (linkTrays o t) && b) (fits-append faces (curves ++ points) ∙ ap (λ (b : Bool). fits faces && b) (fits-append curves points)))
+      ap (λ (b : Bool). lengthsFit (linkTrays o t) && b) (fits-append faces (curves ++ points) ∙ ap (λ (b : Bool). lengthsFit faces && b) (fits-append curves points)))
 
   pub refusal-is : openRefusal o t ≡ refusalOf o (sizesOf t)
   unfolding openRefusal openDeclines givenBy first table number standsIn refusalOf

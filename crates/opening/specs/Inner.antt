@@ -4,7 +4,7 @@ use mathlib.Core.Bool.{Bool, not, cond, _&&_}
 use Prim.Native.Nat.{ℕ}
 use Rattle.cells.specs.Extents.{offSize}
 use Rattle.cutting.specs.Cutting.{blocks, goodCut}
-use Rattle.joiner.specs.Job.{Face, Curve, Point, Told, fits}
+use Rattle.joiner.specs.Job.{Face, Curve, Point, Told, lengthsFit}
 use Rattle.job.specs.declared.Job.{Job}
 use Rattle.job.specs.Jobs.{blockLengths, linkLengths, kindLengths}
 use Rattle.opening.specs.declared.Opened.{Opened}
@@ -13,14 +13,14 @@ use Rattle.opening.specs.declared.Sizes.{Sizes}
 -- The tables of faces, curves and points, by their entries.
 unfoldable pub kindsFit : ℕ → ℕ → ℕ → Sizes → Bool
 kindsFit faces curves points z =
-    fits (kindLengths 2 faces (z .«face_keys») (z .«face_rows») (z .«face_numbers») (z .«face_firsts») (z .«face_listed»)) &&
-    (fits (kindLengths 4 curves (z .«curve_keys») (z .«curve_rows») (z .«curve_numbers») (z .«curve_firsts») (z .«curve_listed»)) &&
-    fits (kindLengths 6 points (z .«point_keys») (z .«point_rows») (z .«point_numbers») (z .«point_firsts») (z .«point_listed»)))
+    lengthsFit (kindLengths 2 faces (z .«face_keys») (z .«face_rows») (z .«face_numbers») (z .«face_firsts») (z .«face_listed»)) &&
+    (lengthsFit (kindLengths 4 curves (z .«curve_keys») (z .«curve_rows») (z .«curve_numbers») (z .«curve_firsts») (z .«curve_listed»)) &&
+    lengthsFit (kindLengths 6 points (z .«point_keys») (z .«point_rows») (z .«point_numbers») (z .«point_firsts») (z .«point_listed»)))
 
--- 6 denies it: `fits` of the joiner's `allTrays`.
+-- 6 denies it: `lengthsFit` of the joiner's `allTrays`.
 unfoldable pub tablesFit : ℕ → ℕ → ℕ → ℕ → Sizes → Bool
 tablesFit b faces curves points z =
-    fits (blockLengths b (z .ticks) (z .blocks)) && (fits (linkLengths faces curves (z .«face_links») (z .«curve_links»)) && kindsFit faces curves points z)
+    lengthsFit (blockLengths b (z .ticks) (z .blocks)) && (lengthsFit (linkLengths faces curves (z .«face_links») (z .«curve_links»)) && kindsFit faces curves points z)
 
 -- The refusal, 0 for none: the joiner's `openRefusal`.
 unfoldable pub refusalOf : Told → Sizes → ℕ

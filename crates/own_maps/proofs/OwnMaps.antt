@@ -9,7 +9,7 @@ use native.Mathlib.Omega.{arith}
 use lib.Dec.{eqb}
 use lib.ListN.{length, getD}
 use borrow.Author.Tests.{eqb-true, eqb-false, not-false}
-use Rattle.lists.proofs.Cases.{and-left, neither}
+use Rattle.lists.proofs.Cases.{and-first, neither}
 use Rattle.refusals.specs.Refusals.{Refusal, wrong-tray, blank-voxel, number, standsIn}
 use Rattle.refusals.proofs.RefusalLaws.{given-none}
 use Rattle.cells.specs.Box.{Triple, volume}
@@ -32,7 +32,7 @@ label-labelling e codes m w r m′ w′ promise fine =
     let n : (d : Refusal) → standsIn (declines e codes (length m) (length w)) d ≡ false =
     given-none (standsIn (declines e codes (length m) (length w))) .0 (sym (label-refusal e codes m w r m′ w′ promise) ∙ fine) in
     let many : length codes ≡ volume e =
-    eqb-true _ _ (and-left (eqb (length codes) (volume e)) (eqb (length m) (cells e) && eqb (length w) (cells e)) (not-false _ (n wrong-tray))) in
+    eqb-true _ _ (and-first (eqb (length codes) (volume e)) (eqb (length m) (cells e) && eqb (length w) (cells e)) (not-false _ (n wrong-tray))) in
     record {
       codes = codes;
       many = many;

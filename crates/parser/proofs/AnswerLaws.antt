@@ -10,7 +10,7 @@ use lib.Dec.{eqb, leb, ltb}
 use lib.ListN.{length, take, length-set}
 use lib.Seq.{take-all}
 use borrow.Author.Tests.{lt-leb, le-leb, eq-eqb, ne-eqb, eqb-true, not-true}
-use Rattle.lists.proofs.Cases.{by-test, and-left, and-right}
+use Rattle.lists.proofs.Cases.{by-test, and-first, and-second}
 use Rattle.refusals.specs.Refusals.{number}
 use Rattle.cells.specs.Box.{Triple, triple, volume}
 use Rattle.cells.specs.Codes.{blank}
@@ -19,7 +19,7 @@ use Rattle.extents.proofs.SizeLaws.{sized-of}
 use Rattle.parser.specs.declared.Scanned.{Scanned}
 use Rattle.parser.specs.declared.Task.{Task}
 use Rattle.parser.specs.Scanning.{State, state, counts, stored, closed}
-use Rattle.parser.specs.Reading.{Outcome, outcome, taskOf, extentsSeen, offExtents, whole, lineNumber, taskSeen, finished}
+use Rattle.parser.specs.Reading.{Outcome, outcome, taskOf, extentsSeen, offExtents, wholeText, lineNumber, taskSeen, finished}
 
 -- ---- the form
 
@@ -27,32 +27,32 @@ pub off-told : (s : Scanned) (t : Bool) → 3 ≤ s .count → t ≡ offSize 8 (
 unfolding offExtents
 off-told s t h e = rw (le-leb 3 (s .count) h) e
 
-pub whole-broken : (s : Scanned) → s .broken ≡ true → false ≡ whole s
-unfolding whole
+pub whole-broken : (s : Scanned) → s .broken ≡ true → false ≡ wholeText s
+unfolding wholeText
 whole-broken s b = rw b
 
 module _ (s : Scanned) (b : s .broken ≡ false) where
-  pub whole-few : s .count < 3 → false ≡ whole s
-  unfolding whole
+  pub whole-few : s .count < 3 → false ≡ wholeText s
+  unfolding wholeText
   whole-few h = rw (b, lt-leb 3 (s .count) h)
 
   module _ (h : 3 ≤ s .count) (t : Bool) (i : t ≡ offSize 8 (extentsSeen s)) where
-    pub whole-off : t ≡ true → false ≡ whole s
-    unfolding whole
+    pub whole-off : t ≡ true → false ≡ wholeText s
+    unfolding wholeText
     whole-off g = rw (b, le-leb 3 (s .count) h, sym i ∙ g)
 
-    pub whole-rest : (n v : ℕ) → t ≡ false → n ≡ s .count - 3 → v ≡ volume (extentsSeen s) → eqb n v ≡ whole s
-    unfolding whole
+    pub whole-rest : (n v : ℕ) → t ≡ false → n ≡ s .count - 3 → v ≡ volume (extentsSeen s) → eqb n v ≡ wholeText s
+    unfolding wholeText
     whole-rest n v g p q = rw (b, le-leb 3 (s .count) h, sym i ∙ g, p, q)
 
 -- Extents of a text that has its form.
-pub whole-sized : (s : Scanned) → whole s ≡ true → Sized 8 (extentsSeen s)
-unfolding whole
+pub whole-sized : (s : Scanned) → wholeText s ≡ true → Sized 8 (extentsSeen s)
+unfolding wholeText
 whole-sized s t =
     let o = not (offSize 8 (extentsSeen s)) in
     let n = eqb (s .count - 3) (volume (extentsSeen s)) in
     let k = leb 3 (s .count) in
-    sized-of 8 (extentsSeen s) (not-true (offSize 8 (extentsSeen s)) (and-left o n (and-right k (o && n) (and-right (not (s .broken)) (k && (o && n)) t))))
+    sized-of 8 (extentsSeen s) (not-true (offSize 8 (extentsSeen s)) (and-first o n (and-second k (o && n) (and-second (not (s .broken)) (k && (o && n)) t))))
 
 pub front-all : (d : List ℕ) (n : ℕ) (r : Bool) → length d ≤ n → r ≡ blank d → r ≡ blank (take n d)
 front-all d n r h e = rw (take-all n d h) e
@@ -76,7 +76,7 @@ rungs-none false true false z = record { size = refl; form = refl; full = refl }
 rungs-none false false b z = absurd (omega arith)
 
 module _ (s : Scanned) (d : List ℕ) where
-  pub ladder : lineNumber s d ≡ rungs (offExtents s) (whole s) (blank (take (s .count - 3) d))
+  pub ladder : lineNumber s d ≡ rungs (offExtents s) (wholeText s) (blank (take (s .count - 3) d))
   unfolding lineNumber number
   ladder = refl
 
@@ -84,7 +84,7 @@ module _ (s : Scanned) (d : List ℕ) where
     pub number-size : o ≡ true → 1 ≡ lineNumber s d
     number-size t = sym (ladder ∙ rw (sym i ∙ t))
 
-    module _ (t : o ≡ false) (w : Bool) (j : w ≡ whole s) where
+    module _ (t : o ≡ false) (w : Bool) (j : w ≡ wholeText s) where
       pub number-form : w ≡ false → 11 ≡ lineNumber s d
       number-form g = sym (ladder ∙ rw (sym i ∙ t, sym j ∙ g))
 
@@ -96,8 +96,8 @@ module _ (s : Scanned) (d : List ℕ) where
         number-none h = sym (ladder ∙ rw (sym i ∙ t, sym j ∙ g, ← k, sym l ∙ h))
 
   -- Where no line is printed, the extents are small.
-  pub small : lineNumber s d ≡ 0 → Sized 8 (extentsSeen s)
-  small z = whole-sized s (rungs-none (offExtents s) (whole s) (blank (take (s .count - 3) d)) (sym ladder ∙ z) .form)
+  pub small-extents : lineNumber s d ≡ 0 → Sized 8 (extentsSeen s)
+  small-extents z = whole-sized s (rungs-none (offExtents s) (wholeText s) (blank (take (s .count - 3) d)) (sym ladder ∙ z) .form)
 
   module _ (n : ℕ) (i : n ≡ lineNumber s d) where
     pub task-refused : n ≢ 0 → Task.PrintRefused n ≡ taskSeen s d
@@ -134,7 +134,7 @@ task-sized : (s : Scanned) (d : List ℕ) → Sized 8 (extentsNamed (taskSeen s 
 unfolding taskSeen taskOf
 task-sized s d =
     by-test (eqb (lineNumber s d) 0)
-    (λ t. rw t (small s d (eqb-true _ 0 t)))
+    (λ t. rw t (small-extents s d (eqb-true _ 0 t)))
     (λ t. rw t (record { x-low = omega arith; x-high = omega arith; y-low = omega arith; y-high = omega arith; z-low = omega arith; z-high = omega arith }))
 
 pub listed-small : (st : State) (r : Task) (d : List ℕ) (x y z : ℕ) → outcome r d ≡ finished st → r ≡ Task.ListVolume x y z → Sized 8 (triple x y z)

@@ -10,7 +10,7 @@ use lib.Dec.{leb, ltb}
 use lib.ListN.{length, getD, drop, set, drop-of-length-le}
 use lib.Seq.{drop-cons, set-out}
 use borrow.Author.Tests.{lt-leb, le-leb, lt-ltb, le-ltb, eq-eqb, ne-eqb, ltb-true}
-use Rattle.lists.proofs.Cases.{and-left, and-right}
+use Rattle.lists.proofs.Cases.{and-first, and-second}
 use Rattle.text.specs.Words.{gap, digit}
 use Rattle.parser.specs.declared.Scanned.{Scanned}
 use Rattle.parser.specs.Scanning.{State, state, capped, spells, counts, counted, lost, grown, stored, closed, step, after}
@@ -53,15 +53,15 @@ unfolding stored
 stored-out k v d h o = rw (le-ltb k 3 h, set-out d (k - 3) v o)
 
 module _ (s : Scanned) (b : Bool) (i : b ≡ counts s) where
-  fits : b ≡ true → (ltb (s .value) (2 ^ 32) && ltb (s .count) 515) ≡ true
+  fits-both : b ≡ true → (ltb (s .value) (2 ^ 32) && ltb (s .count) 515) ≡ true
   unfolding counts
-  fits t = and-right (not (s .broken)) (ltb (s .value) (2 ^ 32) && ltb (s .count) 515) (sym i ∙ t)
+  fits-both t = and-second (not (s .broken)) (ltb (s .value) (2 ^ 32) && ltb (s .count) 515) (sym i ∙ t)
 
   pub counts-few : b ≡ true → s .count < 515
-  counts-few t = ltb-true (s .count) 515 (and-right (ltb (s .value) (2 ^ 32)) (ltb (s .count) 515) (fits t))
+  counts-few t = ltb-true (s .count) 515 (and-second (ltb (s .value) (2 ^ 32)) (ltb (s .count) 515) (fits-both t))
 
   pub counts-fits : b ≡ true → s .value < 2 ^ 32
-  counts-fits t = ltb-true (s .value) (2 ^ 32) (and-left (ltb (s .value) (2 ^ 32)) (ltb (s .count) 515) (fits t))
+  counts-fits t = ltb-true (s .value) (2 ^ 32) (and-first (ltb (s .value) (2 ^ 32)) (ltb (s .count) 515) (fits-both t))
 
 module _ (s : Scanned) (d : List ℕ) where
   pub closed-none : s .size ≡ 0 → state s d ≡ closed s d

@@ -10,18 +10,18 @@ use lib.Dec.{eqb, leb, ltb, eqb·zero-suc, eqb·suc-suc}
 use lib.ListN.{length, take, drop, set, length-map, length-drop}
 use lib.Seq.{sets, sets-eq, take-nil, take-all, take-at}
 use borrow.Author.Tests.{le-leb, lt-leb, lt-ltb, le-ltb, ne-eqb, eqb-true, eqb-false, ltb-true, ltb-false}
-use Rattle.lists.proofs.Cases.{by-test, not-not, and-left, and-right, and-both}
+use Rattle.lists.proofs.Cases.{by-test, not-twice, and-first, and-second, and-both}
 use Rattle.refusals.specs.Refusals.{number, table, first, givenBy, standsIn}
 use Rattle.cells.specs.Box.{volume}
 use Rattle.cells.specs.Codes.{blank}
 use Rattle.cells.specs.Extents.{offSize}
 use Rattle.cells.proofs.ExtentLaws.{volume-high}
 use Rattle.extents.proofs.SizeLaws.{sized-of}
-use Rattle.text.specs.Words.{wordsOf, digits, isNumber, spelled}
+use Rattle.text.specs.Words.{wordsOf, allDigits, isNumber, spelled}
 use Rattle.text.specs.Request.{numbers, word, readable, extentsIn, codesIn, formed, declinesText, textRefusal, askedExtents, askedCodes}
 use Rattle.parser.specs.declared.Scanned.{Scanned}
 use Rattle.parser.specs.Scanning.{State, state, scanned, begun, extent, lost, stored, after}
-use Rattle.parser.specs.Reading.{Outcome, outcome, taskOf, extentsSeen, offExtents, whole, lineNumber, taskSeen, finished}
+use Rattle.parser.specs.Reading.{Outcome, outcome, taskOf, extentsSeen, offExtents, wholeText, lineNumber, taskSeen, finished}
 use Rattle.parser.proofs.WordLaws.{wordEnds, afterWords, walked}
 use Rattle.parser.proofs.AnswerLaws.{rungs, rungs-none, ladder}
 
@@ -49,7 +49,7 @@ leading-all (w ∷ ws) = by-test (isNumber w) (λ t. rw t (eqb·suc-suc (length 
 leading-same : (ws : List (List ℕ)) → numbers ws ≡ true → leading ws ≡ ws
 unfolding leading numbers
 leading-same [] n = refl
-leading-same (w ∷ ws) n = rw (and-left (isNumber w) (numbers ws) n) (ap (λ l. w ∷ l) (leading-same ws (and-right (isNumber w) (numbers ws) n)))
+leading-same (w ∷ ws) n = rw (and-first (isNumber w) (numbers ws) n) (ap (λ l. w ∷ l) (leading-same ws (and-second (isNumber w) (numbers ws) n)))
 
 -- ---- words that end
 
@@ -74,14 +74,14 @@ module _ (k x y z : ℕ) (d w : List ℕ) (ws : List (List ℕ)) where
       rw (n, lt-ltb k 515 h, ne-eqb k 0 (λ e. omega arith), ne-eqb k 1 (λ e. omega arith), ne-eqb k 2 (λ e. omega arith), le-ltb k 3 g)
 
 -- The words that count, where k have counted.
-abbrev kept : ℕ → List (List ℕ) → List (List ℕ)
-kept k ws = take (515 - k) (leading ws)
+abbrev countedWords : ℕ → List (List ℕ) → List (List ℕ)
+countedWords k ws = take (515 - k) (leading ws)
 
 abbrev ending : ℕ → ℕ → ℕ → ℕ → List ℕ → List (List ℕ) → State
 ending k x y z d ws =
-    state (scanned (k + length (kept k ws)) (not (eqb (length (kept k ws)) (length ws))) 0 0 x y z) (sets d (k - 3) (map spelled (kept k ws)))
+    state (scanned (k + length (countedWords k ws)) (not (eqb (length (countedWords k ws)) (length ws))) 0 0 x y z) (sets d (k - 3) (map spelled (countedWords k ws)))
 
-kept-none : (k : ℕ) (w : List ℕ) (ws : List (List ℕ)) → (isNumber w && ltb k 515) ≡ false → kept k (w ∷ ws) ≡ []
+kept-none : (k : ℕ) (w : List ℕ) (ws : List (List ℕ)) → (isNumber w && ltb k 515) ≡ false → countedWords k (w ∷ ws) ≡ []
 unfolding leading
 kept-none k w ws t =
     by-test (isNumber w)
@@ -89,7 +89,7 @@ kept-none k w ws t =
     let e : 515 - k ≡ 0 = omega arith in rw e)
     (λ n. rw n (take-nil (515 - k)))
 
-kept-more : (k : ℕ) (w : List ℕ) (ws : List (List ℕ)) → isNumber w ≡ true → k < 515 → kept k (w ∷ ws) ≡ w ∷ kept (k + 1) ws
+kept-more : (k : ℕ) (w : List ℕ) (ws : List (List ℕ)) → isNumber w ≡ true → k < 515 → countedWords k (w ∷ ws) ≡ w ∷ countedWords (k + 1) ws
 unfolding leading
 kept-more k w ws n h = let e : 515 - k ≡ suc (515 - (k + 1)) = omega arith in rw (n, e)
 
@@ -99,15 +99,15 @@ unfolding afterWords leading
 codes-end k x y z d [] g = rw (take-nil {A = List ℕ} (515 - k), add-zero k)
 codes-end k x y z d (w ∷ ws) g =
     by-test (isNumber w && ltb k 515)
-    (λ t. let n = and-left (isNumber w) (ltb k 515) t in
-    let h = ltb-true k 515 (and-right (isNumber w) (ltb k 515) t) in
+    (λ t. let n = and-first (isNumber w) (ltb k 515) t in
+    let h = ltb-true k 515 (and-second (isNumber w) (ltb k 515) t) in
     code-here k x y z d w ws g h n ∙ codes-end (k + 1) x y z (set d (k - 3) (spelled w)) ws (omega arith) ∙ more n h)
     (λ t. lost-here k x y z d w ws t ∙ rw (kept-none k w ws t, add-zero k, eqb·zero-suc (length ws)))
   where
     more : isNumber w ≡ true → k < 515 → ending (k + 1) x y z (set d (k - 3) (spelled w)) ws ≡ ending k x y z d (w ∷ ws)
     more n h =
         let e : k + 1 - 3 ≡ suc (k - 3) = omega arith in
-        let l = length (kept (k + 1) ws) in
+        let l = length (countedWords (k + 1) ws) in
         let i : k + 1 + l ≡ k + suc l = omega arith in
         rw (kept-more k w ws n h, e, i, eqb·suc-suc l (length ws))
 
@@ -135,7 +135,7 @@ unread st s d ws e h r n =
 form-plain : (n : Bool) (l m v : ℕ) → (m ≡ v → eqb l m ≡ n) → (not (not (eqb l m)) && eqb (3 + l - 3) v) ≡ (n && eqb m v)
 form-plain n l m v q =
     let e : 3 + l - 3 ≡ l = omega arith in
-    rw (not-not (eqb l m), e)
+    rw (not-twice (eqb l m), e)
     (by-test (eqb m v)
     (λ t. rw (t, and-true n, ← eqb-true m v t, and-self (eqb l m)) (q (eqb-true m v t)))
     (λ t. rw (t, and-false n) (by-test (eqb l m) (λ u. rw u (ne-eqb l v (λ i. eqb-false m v t (sym (eqb-true l m u) ∙ i)))) (λ u. rw u))))
@@ -162,40 +162,40 @@ module _ (a b c : List ℕ) (ws : List (List ℕ)) (d : List ℕ) (i : isNumber 
   unfolding extentsIn word written
   told-three =
       rw first-three (record {
-        three = le-leb 3 (3 + length (kept 3 ws)) (omega arith) ∙ sym readable-three;
+        three = le-leb 3 (3 + length (countedWords 3 ws)) (omega arith) ∙ sym readable-three;
         extents = λ _. refl;
-        form = λ _ h. form-plain (numbers ws) (length (kept 3 ws)) (length ws) (volume (extentsIn (a ∷ b ∷ c ∷ ws))) (λ e. kept-all (omega arith)) ∙ sym formed-three;
+        form = λ _ h. form-plain (numbers ws) (length (countedWords 3 ws)) (length ws) (volume (extentsIn (a ∷ b ∷ c ∷ ws))) (λ e. kept-all (omega arith)) ∙ sym formed-three;
         tray = rw leading-three;
       })
     where
-      kept-all : length ws ≤ 512 → eqb (length (kept 3 ws)) (length ws) ≡ numbers ws
+      kept-all : length ws ≤ 512 → eqb (length (countedWords 3 ws)) (length ws) ≡ numbers ws
       kept-all h = rw (take-all 512 (leading ws) (omega (arith, leading-few ws))) (leading-all ws)
 
 no-word : isNumber [] ≡ false
-unfolding isNumber digits
+unfolding isNumber allDigits
 no-word = refl
 
 module _ (d : List ℕ) where
-  abbrev one : ℕ → Scanned
-  one x = scanned 1 false 0 0 x 0 0
+  abbrev afterOne : ℕ → Scanned
+  afterOne x = scanned 1 false 0 0 x 0 0
 
-  abbrev two : ℕ → ℕ → Scanned
-  two x y = scanned 2 false 0 0 x y 0
+  abbrev afterTwo : ℕ → ℕ → Scanned
+  afterTwo x y = scanned 2 false 0 0 x y 0
 
   told-two : (a b : List ℕ) (ws : List (List ℕ)) → isNumber a ≡ true → isNumber b ≡ true → Told (afterWords (state begun d) (a ∷ b ∷ ws)) d (a ∷ b ∷ ws)
   unfolding afterWords wordEnds extent stored leading readable word
-  told-two a b [] i j = unread _ (two (spelled a) (spelled b)) d (a ∷ b ∷ []) (rw (i, j)) (omega arith) (rw (i, j, no-word)) (rw (i, j))
+  told-two a b [] i j = unread _ (afterTwo (spelled a) (spelled b)) d (a ∷ b ∷ []) (rw (i, j)) (omega arith) (rw (i, j, no-word)) (rw (i, j))
   told-two a b (c ∷ ws) i j =
       by-test (isNumber c) (λ k. told-three a b c ws d i j k)
-      (λ k. unread _ (lost (two (spelled a) (spelled b))) d (a ∷ b ∷ c ∷ ws) (rw (i, j) (lost-here 2 (spelled a) (spelled b) 0 d c ws (rw k))) (omega arith)
+      (λ k. unread _ (lost (afterTwo (spelled a) (spelled b))) d (a ∷ b ∷ c ∷ ws) (rw (i, j) (lost-here 2 (spelled a) (spelled b) 0 d c ws (rw k))) (omega arith)
       (rw (i, j, k)) (rw (i, j, k)))
 
   told-one : (a : List ℕ) (ws : List (List ℕ)) → isNumber a ≡ true → Told (afterWords (state begun d) (a ∷ ws)) d (a ∷ ws)
   unfolding afterWords wordEnds extent stored leading readable word
-  told-one a [] i = unread _ (one (spelled a)) d (a ∷ []) (rw i) (omega arith) (rw (i, no-word)) (rw i)
+  told-one a [] i = unread _ (afterOne (spelled a)) d (a ∷ []) (rw i) (omega arith) (rw (i, no-word)) (rw i)
   told-one a (b ∷ ws) i =
       by-test (isNumber b) (told-two a b ws i)
-      (λ j. unread _ (lost (one (spelled a))) d (a ∷ b ∷ ws) (rw i (lost-here 1 (spelled a) 0 0 d b ws (rw j))) (omega arith) (rw (i, j)) (rw (i, j)))
+      (λ j. unread _ (lost (afterOne (spelled a))) d (a ∷ b ∷ ws) (rw i (lost-here 1 (spelled a) 0 0 d b ws (rw j))) (omega arith) (rw (i, j)) (rw (i, j)))
 
   told : (ws : List (List ℕ)) → Told (afterWords (state begun d) ws) d ws
   unfolding afterWords leading readable word
@@ -212,22 +212,22 @@ formed-readable [] t = absurd (true≢false (sym t))
 formed-readable (a ∷ []) t = absurd (true≢false (sym t ∙ and-false (numbers (a ∷ []))))
 formed-readable (a ∷ b ∷ []) t = absurd (true≢false (sym t ∙ and-false (numbers (a ∷ b ∷ []))))
 formed-readable (a ∷ b ∷ c ∷ ws) t =
-    let n = and-left (numbers (a ∷ b ∷ c ∷ ws)) _ t in
-    let m = and-right (isNumber a) (numbers (b ∷ c ∷ ws)) n in
-    and-both (isNumber a) _ (and-left (isNumber a) (numbers (b ∷ c ∷ ws)) n)
-    (and-both (isNumber b) (isNumber c) (and-left (isNumber b) (numbers (c ∷ ws)) m) (and-left (isNumber c) (numbers ws) (and-right (isNumber b) (numbers (c ∷ ws)) m)))
+    let n = and-first (numbers (a ∷ b ∷ c ∷ ws)) _ t in
+    let m = and-second (isNumber a) (numbers (b ∷ c ∷ ws)) n in
+    and-both (isNumber a) _ (and-first (isNumber a) (numbers (b ∷ c ∷ ws)) n)
+    (and-both (isNumber b) (isNumber c) (and-first (isNumber b) (numbers (c ∷ ws)) m) (and-first (isNumber c) (numbers ws) (and-second (isNumber b) (numbers (c ∷ ws)) m)))
 
 -- A text of its form: its codes stand in front in a tray that has a place for each.
 module _ (ws : List (List ℕ)) (f : formed ws ≡ true) where
   code-length : length (codesIn ws) ≡ volume (extentsIn ws)
   unfolding formed codesIn
-  code-length = length-map (drop 3 ws) spelled ∙ eqb-true (length (drop 3 ws)) (volume (extentsIn ws)) (and-right (leb 3 (length ws)) _ (and-right (numbers ws) _ f))
+  code-length = length-map (drop 3 ws) spelled ∙ eqb-true (length (drop 3 ws)) (volume (extentsIn ws)) (and-second (leb 3 (length ws)) _ (and-second (numbers ws) _ f))
 
   codes-front : (d : List ℕ) → volume (extentsIn ws) ≤ length d → volume (extentsIn ws) ≤ 512 → take (volume (extentsIn ws)) (written ws d) ≡ codesIn ws
   unfolding written codesIn formed
   codes-front d h few =
       let most : length ws ≤ 515 = omega (arith, code-length, length-map (drop 3 ws) spelled, length-drop 3 ws) in
-      rw (leading-same ws (and-left (numbers ws) _ f), take-all 515 ws most, sets-eq (map spelled (drop 3 ws)) d 0 (omega (arith, code-length)))
+      rw (leading-same ws (and-first (numbers ws) _ f), take-all 515 ws most, sets-eq (map spelled (drop 3 ws)) d 0 (omega (arith, code-length)))
       (take-at (map spelled (drop 3 ws)) _ (volume (extentsIn ws)) code-length)
 
 rungs-same : (o p w x b c : Bool) → o ≡ p → (p ≡ false → w ≡ x) → (p ≡ false → x ≡ true → b ≡ c) → rungs o w b ≡ rungs p x c
@@ -274,8 +274,8 @@ module _ (s : Scanned) (e d text : List ℕ) (k : Told (state s e) d (wordsOf te
     few : readable ws ≡ true → volume (extentsIn ws) ≤ 512
     few r = volume-high (sized-of 8 (extentsIn ws) (on-size r))
 
-    same-whole : whole s ≡ formed ws
-    unfolding whole
+    same-whole : wholeText s ≡ formed ws
+    unfolding wholeText
     same-whole =
         by-test (readable ws)
         (λ r. rw (k .three ∙ r, k .extents r, on-size r) (k .form r (few r)))
@@ -284,14 +284,14 @@ module _ (s : Scanned) (e d text : List ℕ) (k : Told (state s e) d (wordsOf te
     same-codes : formed ws ≡ true → take (s .count - 3) e ≡ codesIn ws
     same-codes f =
         let r = formed-readable ws f in
-        let n : s .count - 3 ≡ volume (extentsIn ws) = eqb-true _ _ (and-right (not (s .broken)) _ (k .form r (few r) ∙ f)) in
+        let n : s .count - 3 ≡ volume (extentsIn ws) = eqb-true _ _ (and-second (not (s .broken)) _ (k .form r (few r) ∙ f)) in
         rw (k .tray, n) (codes-front ws f d (omega (arith, few r)) (few r))
 
   same-number : lineNumber s e ≡ textRefusal text
   unfolding askedExtents askedCodes
   same-number =
       ladder s e
-      ∙ rungs-same (offExtents s) _ (whole s) _ (blank (take (s .count - 3) e)) _ same-off same-whole (λ o f. ap blank (same-codes o f))
+      ∙ rungs-same (offExtents s) _ (wholeText s) _ (blank (take (s .count - 3) e)) _ same-off same-whole (λ o f. ap blank (same-codes o f))
       ∙ sym (text-rungs text)
 
   same-task : taskSeen s e ≡ taskOf (textRefusal text) (askedExtents text)

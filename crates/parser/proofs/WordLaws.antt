@@ -8,8 +8,8 @@ use native.Mathlib.Omega.{arith}
 use lib.Dec.{eqb, leb, ltb}
 use lib.ListN.{length, length-append}
 use borrow.Author.Tests.{lt-leb, le-leb, le-ltb, ne-eqb, ltb-true, ltb-false}
-use Rattle.lists.proofs.Cases.{by-test, and-right}
-use Rattle.text.specs.Words.{gap, digit, ended, wordsFrom, wordsOf, digits, valueFrom, spelled, isNumber}
+use Rattle.lists.proofs.Cases.{by-test, and-second}
+use Rattle.text.specs.Words.{gap, digit, ended, wordsFrom, wordsOf, allDigits, valueFrom, spelled, isNumber}
 use Rattle.parser.specs.declared.Scanned.{Scanned}
 use Rattle.parser.specs.Scanning.{State, state, scanned, begun, capped, spells, longer, counts, counted, lost, grown, stored, closed, step, after}
 
@@ -27,14 +27,14 @@ unfolding valueFrom
 value-snoc n [] b = refl
 value-snoc n (x ∷ w) b = value-snoc (10 * n + (x - 48)) w b
 
-digits-snoc : (w : List ℕ) (b : ℕ) → digits (w ++ (b ∷ [])) ≡ (digits w && digit b)
-unfolding digits
+digits-snoc : (w : List ℕ) (b : ℕ) → allDigits (w ++ (b ∷ [])) ≡ (allDigits w && digit b)
+unfolding allDigits
 digits-snoc [] b = by-test (digit b) (λ t. rw t) (λ t. rw t)
 digits-snoc (x ∷ w) b = by-test (digit x) (λ t. rw t (digits-snoc w b)) (λ t. rw t)
 
 -- It may be a number, as far as it has come.
 abbrev good : List ℕ → Bool
-good w = digits w && (leb (length w) 10 && ltb (spelled w) (2 ^ 32))
+good w = allDigits w && (leb (length w) 10 && ltb (spelled w) (2 ^ 32))
 
 abbrev sizeOf : List ℕ → ℕ
 sizeOf w = cond (ltb (length w) 10) (length w) 10
@@ -76,7 +76,7 @@ module _ (w : List ℕ) (b : ℕ) where
 
   value-more : spells (sizeOf w) (valueOf w) b ≡ valueOf (w ++ (b ∷ []))
   unfolding spells spelled
-  value-more = rw (digits-snoc w b, length-snoc, value-snoc 0 w b) (value-plain (digits w) (digit b) (length w) (valueFrom 0 w) (b - 48))
+  value-more = rw (digits-snoc w b, length-snoc, value-snoc 0 w b) (value-plain (allDigits w) (digit b) (length w) (valueFrom 0 w) (b - 48))
 
 -- Where the bytes w of a word have come.
 abbrev opened : Scanned → List ℕ → Scanned
@@ -113,14 +113,14 @@ module _ (b : ℕ) (bs : List ℕ) where
       (λ t. rw (t, and-false (not (s .broken)))))
     where
       below : good (b ∷ bs) ≡ true → ltb (spelled (b ∷ bs)) (2 ^ 32) ≡ true
-      below t = and-right (leb (length (b ∷ bs)) 10) (ltb (spelled (b ∷ bs)) (2 ^ 32)) (and-right (digits (b ∷ bs)) (leb (length (b ∷ bs)) 10 && ltb (spelled (b ∷ bs)) (2 ^ 32)) t)
+      below t = and-second (leb (length (b ∷ bs)) 10) (ltb (spelled (b ∷ bs)) (2 ^ 32)) (and-second (allDigits (b ∷ bs)) (leb (length (b ∷ bs)) 10 && ltb (spelled (b ∷ bs)) (2 ^ 32)) t)
 
 -- No byte of a word has come.
 abbrev Idle : Scanned → Type 0
 Idle s = opened s [] ≡ s
 
 ends-idle : (s : Scanned) (d w : List ℕ) → Idle (wordEnds s d w .seen)
-unfolding wordEnds spelled digits valueFrom
+unfolding wordEnds spelled allDigits valueFrom
 ends-idle s d w = by-test (not (s .broken) && (isNumber w && ltb (s .count) 515)) (λ t. rw t) (λ t. rw t)
 
 -- Nothing ends where no byte has come.
@@ -167,5 +167,5 @@ walk s d w (b ∷ bs) i =
 
 -- The bytes of a text from the first on do what its words do.
 pub walked : (d text : List ℕ) → shut (after (state begun d) text) ≡ afterWords (state begun d) (wordsOf text)
-unfolding wordsOf spelled digits valueFrom
+unfolding wordsOf spelled allDigits valueFrom
 walked d text = walk begun d [] text refl

@@ -34,15 +34,15 @@ unfoldable pub offExtents : Scanned → Bool
 offExtents s = leb 3 (s .count) && offSize 8 (extentsSeen s)
 
 -- The text has its form: numbers only, three extents of a right size, and exactly as many codes as voxels.
-unfoldable pub whole : Scanned → Bool
-whole s = not (s .broken) && (leb 3 (s .count) && (not (offSize 8 (extentsSeen s)) && eqb (s .count - 3) (volume (extentsSeen s))))
+unfoldable pub wholeText : Scanned → Bool
+wholeText s = not (s .broken) && (leb 3 (s .count) && (not (offSize 8 (extentsSeen s)) && eqb (s .count - 3) (volume (extentsSeen s))))
 
 -- The number that the line `refused` shows, 0 for no such line: `text-read` (proofs/TextLaws) says that it is that of the text.
 unfoldable pub lineNumber : Scanned → List ℕ → ℕ
 lineNumber s d =
     cond (offExtents s) (number off-size)
-    (cond (whole s && blank (take (s .count - 3) d)) (number blank-voxel)
-    (cond (not (whole s)) (number bad-record) 0))
+    (cond (wholeText s && blank (take (s .count - 3) d)) (number blank-voxel)
+    (cond (not (wholeText s)) (number bad-record) 0))
 
 -- What is to be done.
 unfoldable pub taskSeen : Scanned → List ℕ → Task

@@ -10,17 +10,17 @@ use lib.Dec.{eqb, ltb}
 use lib.ListN.{length, getD}
 use borrow.Author.Tests.{eqb-true, eq-eqb, ne-eqb, le-ltb, not-true, not-false}
 use Rattle.lists.specs.Lists.{overlay}
-use Rattle.lists.proofs.Cases.{by-test, and-left}
+use Rattle.lists.proofs.Cases.{by-test, and-first}
 use Rattle.lists.proofs.Overlay.{length-overlay}
 use Rattle.cells.specs.Box.{triple}
 use Rattle.cells.specs.Grid.{cells}
 use Rattle.cutting.specs.Cutting.{Cutting, intervals, blocks, blockExtents}
-use Rattle.joiner.specs.Job.{Kind, Face, Curve, Point, Points, Closed, State, sameStage, stageNumber, keyOf, countOf, fromOf, fits, ticked, blockTrays, numberTrays, foundTrays, firstTrays, listedTrays, kindTrays}
+use Rattle.joiner.specs.Job.{Kind, Face, Curve, Point, Points, Closed, State, sameStage, stageNumber, keyOf, countOf, fromOf, lengthsFit, ticked, blockTrays, numberTrays, foundTrays, firstTrays, listedTrays, kindTrays}
 use Rattle.joiner.specs.Job as joiner
 use Rattle.joiner.specs.Stages.{pointStep}
 use Rattle.joiner.specs.Calls.{point, answer, mapsFit, full, overfull}
 use Rattle.joiner.specs.Declines.{adds, curvesStand, lentTo, mapStands, numberStands, pointCells, refusal, stray, talliesFit}
-use Rattle.joiner.specs.Entries.{PointDone, Step, Ticked, rowFinal}
+use Rattle.joiner.specs.Entries.{PointDone, CallStep, Ticked, rowFinal}
 use Rattle.joiner.proofs.Accepted.{stage-same}
 use Rattle.model.proofs.Facts.{Facts, facts, fits-at, tally-fits, points-room}
 use Rattle.ranking.proofs.HeadLaws.{class-point}
@@ -88,14 +88,14 @@ module _ (j : Job) (cx cy cz ticks table curves keys rows numbers firsts listed 
   abbrev before : State
   before = stateOf j cx cy cz (lent ticks table curves keys rows numbers firsts listed)
 
-  trays-is : (mapsFit k (point b m) && fits (lentTo (before .job .told) (before .tables) (point b m)))
+  trays-is : (mapsFit k (point b m) && lengthsFit (lentTo (before .job .told) (before .tables) (point b m)))
       ≡ traysFit (blocks k) (blockExtents k b) (j .«curve_entries») (j .«point_entries») (sizesOf ticks table curves keys rows numbers firsts listed) (length m)
   unfolding blockTrays numberTrays kindTrays foundTrays firstTrays listedTrays traysFit
   trays-is =
       let o = before .job .told in
       let t = before .tables in
       ap (λ (x : Bool). mapsFit k (point b m) && x)
-      (fits-append (blockTrays o t) (numberTrays o t Curve ++ kindTrays o t Point) ∙ ap (λ (x : Bool). fits (blockTrays o t) && x) (fits-append (numberTrays o t Curve) (kindTrays o t Point)))
+      (fits-append (blockTrays o t) (numberTrays o t Curve ++ kindTrays o t Point) ∙ ap (λ (x : Bool). lengthsFit (blockTrays o t) && x) (fits-append (numberTrays o t Curve) (kindTrays o t Point)))
 
   place-is : fromOf (before .tables) Curve b ≡ entryOf table b .«curve_from»
   unfolding fromOf entryOf
@@ -115,7 +115,7 @@ module _ (j : Job) (cx cy cz ticks table curves keys rows numbers firsts listed 
   late-is =
       rw (← stands-is before (blockExtents k b) b m, ← curves-is, found-is)
       (by-test (talliesFit (before .job) && (mapStands before (blockExtents k b) b m && curvesStand before b))
-      (λ t. rw (t, full-points before b m (and-left (talliesFit (before .job)) (mapStands before (blockExtents k b) b m && curvesStand before b) t)))
+      (λ t. rw (t, full-points before b m (and-first (talliesFit (before .job)) (mapStands before (blockExtents k b) b m && curvesStand before b) t)))
       (λ t. rw t))
 
   pub refusal-is : refusal before (point b m) ≡ refusalOf j cx cy cz ticks (sizesOf ticks table curves keys rows numbers firsts listed) table curves b m
@@ -125,8 +125,8 @@ module _ (j : Job) (cx cy cz ticks table curves keys rows numbers firsts listed 
   -- ---- what an accepted step has passed
 
   module _ (points : ℕ) (R : Ready j cx cy cz (lent ticks table curves keys rows numbers firsts listed) b m points) where
-    F : Facts before (point b m)
-    F = facts before (point b m) (R .none)
+    call-facts : Facts before (point b m)
+    call-facts = facts before (point b m) (R .none)
 
     abbrev trays : Bool
     trays = traysFit (blocks k) (blockExtents k b) (j .«curve_entries») (j .«point_entries») (sizesOf ticks table curves keys rows numbers firsts listed) (length m)
@@ -142,7 +142,7 @@ module _ (j : Job) (cx cy cz ticks table curves keys rows numbers firsts listed 
 
     map-size : length m ≡ cells (blockExtents k b)
     unfolding traysFit
-    map-size = eqb-true _ _ (and-left (eqb (length m) (cells (blockExtents k b))) _ (rungs .1))
+    map-size = eqb-true _ _ (and-first (eqb (length m) (cells (blockExtents k b))) _ (rungs .1))
 
     record Lengths : Type 0 where
       on-ticks : length ticks ≡ 6 * blocks k
@@ -155,18 +155,18 @@ module _ (j : Job) (cx cy cz ticks table curves keys rows numbers firsts listed 
     lengths : Lengths
     unfolding blockTrays numberTrays kindTrays foundTrays firstTrays listedTrays
     lengths =
-        let at : (i : ℕ) → _ = λ i. fits-at (lentTo (before .job .told) (before .tables) (point b m)) i (F .lent) in
+        let at : (i : ℕ) → _ = λ i. fits-at (lentTo (before .job .told) (before .tables) (point b m)) i (call-facts .lent) in
         record { on-ticks = at 0; on-keys = at 3; on-rows = at 4; on-numbers = at 5; on-firsts = at 6; on-listed = at 7 }
 
     room : j .points + points ≤ j .«point_entries»
-    room = rw (R .counted) (points-room (before .job .told .entries) (before .job .sofar) (adds before (point b m)) (F .room))
+    room = rw (R .counted) (points-room (before .job .told .entries) (before .job .sofar) (adds before (point b m)) (call-facts .room))
 
     -- what `advance` requires
     pub accept-advance : ((6 * b + 5 < length ticks) × (intervals cx * intervals cy * intervals cz ≤ 16384))
         × ((j .faces + 0 ≤ j .«face_entries») × (j .curves + 0 ≤ j .«curve_entries») × (j .points + points ≤ j .«point_entries»))
     accept-advance =
-        let h : (κ : Kind) → before .job .sofar κ ≤ before .job .told .entries κ = tally-fits (before .job) (F .tallies) in
-        ((omega (arith, lengths .on-ticks, passed .1), few-of k (F .cut)), (omega (arith, h Face), omega (arith, h Curve), room))
+        let h : (κ : Kind) → before .job .sofar κ ≤ before .job .told .entries κ = tally-fits (before .job) (call-facts .tallies) in
+        ((omega (arith, lengths .on-ticks, passed .1), few-of k (call-facts .cut)), (omega (arith, h Face), omega (arith, h Curve), room))
 
     module _ (r : Block) (T : anyExtents cx cy cz (λ k. Tells k b r)) (d : Entry) (f : d ≡ entryOf table b) where
       abbrev tells : Tells k b r
@@ -185,9 +185,9 @@ module _ (j : Job) (cx cy cz ticks table curves keys rows numbers firsts listed 
       -- .. and `store_points`
       pub accept-store : Lies (triple (j .nx) (j .ny) (j .nz)) r × (length m ≡ cells (sizeOf r)) × (b < 16384) × Room (length here) (j .points) (length keys) (length rows)
       accept-store = (
-        lies-told k b r tells (F .cut) (passed .1) (passed .0 .sized),
+        lies-told k b r tells (call-facts .cut) (passed .1) (passed .0 .sized),
         map-size ∙ ap cells (sym (tells .size)),
-        omega (arith, passed .1, count-few k (F .cut) (blocks k) refl),
+        omega (arith, passed .1, count-few k (call-facts .cut) (blocks k) refl),
         found-room k (before .tables) b m (tells .size) refl from-is (j .points) (length keys) (length rows) (fits-points .0) (fits-points .1),
       )
 
@@ -215,8 +215,8 @@ module _ (j : Job) (cx cy cz ticks table curves keys rows numbers firsts listed 
           stepped : Ticked before (after next) (point b m) (6 * b + 5)
           stepped = ticked-by j cx cy cz (before .tables) (after next .tables) (point b m) (6 * b + 5) 0 0 points more next A
 
-          kept : (κ : Kind) → jobOf next cx cy cz .numbered κ ≡ jobOf j cx cy cz .numbered κ
-          kept = numbered-kept j cx cy cz ticks ticks′ (6 * b + 5) 0 0 points next A
+          tally-kept : (κ : Kind) → jobOf next cx cy cz .numbered κ ≡ jobOf j cx cy cz .numbered κ
+          tally-kept = numbered-kept j cx cy cz ticks ticks′ (6 * b + 5) 0 0 points next A
 
           done-by : (total : ℕ) → Closes next (next .points) keys′ rows′ numbers numbers′ firsts firsts′ listed listed′ (withNumbered next total) → PointDone before b m (after (withNumbered next total))
           unfolding adds pointStep
@@ -225,12 +225,12 @@ module _ (j : Job) (cx cy cz ticks table curves keys rows numbers firsts listed 
             blocks = refl;
             face-links = refl;
             curve-links = refl;
-            faces = (record { keys = refl; rows = refl }, record { numbered = kept Face; numbers = refl; firsts = refl; listed = refl });
-            curves = (record { keys = refl; rows = refl }, record { numbered = kept Curve; numbers = refl; firsts = refl; listed = refl });
+            faces = (record { keys = refl; rows = refl }, record { numbered = tally-kept Face; numbers = refl; firsts = refl; listed = refl });
+            curves = (record { keys = refl; rows = refl }, record { numbered = tally-kept Curve; numbers = refl; firsts = refl; listed = refl });
             keys = found-keys k (before .tables) b m r tells refl from-is (j .points) keys keys′ K;
             rows = found-rows k (before .tables) b m r tells refl from-is (j .points) rows rows′ L;
             last = λ e. numbered-kind before (after (withNumbered next total)) Point (next .points) (C .last (is-closed _ e) (after (withNumbered next total) .tables) refl refl);
-            before = λ e. let p = C .before (not-closed _ e) in record { numbered = p .0 ∙ kept Point; numbers = p .1; firsts = p .2; listed = p .3 };
+            before = λ e. let p = C .before (not-closed _ e) in record { numbered = p .0 ∙ tally-kept Point; numbers = p .1; firsts = p .2; listed = p .3 };
           }
 
           pub accept-done : (q : Job) → Closes next (next .points) keys′ rows′ numbers numbers′ firsts firsts′ listed listed′ q → PointDone before b m (after q)
@@ -245,11 +245,11 @@ module _ (j : Job) (cx cy cz ticks table curves keys rows numbers firsts listed 
     told-number : p .refusal ≡ refusal before (point b m)
     told-number = P .told ∙ sym refusal-is
 
-    pub point-refused : (p .refusal ≡ 0 → ⊥) → Step before (point b m) (answer (p .refusal) 0 []) before
+    pub point-refused : (p .refusal ≡ 0 → ⊥) → CallStep before (point b m) (answer (p .refusal) 0 []) before
     point-refused = step-refused before (point b m) (p .refusal) told-number
 
     pub point-ready : p .refusal ≡ 0 → Ready j cx cy cz (lent ticks table curves keys rows numbers firsts listed) b m (p .points)
     point-ready z = record { none = sym told-number ∙ z; counted = P .counted (sym (P .told) ∙ z) ∙ found-is }
 
-    pub point-accepted : p .refusal ≡ 0 → (t : State) → PointDone before b m t → Step before (point b m) (answer 0 0 []) t
+    pub point-accepted : p .refusal ≡ 0 → (t : State) → PointDone before b m t → CallStep before (point b m) (answer 0 0 []) t
     point-accepted z t D = step-accepted before (point b m) (p .refusal) told-number z (answer 0 0 []) t refl (refl, D)

@@ -8,7 +8,7 @@ use lib.Dec.{eqb}
 use lib.ListN.{length}
 use native.Mathlib.Omega.{arith}
 use borrow.Author.Tests.{not-true, not-false, eqb-true, lt-ltb, le-ltb}
-use Rattle.lists.proofs.Cases.{and-left}
+use Rattle.lists.proofs.Cases.{and-first}
 use Rattle.cells.specs.Box.{Triple}
 use Rattle.cells.specs.Extents.{Sized}
 use Rattle.cells.specs.Grid.{cells}
@@ -63,25 +63,25 @@ module _ (j : Job) (e : Triple) (d : Entry) (curves m : List ℕ) (t : Bool) (h 
 
 -- a block that is reached
 module _ (j : Job) (cx cy cz ticks : List ℕ) (b n : ℕ) (e : n ≡ reachedOf (jobOf j cx cy cz) Points ticks b (6 * b + 5)) (q : n ≡ 0) where
-  abbrev cut : Cutting
-  cut = toldOf j cx cy cz .cutting
+  abbrev cut-as : Cutting
+  cut-as = toldOf j cx cy cz .cutting
 
-  passed : (goodCut cut ≡ true) × (b < blocks cut)
+  passed : (goodCut cut-as ≡ true) × (b < blocks cut-as)
   passed = let p = reached-passed (jobOf j cx cy cz) Points ticks b (6 * b + 5) (sym e ∙ q) in (p .0 .good, p .1)
 
   -- what `block_count` requires
   pub judge-few : intervals cx * intervals cy * intervals cz ≤ 16384
-  judge-few = few-of cut (passed .0)
+  judge-few = few-of cut-as (passed .0)
 
   module _ (r : Block) (T : anyExtents cx cy cz (λ k. Tells k b r)) (i : ℕ) (c : anyExtents cx cy cz (λ k. i ≡ blocks k)) where
     -- .. and `trays_fit`
     pub judge-sized : (i ≤ 16384) × Sized 64 (sizeOf r)
-    judge-sized = (count-few cut (passed .0) i (c (j .nx) (j .ny) (j .nz)), block-sized cut (passed .0) b (passed .1) r (T (j .nx) (j .ny) (j .nz)))
+    judge-sized = (count-few cut-as (passed .0) i (c (j .nx) (j .ny) (j .nz)), block-sized cut-as (passed .0) b (passed .1) r (T (j .nx) (j .ny) (j .nz)))
 
     -- .. and `late`
     pub judge-map : (z : Sizes) (curves points size : ℕ) (t : Bool) → t ≡ traysFit i (sizeOf r) curves points z size → not t ≡ false → Sized 64 (sizeOf r) × (size ≡ cells (sizeOf r))
     unfolding traysFit
-    judge-map z curves points size t h w = (judge-sized .1, eqb-true _ _ (and-left (eqb size (cells (sizeOf r))) _ (sym h ∙ not-false t w)))
+    judge-map z curves points size t h w = (judge-sized .1, eqb-true _ _ (and-first (eqb size (cells (sizeOf r))) _ (sym h ∙ not-false t w)))
 
 module _ (j : Job) (cx cy cz ticks : List ℕ) (z : Sizes) (table curves : List ℕ) (b : ℕ) (m : List ℕ) (n : ℕ) (e : n ≡ reachedOf (jobOf j cx cy cz) Points ticks b (6 * b + 5)) where
   abbrev k : Cutting

@@ -10,7 +10,7 @@ use Rattle.lists.specs.Lists.{consecutive, allOf}
 use Rattle.cells.specs.Box.{Triple}
 use Rattle.cells.specs.Grid.{cells}
 use Rattle.cutting.specs.Cutting.{Cutting, blocks, blockExtents}
-use Rattle.joiner.specs.Job.{Face, Curve, Point, Points, Closed, Tables, sameStage, tray, fits}
+use Rattle.joiner.specs.Job.{Face, Curve, Point, Points, Closed, Tables, sameStage, tray, lengthsFit}
 use Rattle.joiner.specs.Job as joiner
 use Rattle.joiner.specs.Calls.{point}
 use Rattle.joiner.specs.Declines.{talliesFit, adds, refusal}
@@ -19,7 +19,7 @@ use Rattle.kind_numbers.specs.Numbered.{Numbered}
 use Rattle.job.specs.declared.Job.{Job}
 use Rattle.job.specs.Jobs.{blockLengths, kindLengths, stageOf, tablesOf, toldOf, jobOf, stateOf}
 use Rattle.steps.specs.declared.Entry.{Entry}
-use Rattle.steps.specs.Steps.{orElse, reachedOf, entryOf, mapStandsIn, numberStandsIn}
+use Rattle.steps.specs.Steps.{firstRefusal, reachedOf, entryOf, mapStandsIn, numberStandsIn}
 use Rattle.pointing.specs.declared.Plan.{Plan}
 use Rattle.pointing.specs.declared.Sizes.{Sizes}
 
@@ -47,8 +47,8 @@ sizesOf ticks blocks curves keys rows numbers firsts listed =
 unfoldable pub traysFit : ℕ → Triple → ℕ → ℕ → Sizes → ℕ → Bool
 traysFit count e curves points z n =
     eqb n (cells e) &&
-    (fits (blockLengths count (z .ticks) (z .blocks)) &&
-    (fits (tray (z .curves) curves ∷ []) && fits (kindLengths 6 points (z .keys) (z .rows) (z .numbers) (z .firsts) (z .listed))))
+    (lengthsFit (blockLengths count (z .ticks) (z .blocks)) &&
+    (lengthsFit (tray (z .curves) curves ∷ []) && lengthsFit (kindLengths 6 points (z .keys) (z .rows) (z .numbers) (z .firsts) (z .listed))))
 
 -- How many points a block of e voxels has, by its entry and the curves' final numbers.
 unfoldable pub foundBy : Triple → Entry → List ℕ → List ℕ → ℕ
@@ -76,7 +76,7 @@ foundOf k table curves b m = foundBy (blockExtents k b) (entryOf table b) curves
 unfoldable pub refusalOf : Job → List ℕ → List ℕ → List ℕ → List ℕ → Sizes → List ℕ → List ℕ → ℕ → List ℕ → ℕ
 refusalOf j cx cy cz ticks z table curves b m =
     let k : Cutting = toldOf j cx cy cz .cutting in
-    orElse (reachedOf (jobOf j cx cy cz) Points ticks b (6 * b + 5))
+    firstRefusal (reachedOf (jobOf j cx cy cz) Points ticks b (6 * b + 5))
     (cond (not (traysFit (blocks k) (blockExtents k b) (j .«curve_entries») (j .«point_entries») z (length m))) 6
     (lateOf (jobOf j cx cy cz) (blockExtents k b) (entryOf table b) curves m (foundOf k table curves b m)))
 

@@ -29,7 +29,7 @@ ghost use lib.ListN.{length};
 ghost use Rattle.cells.specs.Extents.{Sized};
 ghost use Rattle.cells.specs.Grid.{cells};
 ghost use Rattle.joiner.specs.Calls.{point, answer};
-ghost use Rattle.joiner.specs.Entries.{PointDone, Step};
+ghost use Rattle.joiner.specs.Entries.{PointDone, CallStep};
 ghost use Rattle.blocks.specs.Blocks.{sizeOf};
 ghost use Rattle.job.specs.Jobs.{anyCuts, jobOf, toldOf, stateOf};
 ghost use Rattle.pointing.specs.Inner.{lent, traysFit, curvesIn, standIn, foundBy, lateOf, foundOf, refusalOf, Plans, Ready, Closes};
@@ -265,7 +265,7 @@ pub fn point(
     block: u32,
     m: &[u32],
 ) -> Pointed
-    ensures { λ r. ⌜ Step
+    ensures { λ r. ⌜ CallStep
         (stateOf job (now (cx .entry)) (now (cy .entry)) (now (cz .entry))
         (lent (now (ticks .entry)) (now (blocks .entry)) (now («curve_numbers» .entry)) (now («point_keys» .entry)) (now («point_rows» .entry)) (now («point_numbers» .entry))
         (now («point_firsts» .entry)) (now («point_listed» .entry))))

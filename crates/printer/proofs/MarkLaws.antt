@@ -15,7 +15,7 @@ use Rattle.lists.proofs.Cases.{by-test}
 use Rattle.lists.proofs.Lists.{keep-out, consecutive-left}
 use Rattle.cells.specs.Box.{Triple, place}
 use Rattle.cells.specs.Extents.{Sized}
-use Rattle.cells.specs.Grid.{cells, odd, order, along, up}
+use Rattle.cells.specs.Grid.{cells, parity, order, along, upperNeighbours}
 use Rattle.cells.specs.Row.{rowOf, row}
 use Rattle.cells.proofs.ExtentLaws.{cells-are, layer-low}
 use Rattle.labels.specs.Components.{ofOrder, largest, component, firstCell, rowAtFirst, componentRow}
@@ -156,7 +156,7 @@ first-inside {e} m j n s =
 
 -- position 0 is a voxel, which has no upper neighbours
 row-zero : (e : Triple) (m : List ℕ) → rowOf [] ≡ row e m 0
-unfolding row up odd place along
+unfolding row upperNeighbours parity place along
 row-zero e m = simp (zero-mod, zero-div)
 
 pub row-first : (e : Triple) (m : List ℕ) (j n : ℕ) → row e m (firstCell e m j n) ≡ componentRow e m j n

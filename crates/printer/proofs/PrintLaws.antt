@@ -11,7 +11,7 @@ use lib.ListN.{length, getD, take, drop, take-append-drop}
 use lib.Seq.{drop-drop}
 use borrow.Author.Tests.{eqb-true, eq-eqb, ne-eqb, ltb-false, lt-ltb, le-ltb, not-true}
 use Rattle.lists.specs.Lists.{consecutive, zeros}
-use Rattle.lists.proofs.Cases.{picked, neither, and-left, and-right}
+use Rattle.lists.proofs.Cases.{picked, neither, and-first, and-second}
 use Rattle.cells.specs.Box.{Triple}
 use Rattle.cells.specs.Extents.{offSize}
 use Rattle.cells.specs.Grid.{cells}
@@ -79,14 +79,14 @@ module _ (e : Triple) (m : List ℕ) (f : ℕ) where
       let a = ltb (cells e) (largest e m 2) in
       let b = ltb (cells e) (largest e m 1) in
       let c = ltb (cells e) (largest e m 0) in
-      let g = and-right o (k && (j && not (a || (b || c)))) h in
-      let i = and-right k (j && not (a || (b || c))) g in
-      let s = neither a (b || c) (not-true (a || (b || c)) (and-right j (not (a || (b || c))) i)) in
+      let g = and-second o (k && (j && not (a || (b || c)))) h in
+      let i = and-second k (j && not (a || (b || c))) g in
+      let s = neither a (b || c) (not-true (a || (b || c)) (and-second j (not (a || (b || c))) i)) in
       let t = neither b c (s .1) in
       record {
-        sized = sized-of 8 e (not-true (offSize 8 e) (and-left o (k && (j && not (a || (b || c)))) h));
-        whole = eqb-true _ _ (and-left k (j && not (a || (b || c))) g);
-        room = eqb-true _ _ (and-left j (not (a || (b || c))) i);
+        sized = sized-of 8 e (not-true (offSize 8 e) (and-first o (k && (j && not (a || (b || c)))) h));
+        whole = eqb-true _ _ (and-first k (j && not (a || (b || c))) g);
+        room = eqb-true _ _ (and-first j (not (a || (b || c))) i);
         counts = λ j h. each-order e m j h (ltb-false _ _ (s .0)) (ltb-false _ _ (t .0)) (ltb-false _ _ (t .1));
       }
 

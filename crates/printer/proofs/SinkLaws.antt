@@ -107,8 +107,8 @@ module _ (text t : List ℕ) (k : ℕ) where
   unfolding fitting
   fit-is = take-min (length t) (drop k text) ∙ rw (length-drop k text)
 
-  whole : sunk (at-state 0 0 t) (drop k text) ≡ at-state 0 (0 + length fit) (sets t 0 fit)
-  whole = let z : length t - 0 ≡ length t = omega arith in rw z at (filled (drop k text) 0 t)
+  whole-text : sunk (at-state 0 0 t) (drop k text) ≡ at-state 0 (0 + length fit) (sets t 0 fit)
+  whole-text = let z : length t - 0 ≡ length t = omega arith in rw z at (filled (drop k text) 0 t)
 
   -- What a whole text leaves.
   pub sunk-whole : (e : State) → e ≡ sunk (at-state k 0 t) text → (e .at ≡ fitting k text (length t)) × (e .tray ≡ part k text t)
@@ -117,6 +117,6 @@ module _ (text t : List ℕ) (k : ℕ) where
       let q = passed k 0 t text in
       let z : 0 + length fit ≡ length fit = omega arith in
       let room : 0 + length fit ≤ length t = rw (length-take) (omega arith) in (
-        ap (λ (s : State). s .at) p ∙ q .0 ∙ ap (λ (s : State). s .at) whole ∙ z ∙ fit-length,
-        ap (λ (s : State). s .tray) p ∙ q .1 ∙ ap (λ (s : State). s .tray) whole ∙ sets-eq fit t 0 room ∙ rw (z, fit-length, fit-is),
+        ap (λ (s : State). s .at) p ∙ q .0 ∙ ap (λ (s : State). s .at) whole-text ∙ z ∙ fit-length,
+        ap (λ (s : State). s .tray) p ∙ q .1 ∙ ap (λ (s : State). s .tray) whole-text ∙ sets-eq fit t 0 room ∙ rw (z, fit-length, fit-is),
       )

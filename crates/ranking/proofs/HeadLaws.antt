@@ -12,13 +12,13 @@ use lib.Dec.{eqb, leb, ltb}
 use lib.ListN.{getD, length}
 use borrow.Author.Tests.{eq-eqb, eqb-true, eqb-false, le-leb, lt-leb, leb-true, leb-false, ltb-true, ltb-false}
 use Rattle.lists.specs.Lists.{consecutive, keep}
-use Rattle.lists.proofs.Cases.{by-test, picked, and-left, and-right}
+use Rattle.lists.proofs.Cases.{by-test, picked, and-first, and-second}
 use Rattle.lists.proofs.Lists.{Ascends, ascends-consecutive, ascends-keep, consecutive-in, consecutive-out, getD-in, keep-in, keep-out}
 use Rattle.lists.proofs.Tests.{all-in, all-out, first-in, implied, implies, keep-same}
 use Rattle.closure.proofs.Numbers.{count-same}
 use Rattle.union_find.specs.Links.{root}
 use Rattle.union_find.proofs.LinkLaws.{root-low, root-idem, root-past}
-use Rattle.sorting.specs.Sorting.{rankIn, stable, keyAt, Sorted}
+use Rattle.sorting.specs.Sorting.{rankIn, stable, keyAt, StandsByRank}
 use Rattle.sorting.proofs.Counts.{lex-le}
 use Rattle.sorting.proofs.RankLaws.{rank-low, rank-next, rank-onto, stable-inj}
 use Rattle.joiner.specs.Job.{Kind, Face, Curve, Point, Tables}
@@ -125,9 +125,9 @@ module _ (t : Tables) (κ : Kind) (n : ℕ) where
       let p : Passed c k y = passed c k (omega arith) hc e in
       picked (Passed c (suc k)) (eqb (classOf t κ k) c && ltb (key k) (key y)) k y
       (λ a.
-      let l : key k < key y = ltb-true _ _ (and-right (eqb (classOf t κ k) c) _ a) in
+      let l : key k < key y = ltb-true _ _ (and-second (eqb (classOf t κ k) c) _ a) in
       record {
-        in-class = eqb-true _ _ (and-left (eqb (classOf t κ k) c) (ltb (key k) (key y)) a);
+        in-class = eqb-true _ _ (and-first (eqb (classOf t κ k) c) (ltb (key k) (key y)) a);
         first = passed-more c k k (λ z u q. omega (arith, p .first z u q, spot-less k y hk l)) (λ q. le-refl (spot k));
       })
       (λ a. record {
@@ -268,7 +268,7 @@ module _ (t : Tables) (κ : Kind) (n : ℕ) where
 
   -- ---- the first ones, sorted
 
-  module _ (ys : List ℕ) (S : Sorted (heads t κ n) ys (stable (keyAt (t .keys κ) (heads t κ n)) (length (heads t κ n)))) where
+  module _ (ys : List ℕ) (S : StandsByRank (heads t κ n) ys (stable (keyAt (t .keys κ) (heads t κ n)) (length (heads t κ n)))) where
     -- Entry i of the sorted list: where it stands in the list of first ones.
     from-at : (i : ℕ) → i < h → (k : ℕ) × (k < h) × (rankIn e h k ≡ i) × (getD ys i 0 ≡ getD hs k 0)
     from-at i hi = let r = rank-onto e h e-inj i hi in (r .0, r .1, r .2, ap (λ (j : ℕ). getD ys j 0) (sym (r .2)) ∙ S .moved (r .0) (r .1))

@@ -13,7 +13,7 @@ use Rattle.lists.proofs.Overlay.{overlay-same}
 use Rattle.lists.proofs.Tests.{keep-same}
 use Rattle.union_find.specs.Links.{root}
 use Rattle.union_find.proofs.LinkLaws.{root-low, root-idem}
-use Rattle.sorting.specs.Sorting.{keyAt, stable, Listed, Sorted}
+use Rattle.sorting.specs.Sorting.{keyAt, stable, Listed, StandsByRank}
 use Rattle.joiner.specs.Job.{Kind, Face, Tables}
 use Rattle.joiner.specs.Entries.{classOf, heads, rank, headOf}
 use Rattle.ranking.specs.Ranking.{Different, Firsts, Found, Ordered, Placed, Ranked, Standing, firstOf, firstsOf, part, standing, stands}
@@ -51,11 +51,11 @@ module _ (links keys xs cs ss fs gs : List ℕ) (n r : ℕ) (lx : n ≤ length x
 
 -- ---- `arrange`
 
-sorted-as : {ks ls ps qs ys : List ℕ} {m r : ℕ} → ks ≡ ls → ps ≡ qs → m ≡ r → Sorted ps ys (stable (keyAt ks ps) m) → Sorted qs ys (stable (keyAt ls qs) r)
+sorted-as : {ks ls ps qs ys : List ℕ} {m r : ℕ} → ks ≡ ls → ps ≡ qs → m ≡ r → StandsByRank ps ys (stable (keyAt ks ps) m) → StandsByRank qs ys (stable (keyAt ls qs) r)
 sorted-as a b e S = rw (← a, ← b, ← e) S
 
 module _ (links keys xs cs ss ys ws : List ℕ) (n h : ℕ) (lh : h ≤ n) (lx : n ≤ length xs) (ls : 2 * n ≤ length ss)
-    (S : Sorted (take (n + h - n) (drop n ss)) ys (stable (keyAt keys (take (n + h - n) (drop n ss))) (length (take (n + h - n) (drop n ss)))))
+    (S : StandsByRank (take (n + h - n) (drop n ss)) ys (stable (keyAt keys (take (n + h - n) (drop n ss))) (length (take (n + h - n) (drop n ss)))))
     (W : length ws ≡ length (take h xs)) (C : cs ≡ overlay (ws ++ drop h xs) 0 (root links) n) where
   same-behind : (j : ℕ) → n ≤ j → getD (ws ++ drop h xs) j 0 ≡ getD xs j 0
   same-behind j l =
@@ -64,7 +64,7 @@ module _ (links keys xs cs ss ys ws : List ℕ) (n h : ℕ) (lh : h ≤ n) (lx :
       let p : h + (j - h) ≡ j = omega arith in
       ap (λ (k : ℕ). getD (ws ++ drop h xs) k 0) (sym q) ∙ getD-append-add ws (drop h xs) (j - h) 0 ∙ getD-drop h xs (j - h) 0 ∙ ap (λ (k : ℕ). getD xs k 0) p
 
-  sorted : Sorted (part ss n h) ys (stable (keyAt keys (part ss n h)) h)
+  sorted : StandsByRank (part ss n h) ys (stable (keyAt keys (part ss n h)) h)
   sorted = sorted-as refl (part-lent ss n h) (ap length (part-lent ss n h) ∙ length-part ss n h (omega arith)) S
 
   sorted-long : length ys ≡ h
@@ -130,7 +130,7 @@ module _ {links keys xs cs ss₀ ss₁ : List ℕ} {n r : ℕ} (lx : n ≤ lengt
       count-is : r ≡ length (heads t κ n)
       count-is = G .total ∙ ap length (sym heads-are)
 
-      sorted-heads : Sorted (heads t κ n) (part ss₂ n r) (stable (keyAt (t .keys κ) (heads t κ n)) (length (heads t κ n)))
+      sorted-heads : StandsByRank (heads t κ n) (part ss₂ n r) (stable (keyAt (t .keys κ) (heads t κ n)) (length (heads t κ n)))
       sorted-heads = sorted-as (sym K) (G .listed ∙ sym heads-are) count-is (O .sorted)
 
       place-is : (i : ℕ) → i < r → getD (part ss₂ n r) i 0 ≡ getD ss₂ (n + i) 0

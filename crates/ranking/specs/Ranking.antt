@@ -8,7 +8,7 @@ use lib.Dec.{eqb, ltb}
 use lib.ListN.{getD, length, set, take, drop}
 use Rattle.lists.specs.Lists.{consecutive, keep, overlay}
 use Rattle.union_find.specs.Links.{root}
-use Rattle.sorting.specs.Sorting.{keyAt, stable, Sorted}
+use Rattle.sorting.specs.Sorting.{keyAt, stable, StandsByRank}
 use Rattle.joiner.specs.Job.{Kind, Tables}
 use Rattle.joiner.specs.Entries.{classOf, heads, rank, headOf}
 
@@ -80,7 +80,7 @@ pub record Found (links keys : List ℕ) (n r : ℕ) (numbers numbers′ spare s
 -- The places listed from place n on, sorted by key.
 pub record Ordered (links keys : List ℕ) (n h : ℕ) (numbers numbers′ spare spare′ : List ℕ) : Type 0 where
   pub classes : numbers′ ≡ overlay numbers 0 (root links) n
-  pub sorted : Sorted (part spare n h) (part spare′ n h) (stable (keyAt keys (part spare n h)) h)
+  pub sorted : StandsByRank (part spare n h) (part spare′ n h) (stable (keyAt keys (part spare n h)) h)
   pub long : length spare′ ≡ length spare
 
 -- What numbering takes: h places below n listed from place n on, of different classes.

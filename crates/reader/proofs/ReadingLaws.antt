@@ -26,8 +26,8 @@ use Rattle.extents.proofs.SizeLaws.{sized-at}
 use Rattle.labels.specs.Components.{ofOrder}
 use Rattle.lines.specs.Lines.{lineCount}
 use Rattle.lines.proofs.LineLaws.{cells-lines, next-line}
-use Rattle.records.specs.Fields.{field}
-use Rattle.records.specs.Record.{extentsOf, originOf, bitAt, standing, bitmapLength, numberOf, decode, some, lengthOf, damaged}
+use Rattle.records.specs.Fields.{fieldAt}
+use Rattle.records.specs.Record.{extentsOf, originOf, bitAt, standing, bitmapLength, numberOf, decodeRecord, some, lengthOf, damaged}
 use Rattle.records.proofs.BitLaws.{standing-more, some-append, some-none}
 use Rattle.records.proofs.ReadLaws.{standing-mono}
 use Rattle.reader.specs.declared.Head.{Head}
@@ -91,7 +91,7 @@ times-room p zero n h k r = omega arith
 times-room p (suc zero) n h k r = let s : p + 4 ≤ n = r refl in omega arith
 times-room p (suc (suc b)) n h k r = absurd (omega arith)
 
-pub number-times : (r : List ℕ) (p b x : ℕ) → b < 2 → x ≡ field r (p * b) 4 → x * b ≡ numberAt r b p
+pub number-times : (r : List ℕ) (p b x : ℕ) → b < 2 → x ≡ fieldAt r (p * b) 4 → x * b ≡ numberAt r b p
 unfolding numberAt
 number-times r p zero x h e = omega arith
 number-times r p (suc zero) x h e = mul-one x ∙ e ∙ rw (mul-one p)
@@ -120,8 +120,8 @@ module _ (n : ℕ) (r m : List ℕ) where
     front = rw (add-one c, tabulate-snoc c (numberOf n r), ← R .front, ← number-is n r c b p e (R .place), ← q) (take-suc-set m c v h);
   }
 
-  pub read-all : {c p : ℕ} → ReadTo r n c p m → c ≡ n → length m ≡ n → m ≡ decode n r
-  unfolding decode
+  pub read-all : {c p : ℕ} → ReadTo r n c p m → c ≡ n → length m ≡ n → m ≡ decodeRecord n r
+  unfolding decodeRecord
   read-all R e h = sym (take-all n m (omega arith)) ∙ rw e at (R .front)
 
 -- ---- damage
@@ -136,7 +136,7 @@ module _ (e : Triple) (r : List ℕ) where
     pub damaged-rest : length r ≡ 12 + bitmapLength n + 4 * k → damaged e r
         ≡ (some (λ c. eqb (bitAt r c) 1) (consecutive n (8 * bitmapLength n - n)) ||
         (some (λ c. eqb (bitAt r c) 0) (ofOrder e 3) ||
-        some (λ c. eqb (field r (12 + bitmapLength n + 4 * c) 4) 0) (consecutive 0 k)))
+        some (λ c. eqb (fieldAt r (12 + bitmapLength n + 4 * c) 4) 0) (consecutive 0 k)))
     unfolding damaged lengthOf
     damaged-rest d = rw (j, i, eq-eqb _ _ (rw (j, i) at d))
 
@@ -147,7 +147,7 @@ module _ (e : Triple) (r : List ℕ) where
 -- ---- refusals
 
 -- The head, field by field.
-pub head-is : (r : List ℕ) (a b c x y z : ℕ) → a ≡ field r 0 2 → b ≡ field r 2 2 → c ≡ field r 4 2 → x ≡ field r 6 2 → y ≡ field r 8 2 → z ≡ field r 10 2
+pub head-is : (r : List ℕ) (a b c x y z : ℕ) → a ≡ fieldAt r 0 2 → b ≡ fieldAt r 2 2 → c ≡ fieldAt r 4 2 → x ≡ fieldAt r 6 2 → y ≡ fieldAt r 8 2 → z ≡ fieldAt r 10 2
     → record { refusal = 0; nx = a; ny = b; nz = c; ox = x; oy = y; oz = z } ≡ headOf 0 (extentsOf r) (originOf r)
 unfolding extentsOf originOf
 head-is r a b c x y z i j k l m n = rw (i, j, k, l, m, n)
@@ -213,7 +213,7 @@ module _ (r t : List ℕ) (n : ℕ) (is : n ≡ refusalOf r (length t)) where
   unfolding reading refused
   read-refused d = rw (← is, ne-eqb n 0 d)
 
-  pub read-accepted : n ≡ 0 → (h : Head) (m : List ℕ) → h ≡ headOf 0 (extentsOf r) (originOf r) → m ≡ decode (length t) r → outcome h m ≡ reading r t
+  pub read-accepted : n ≡ 0 → (h : Head) (m : List ℕ) → h ≡ headOf 0 (extentsOf r) (originOf r) → m ≡ decodeRecord (length t) r → outcome h m ≡ reading r t
   unfolding reading accepted
   read-accepted z h m i j = rw (← is, eq-eqb n 0 z, i, j, ← readable r (length t) (sym is ∙ z) .is)
 

@@ -5,11 +5,11 @@ use mathlib.Core.List.{List, [], _∷_}
 use Prim.Native.Nat.{ℕ}
 use lib.Dec.{eqb, leb}
 use lib.ListN.{length}
-use Rattle.refusals.specs.Refusals.{off-size, wrong-tray, bad-record, Case, _if_, given}
+use Rattle.refusals.specs.Refusals.{off-size, wrong-tray, bad-record, Case, _if_, givenRefusal}
 use Rattle.cells.specs.Box.{Triple}
 use Rattle.cells.specs.Extents.{offPlace}
 use Rattle.cells.specs.Grid.{cells}
-use Rattle.records.specs.Record.{extentsOf, originOf, decode, damaged}
+use Rattle.records.specs.Record.{extentsOf, originOf, decodeRecord, damaged}
 use Rattle.reader.specs.declared.Head.{Head}
 
 -- All 12 head bytes are there.
@@ -26,7 +26,7 @@ declines r tray =
 
 -- The refusal of a call, 0 for none.
 unfoldable pub refusalOf : List ℕ → ℕ → ℕ
-refusalOf r tray = given (declines r tray)
+refusalOf r tray = givenRefusal (declines r tray)
 
 -- The answer, and what the map tray holds.
 pub record Outcome : Type 0 where
@@ -41,7 +41,7 @@ headOf n e o = record { refusal = n; nx = e .x; ny = e .y; nz = e .z; ox = o .x;
 
 -- Accepted: "the reader answers extents, origin and map".
 unfoldable pub accepted : List ℕ → Outcome
-accepted r = outcome (headOf 0 (extentsOf r) (originOf r)) (decode (cells (extentsOf r)) r)
+accepted r = outcome (headOf 0 (extentsOf r) (originOf r)) (decodeRecord (cells (extentsOf r)) r)
 
 -- Refused: the number, and the tray as it was.
 unfoldable pub refused : ℕ → List ℕ → Outcome

@@ -14,9 +14,9 @@ ghost use Rattle.cells.specs.Extents.{Sized};
 ghost use Rattle.cells.specs.Grid.{cells, order};
 ghost use Rattle.labels.specs.Components.{ofOrder};
 ghost use Rattle.lines.specs.Lines.{lineCount};
-ghost use Rattle.records.specs.Fields.{field};
-ghost use Rattle.records.specs.Record.{extentsOf, originOf, bitAt, standing, some, bitmapLength, lengthOf, decode, damaged};
-ghost use Rattle.reader.specs.Parts.{Mapped, ReadTo, ones, numberAt};
+ghost use Rattle.records.specs.Fields.{fieldAt};
+ghost use Rattle.records.specs.Record.{extentsOf, originOf, bitAt, standing, some, bitmapLength, lengthOf, decodeRecord, damaged};
+ghost use Rattle.reader.specs.Parts.{Mapped, ReadTo, bitCount, numberAt};
 ghost use Rattle.reader.specs.Reading.{refusalOf, outcome, headOf, reading};
 
 // What a reading answers: the number of its refusal, 0 for none, and the extents and the origin of the block.
@@ -33,14 +33,14 @@ pub struct Head {
 // The fields of two and of four bytes.
 fn two(bytes: &[u8], at: usize) -> u16
     requires { ⌜ at + 2 ≤ length (now bytes) ⌝ }
-    ensures { λ r. ⌜ r ≡ field (now (bytes .entry)) at 2 ⌝ }
+    ensures { λ r. ⌜ r ≡ fieldAt (now (bytes .entry)) at 2 ⌝ }
 {
     (bytes[at] as u16) + 256 * (bytes[at + 1] as u16)
 }
 
 fn four(bytes: &[u8], at: usize) -> u32
     requires { ⌜ at + 4 ≤ length (now bytes) ⌝ }
-    ensures { λ r. ⌜ r ≡ field (now (bytes .entry)) at 4 ⌝ }
+    ensures { λ r. ⌜ r ≡ fieldAt (now (bytes .entry)) at 4 ⌝ }
 {
     let a = bytes[at] as u32;
     let b = bytes[at + 1] as u32;
@@ -59,7 +59,7 @@ fn bit_at(bytes: &[u8], c: usize) -> u8
 
 // How many bits of a byte stand.
 fn ones(b: u8) -> usize
-    ensures { λ r. ⌜ r ≡ ones b ⌝ }
+    ensures { λ r. ⌜ r ≡ bitCount b ⌝ }
 {
     (b % 2
         + b / 2 % 2
@@ -154,7 +154,7 @@ fn voxel_clear(bytes: &[u8], nx: usize, ny: usize, nz: usize) -> bool
 // Whether one of the numbers listed from place at on is 0.
 fn zero_listed(bytes: &[u8], at: usize, count: usize) -> bool
     requires { ⌜ at + 4 * count ≤ length (now bytes) ⌝ }
-    ensures { λ r. ⌜ r ≡ some (λ k. eqb (field (now (bytes .entry)) (at + 4 * k) 4) 0) (consecutive 0 count) ⌝ }
+    ensures { λ r. ⌜ r ≡ some (λ k. eqb (fieldAt (now (bytes .entry)) (at + 4 * k) 4) 0) (consecutive 0 count) ⌝ }
 {
     let mut k: usize = 0;
     while k < count {
@@ -265,7 +265,7 @@ fn load_byte(bytes: &[u8], i: usize, count: usize, at: usize, map: &mut [u32]) -
 // Reads the numbers of all cells: those of the whole bytes, then the rest.
 fn load(bytes: &[u8], map: &mut [u32])
     requires { ⌜ Mapped (now bytes) (length (now map)) × (length (now bytes) ≡ lengthOf (length (now map)) (now bytes)) ⌝ }
-    ensures { λ _. ⌜ now (map .exit) ≡ decode (length (now (map .entry))) (now (bytes .entry)) ⌝ }
+    ensures { λ _. ⌜ now (map .exit) ≡ decodeRecord (length (now (map .entry))) (now (bytes .entry)) ⌝ }
 {
     let n = map.len();
     let mut at = 12 + (n + 7) / 8;

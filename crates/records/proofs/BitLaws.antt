@@ -13,27 +13,27 @@ use lib.Seq.{drop-cons}
 use borrow.Author.Tests.{eqb-true, eqb-false}
 use Rattle.lists.proofs.Cases.{by-test}
 use Rattle.closure.proofs.Numbers.{count-hit, count-miss, count-bound}
-use Rattle.records.specs.Fields.{value, field}
+use Rattle.records.specs.Fields.{value, fieldAt}
 use Rattle.records.proofs.ReadLaws.{bit-at-lt, bit-at-byte}
 use Rattle.records.specs.Record.{bitAt, standing, some}
 
 -- ---- fields
 
-field-more : (r : List ℕ) (p n : ℕ) → p < length r → field r p (suc n) ≡ getD r p 0 + 256 * field r (suc p) n
-unfolding field value
+field-more : (r : List ℕ) (p n : ℕ) → p < length r → fieldAt r p (suc n) ≡ getD r p 0 + 256 * fieldAt r (suc p) n
+unfolding fieldAt value
 field-more r p n h = rw (drop-cons r p 0 h)
 
-field-none : (r : List ℕ) (p : ℕ) → field r p 0 ≡ 0
-unfolding field value
+field-none : (r : List ℕ) (p : ℕ) → fieldAt r p 0 ≡ 0
+unfolding fieldAt value
 field-none r p = refl
 
 -- The bytes of a field of two and of four bytes.
-pub field-two : (r : List ℕ) (p : ℕ) → p + 2 ≤ length r → getD r p 0 + 256 * getD r (p + 1) 0 ≡ field r p 2
+pub field-two : (r : List ℕ) (p : ℕ) → p + 2 ≤ length r → getD r p 0 + 256 * getD r (p + 1) 0 ≡ fieldAt r p 2
 field-two r p h =
     rw (field-more r p 1 (omega arith), field-more r (suc p) 0 (omega arith), field-none r (suc (suc p)), add-one p) (omega arith)
 
 pub field-four : (r : List ℕ) (p : ℕ) → p + 4 ≤ length r
-    → getD r p 0 + 256 * (getD r (p + 1) 0 + 256 * (getD r (p + 2) 0 + 256 * getD r (p + 3) 0)) ≡ field r p 4
+    → getD r p 0 + 256 * (getD r (p + 1) 0 + 256 * (getD r (p + 2) 0 + 256 * getD r (p + 3) 0)) ≡ fieldAt r p 4
 field-four r p h =
     let a : p + 2 ≡ suc (suc p) = omega arith in
     let b : p + 3 ≡ suc (suc (suc p)) = omega arith in

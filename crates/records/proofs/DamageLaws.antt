@@ -15,7 +15,7 @@ use Rattle.cells.specs.Box.{Triple}
 use Rattle.cells.specs.Grid.{cells}
 use Rattle.labels.specs.Components.{ofOrder}
 use Rattle.lists.proofs.Cases.{neither}
-use Rattle.records.specs.Fields.{field}
+use Rattle.records.specs.Fields.{fieldAt}
 use Rattle.records.specs.Record.{bitmapLength, bitAt, standing, some, lengthOf, damaged}
 use Rattle.records.proofs.ReadLaws.{bit-at-lt}
 
@@ -38,7 +38,7 @@ pub record Whole (e : Triple) (r : List ℕ) : Type 0 where
   pub sized : length r ≡ lengthOf (cells e) r
   pub spared : (c : ℕ) → cells e ≤ c → c < 8 * bitmapLength (cells e) → bitAt r c ≡ 0
   pub voxels : (c : ℕ) → List·Memᴰ c (ofOrder e 3) → bitAt r c ≡ 1
-  pub nonzero : (k : ℕ) → k < standing r (cells e) → field r (12 + bitmapLength (cells e) + 4 * k) 4 ≡ 0 → ⊥
+  pub nonzero : (k : ℕ) → k < standing r (cells e) → fieldAt r (12 + bitmapLength (cells e) + 4 * k) 4 ≡ 0 → ⊥
 
 pub whole-damaged : (e : Triple) (r : List ℕ) → Whole e r → damaged e r ≡ false
 unfolding damaged
@@ -51,8 +51,8 @@ whole-damaged e r w =
     v : some (λ c. eqb (bitAt r c) 0) (ofOrder e 3) ≡ false
     v = some-none _ _ (λ c k. rw (w .voxels c k))
 
-    n : some (λ k. eqb (field r (12 + bitmapLength (cells e) + 4 * k) 4) 0) (consecutive 0 (standing r (cells e))) ≡ false
-    n = some-none _ _ (λ k h. let b = consecutive-out 0 (standing r (cells e)) h in ne-eqb (field r (12 + bitmapLength (cells e) + 4 * k) 4) 0 (w .nonzero k (omega arith)))
+    n : some (λ k. eqb (fieldAt r (12 + bitmapLength (cells e) + 4 * k) 4) 0) (consecutive 0 (standing r (cells e))) ≡ false
+    n = some-none _ _ (λ k h. let b = consecutive-out 0 (standing r (cells e)) h in ne-eqb (fieldAt r (12 + bitmapLength (cells e) + 4 * k) 4) 0 (w .nonzero k (omega arith)))
 
 pub damaged-whole : (e : Triple) (r : List ℕ) → damaged e r ≡ false → Whole e r
 unfolding damaged
@@ -60,7 +60,7 @@ damaged-whole e r d =
     let n : ℕ = cells e in
     let spare : ℕ → Bool = λ c. eqb (bitAt r c) 1 in
     let clear : ℕ → Bool = λ c. eqb (bitAt r c) 0 in
-    let empty : ℕ → Bool = λ k. eqb (field r (12 + bitmapLength n + 4 * k) 4) 0 in
+    let empty : ℕ → Bool = λ k. eqb (fieldAt r (12 + bitmapLength n + 4 * k) 4) 0 in
     let sp : List ℕ = consecutive n (8 * bitmapLength n - n) in
     let st : List ℕ = consecutive 0 (standing r n) in
     let d₁ : (some spare sp || (some clear (ofOrder e 3) || some empty st)) ≡ false = neither (not (eqb (length r) (lengthOf n r))) _ d .1 in
@@ -73,5 +73,5 @@ damaged-whole e r d =
       voxels = λ c k.
           let f : bitAt r c ≡ 0 → ⊥ = eqb-false (bitAt r c) 0 (none-some clear (ofOrder e 3) (neither (some clear (ofOrder e 3)) _ d₂ .0) k) in
           omega (arith, bit-at-lt r c);
-      nonzero = λ k h. eqb-false (field r (12 + bitmapLength n + 4 * k) 4) 0 (none-some empty st (neither (some clear (ofOrder e 3)) _ d₂ .1) (consecutive-in 0 (standing r n) (omega arith) (omega arith)));
+      nonzero = λ k h. eqb-false (fieldAt r (12 + bitmapLength n + 4 * k) 4) 0 (none-some empty st (neither (some clear (ofOrder e 3)) _ d₂ .1) (consecutive-in 0 (standing r n) (omega arith) (omega arith)));
     }

@@ -13,7 +13,7 @@ use Rattle.lists.proofs.Cases.{by-test}
 use Rattle.lists.proofs.Lists.{length-tabulate}
 use Rattle.cells.specs.Box.{Triple}
 use Rattle.records.specs.Fields.{bytes, laid}
-use Rattle.records.specs.Record.{headBytes, bit, mapByte, bitmapLength, bitmap, listed, encode}
+use Rattle.records.specs.Record.{headBytes, bit, mapByte, bitmapLength, bitmap, listed, encodeRecord}
 
 -- ---- bytes laid
 
@@ -84,8 +84,8 @@ pub length-bitmap : (m : List ℕ) → length (bitmap m) ≡ bitmapLength (lengt
 unfolding bitmap
 length-bitmap m = length-tabulate (bitmapLength (length m)) (mapByte m)
 
-pub length-encode : (e o : Triple) (m : List ℕ) → length (encode e o m) ≡ 12 + bitmapLength (length m) + length (listed m)
-unfolding encode
+pub length-encode : (e o : Triple) (m : List ℕ) → length (encodeRecord e o m) ≡ 12 + bitmapLength (length m) + length (listed m)
+unfolding encodeRecord
 length-encode e o m = rw (length-append, length-append, length-head e o, length-bitmap m)
 
 -- A number that is 0 is not listed, and another takes four bytes.
@@ -124,8 +124,8 @@ laid-head e o t t₁ t₂ h a b =
 
 -- A record is laid by its three pieces.
 pub laid-encode : (e o : Triple) (m t : List ℕ) → 12 + bitmapLength (length m) + length (listed m) ≤ length t
-    → laid (12 + bitmapLength (length m)) (listed m) (laid 12 (bitmap m) (laid 0 (headBytes e o) t)) ≡ laid 0 (encode e o m) t
-unfolding encode
+    → laid (12 + bitmapLength (length m)) (listed m) (laid 12 (bitmap m) (laid 0 (headBytes e o) t)) ≡ laid 0 (encodeRecord e o m) t
+unfolding encodeRecord
 laid-encode e o m t h =
     let a = length-head e o in
     let b = length-bitmap m in

@@ -14,7 +14,7 @@ use Rattle.lists.proofs.Lists.{length-tabulate, getD-tabulate}
 use Rattle.closure.specs.Numbered.{countBelow}
 use Rattle.records.specs.Fields.{bytes}
 use Rattle.records.specs.Record.{bit, mapByte, bitmapLength, bitmap, listed}
-use Rattle.records.proofs.FieldLaws.{Below, below-nil, below-append, below-bytes, packed-bit, packed-byte}
+use Rattle.records.proofs.FieldLaws.{EntriesBelow, below-nil, below-append, below-bytes, packed-bit, packed-byte}
 
 -- ---- the bit of a number
 
@@ -38,7 +38,7 @@ bit-at : (l : List ℕ) (k : ℕ) → getD (map bit l) k 0 ≡ bit (getD l k 0)
 unfolding bit
 bit-at l k = List·getD-map bit l k 0
 
-bits-below : (l : List ℕ) → Below 2 (map bit l)
+bits-below : (l : List ℕ) → EntriesBelow 2 (map bit l)
 bits-below l k h = rw bit-at (bit-lt (getD l k 0))
 
 pub map-byte-bit : (m : List ℕ) (i k : ℕ) → k < 8 → mapByte m i / 2 ^ k % 2 ≡ bit (getD m (8 * i + k) 0)
@@ -59,7 +59,7 @@ pub bitmap-at : (m : List ℕ) (i : ℕ) → i < bitmapLength (length m) → get
 unfolding bitmap
 bitmap-at m i h = getD-tabulate (bitmapLength (length m)) (mapByte m) i h
 
-pub below-bitmap : (m : List ℕ) → Below 256 (bitmap m)
+pub below-bitmap : (m : List ℕ) → EntriesBelow 256 (bitmap m)
 below-bitmap m k h = rw (bitmap-at m k (omega (arith, length-bitmap m))) (map-byte-lt m k)
 
 -- ---- the listed numbers
@@ -86,10 +86,10 @@ pub listed-split : (m : List ℕ) (c : ℕ) → c < length m → (getD m c 0 ≡
 listed-split m c h z =
     ap listed (split-at m c 0 h) ∙ listed-append (take c m) (getD m c 0 ∷ drop (suc c) m) ∙ ap (λ l. listed (take c m) ++ l) (listed-one (getD m c 0) (drop (suc c) m) z)
 
-pub below-listed : (m : List ℕ) → Below 256 (listed m)
+pub below-listed : (m : List ℕ) → EntriesBelow 256 (listed m)
 unfolding listed
 below-listed [] = below-nil 256
-below-listed (v ∷ m) = picked (Below 256) (eqb v 0) (listed m) (bytes 4 v ++ listed m) (λ _. below-listed m) (λ _. below-append 256 (bytes 4 v) (listed m) (below-bytes 4 v) (below-listed m))
+below-listed (v ∷ m) = picked (EntriesBelow 256) (eqb v 0) (listed m) (bytes 4 v ++ listed m) (λ _. below-listed m) (λ _. below-append 256 (bytes 4 v) (listed m) (below-bytes 4 v) (below-listed m))
 
 -- The number of cell d of a map is listed.
 abbrev pub shown : List ℕ → ℕ → Bool

@@ -10,9 +10,9 @@ use borrow.Author.Tests.{eqb-true, eqb-false}
 use Rattle.lists.proofs.Cases.{by-test}
 use Rattle.lists.proofs.Lists.{length-tabulate, getD-tabulate}
 use Rattle.closure.proofs.Numbers.{count-hit, count-miss, count-mono}
-use Rattle.records.specs.Fields.{field}
-use Rattle.records.specs.Record.{bitmapLength, bitAt, standing, numberOf, decode}
-use Rattle.records.proofs.FieldLaws.{Below, field-four}
+use Rattle.records.specs.Fields.{fieldAt}
+use Rattle.records.specs.Record.{bitmapLength, bitAt, standing, numberOf, decodeRecord}
+use Rattle.records.proofs.FieldLaws.{EntriesBelow, field-four}
 
 pub bit-at-lt : (r : List ℕ) (c : ℕ) → bitAt r c < 2
 unfolding bitAt
@@ -27,7 +27,7 @@ pub number-off : (n : ℕ) (r : List ℕ) (c : ℕ) → bitAt r c ≡ 0 → numb
 unfolding numberOf
 number-off n r c h = rw h
 
-pub number-on : (n : ℕ) (r : List ℕ) (c : ℕ) → bitAt r c ≡ 1 → numberOf n r c ≡ field r (12 + bitmapLength n + 4 * standing r c) 4
+pub number-on : (n : ℕ) (r : List ℕ) (c : ℕ) → bitAt r c ≡ 1 → numberOf n r c ≡ fieldAt r (12 + bitmapLength n + 4 * standing r c) 4
 unfolding numberOf
 number-on n r c h = rw h
 
@@ -43,15 +43,15 @@ pub standing-mono : (r : List ℕ) (c d : ℕ) → c ≤ d → standing r c ≤ 
 unfolding standing
 standing-mono r c d h = count-mono (λ i. eqb (bitAt r i) 1) c d h
 
-pub length-decode : (n : ℕ) (r : List ℕ) → length (decode n r) ≡ n
-unfolding decode
+pub length-decode : (n : ℕ) (r : List ℕ) → length (decodeRecord n r) ≡ n
+unfolding decodeRecord
 length-decode n r = length-tabulate n (numberOf n r)
 
-pub decode-at : (n : ℕ) (r : List ℕ) (c : ℕ) → c < n → getD (decode n r) c 0 ≡ numberOf n r c
-unfolding decode
+pub decode-at : (n : ℕ) (r : List ℕ) (c : ℕ) → c < n → getD (decodeRecord n r) c 0 ≡ numberOf n r c
+unfolding decodeRecord
 decode-at n r c h = getD-tabulate n (numberOf n r) c h
 
-pub decode-numbers : (n : ℕ) (r : List ℕ) → Below 256 r → Below 4294967296 (decode n r)
+pub decode-numbers : (n : ℕ) (r : List ℕ) → EntriesBelow 256 r → EntriesBelow 4294967296 (decodeRecord n r)
 decode-numbers n r b c h =
     rw (decode-at n r c (omega (arith, length-decode n r)))
     (by-bit r c (λ z. rw (number-off n r c z) (omega arith)) (λ z. rw (number-on n r c z) (field-four r (12 + bitmapLength n + 4 * standing r c) b)))

@@ -15,8 +15,8 @@ value [] = 0
 value (b ∷ bs) = b + 256 * value bs
 
 -- The field of n bytes at place p.
-unfoldable pub field : List ℕ → ℕ → ℕ → ℕ
-field r p n = value (take n (drop p r))
+unfoldable pub fieldAt : List ℕ → ℕ → ℕ → ℕ
+fieldAt r p n = value (take n (drop p r))
 
 -- Bits as one number.
 unfoldable pub packed : List ℕ → ℕ

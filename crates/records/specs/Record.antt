@@ -10,7 +10,7 @@ use Rattle.closure.specs.Numbered.{countBelow}
 use Rattle.cells.specs.Box.{Triple, triple}
 use Rattle.cells.specs.Grid.{cells}
 use Rattle.labels.specs.Components.{ofOrder}
-use Rattle.records.specs.Fields.{bytes, field, packed}
+use Rattle.records.specs.Fields.{bytes, fieldAt, packed}
 
 -- ---- written
 
@@ -38,16 +38,16 @@ listed [] = []
 listed (v ∷ vs) = cond (eqb v 0) (listed vs) (bytes 4 v ++ listed vs)
 
 -- The record of a map.
-unfoldable pub encode : Triple → Triple → List ℕ → List ℕ
-encode e o m = headBytes e o ++ bitmap m ++ listed m
+unfoldable pub encodeRecord : Triple → Triple → List ℕ → List ℕ
+encodeRecord e o m = headBytes e o ++ bitmap m ++ listed m
 
 -- ---- read
 
 unfoldable pub extentsOf : List ℕ → Triple
-extentsOf r = triple (field r 0 2) (field r 2 2) (field r 4 2)
+extentsOf r = triple (fieldAt r 0 2) (fieldAt r 2 2) (fieldAt r 4 2)
 
 unfoldable pub originOf : List ℕ → Triple
-originOf r = triple (field r 6 2) (field r 8 2) (field r 10 2)
+originOf r = triple (fieldAt r 6 2) (fieldAt r 8 2) (fieldAt r 10 2)
 
 -- The bit of cell c.
 unfoldable pub bitAt : List ℕ → ℕ → ℕ
@@ -59,11 +59,11 @@ standing r c = countBelow (λ d. eqb (bitAt r d) 1) c
 
 -- The number of cell c in a record of n cells.
 unfoldable pub numberOf : ℕ → List ℕ → ℕ → ℕ
-numberOf n r c = cond (eqb (bitAt r c) 1) (field r (12 + bitmapLength n + 4 * standing r c) 4) 0
+numberOf n r c = cond (eqb (bitAt r c) 1) (fieldAt r (12 + bitmapLength n + 4 * standing r c) 4) 0
 
 -- The map of a record of n cells.
-unfoldable pub decode : ℕ → List ℕ → List ℕ
-decode n r = tabulate n (numberOf n r)
+unfoldable pub decodeRecord : ℕ → List ℕ → List ℕ
+decodeRecord n r = tabulate n (numberOf n r)
 
 -- ---- the cases of the refusals
 
@@ -86,4 +86,4 @@ damaged e r =
     not (eqb (length r) (lengthOf (cells e) r)) ||
     (some (λ c. eqb (bitAt r c) 1) (consecutive (cells e) (8 * bitmapLength (cells e) - cells e)) ||
     (some (λ c. eqb (bitAt r c) 0) (ofOrder e 3) ||
-    some (λ k. eqb (field r (12 + bitmapLength (cells e) + 4 * k) 4) 0) (consecutive 0 (standing r (cells e)))))
+    some (λ k. eqb (fieldAt r (12 + bitmapLength (cells e) + 4 * k) 4) 0) (consecutive 0 (standing r (cells e)))))

@@ -35,25 +35,25 @@ table-whole table-full = later (later (later (later (later (later (later (later 
 table-whole bad-record = later (later (later (later (later (later (later (later (later (later (here refl))))))))))
 
 -- What is given is the number of a refusal whose case stands.
-pub record Given (stands : Refusal → Bool) (rs : List Refusal) (n : ℕ) : Type 0 where
+pub record GivenFirst (stands : Refusal → Bool) (rs : List Refusal) (n : ℕ) : Type 0 where
   pub refusal : Refusal
   pub listed : List·Memᴰ refusal rs
   pub case : stands refusal ≡ true
   pub is : n ≡ number refusal
 
 -- No refusal is 0.
-all-positive : allOf (λ r. ltb 0 (number r)) table ≡ true
+all-number-positive : allOf (λ r. ltb 0 (number r)) table ≡ true
 unfolding number table
-all-positive = refl
+all-number-positive = refl
 
-positive : (r : Refusal) → 0 < number r
-positive r = ltb-true 0 (number r) (all-out (λ q. ltb 0 (number q)) table all-positive (table-whole r))
+number-positive : (r : Refusal) → 0 < number r
+number-positive r = ltb-true 0 (number r) (all-out (λ q. ltb 0 (number q)) table all-number-positive (table-whole r))
 
 ascending : Ascends 1 (map number table)
 ascending = rw table-numbers (ascends-consecutive 1 11)
 
 module _ (stands : Refusal → Bool) where
-  first-given : (rs : List Refusal) → 0 < first stands rs → Given stands rs (first stands rs)
+  first-given : (rs : List Refusal) → 0 < first stands rs → GivenFirst stands rs (first stands rs)
   unfolding first
   first-given [] h = absurd (omega arith)
   first-given (r ∷ rs) h =
@@ -75,7 +75,7 @@ module _ (stands : Refusal → Bool) where
           (λ u. rw u (ih k))
 
   -- What is given has its case, and no lower refusal has.
-  pub given-case : 0 < givenBy stands → Given stands table (givenBy stands)
+  pub given-case : 0 < givenBy stands → GivenFirst stands table (givenBy stands)
   unfolding givenBy
   given-case h = first-given table h
 
@@ -84,7 +84,7 @@ module _ (stands : Refusal → Bool) where
   given-least r t = first-lowest 0 table ascending (table-whole r) t
 
   -- What is given is a case that stands, or one of a row before it.
-  first-before : (before after : List Refusal) {r : Refusal} → stands r ≡ true → Given stands (before ++ r ∷ []) (first stands (before ++ r ∷ after))
+  first-before : (before after : List Refusal) {r : Refusal} → stands r ≡ true → GivenFirst stands (before ++ r ∷ []) (first stands (before ++ r ∷ after))
   unfolding first
   first-before [] after {r} t = rw t (record { refusal = r; listed = here refl; case = t; is = refl })
   first-before (q ∷ before) after {r} t =
@@ -92,7 +92,7 @@ module _ (stands : Refusal → Bool) where
       (λ u. rw u (record { refusal = q; listed = here refl; case = u; is = refl }))
       (λ u. rw u (let g = first-before before after t in record { refusal = g .refusal; listed = later (g .listed); case = g .case; is = g .is }))
 
-  pub given-before : (before after : List Refusal) {r : Refusal} → table ≡ before ++ r ∷ after → stands r ≡ true → Given stands (before ++ r ∷ []) (givenBy stands)
+  pub given-before : (before after : List Refusal) {r : Refusal} → table ≡ before ++ r ∷ after → stands r ≡ true → GivenFirst stands (before ++ r ∷ []) (givenBy stands)
   unfolding givenBy
   given-before before after {r} e t = rw e (first-before before after t)
 
@@ -101,7 +101,7 @@ module _ (stands : Refusal → Bool) where
   first-none [] z m = absurd (List·Memᴰ·not-nil m)
   first-none (r ∷ rs) z {q} m =
       by-test (stands r)
-      (λ t. absurd (omega (arith, rw t at z, positive r)))
+      (λ t. absurd (omega (arith, rw t at z, number-positive r)))
       (λ t. go t (List·Memᴰ·cases-cons m) (λ k. first-none rs (rw t at z) k))
     where
       go : stands r ≡ false → (q ≡ r) ⊎ List·Memᴰ q rs → (List·Memᴰ q rs → stands q ≡ false) → stands q ≡ false

@@ -53,8 +53,8 @@ standsIn [] r = false
 standsIn (c ∷ cs) r = cond (eqb (number (c .refusal)) (number r)) (c .stands) (standsIn cs r)
 
 -- What an entry with these cases gives, 0 for none.
-abbrev pub given : List Case → ℕ
-given cs = givenBy (standsIn cs)
+abbrev pub givenRefusal : List Case → ℕ
+givenRefusal cs = givenBy (standsIn cs)
 
 -- The numbers that an entry lists.
 unfoldable pub listedNumbers : List Case → List ℕ

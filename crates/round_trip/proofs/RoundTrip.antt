@@ -15,10 +15,10 @@ use Rattle.refusals.proofs.RefusalLaws.{given-none}
 use Rattle.cells.specs.Box.{Triple, Axis, coord}
 use Rattle.cells.specs.Extents.{offPlace}
 use Rattle.cells.specs.Grid.{cells}
-use Rattle.records.specs.Record.{encode, extentsOf, originOf, decode, damaged, blankVoxel}
-use Rattle.records.proofs.FieldLaws.{Below}
+use Rattle.records.specs.Record.{encodeRecord, extentsOf, originOf, decodeRecord, damaged, blankVoxel}
+use Rattle.records.proofs.FieldLaws.{EntriesBelow}
 use Rattle.records.proofs.ReadLaws.{length-decode}
-use Rattle.records.proofs.RoundTrip.{encode-extents, encode-origin, encode-length, decode-encode, encode-whole, encode-decode, decode-voxels}
+use Rattle.records.proofs.RoundTrip.{encode-extents, encode-origin, encode-length, decode-encoded, encode-whole, encode-decode, decode-voxels}
 use Rattle.writer.specs.declared.Written.{Written}
 use Rattle.writer.specs.Writing as w
 use Rattle.reader.specs.declared.Head.{Head}
@@ -30,7 +30,7 @@ use Rattle.reader.specs.Reading as r
 record Writable (e o : Triple) (m : List ℕ) (tray : ℕ) : Type 0 where
   placed : offPlace e o ≡ false
   whole : length m ≡ cells e
-  room : length (encode e o m) ≤ tray
+  room : length (encodeRecord e o m) ≤ tray
   voxels : blankVoxel e m ≡ false
 
 module _ (e o : Triple) (m : List ℕ) (tray : ℕ) where
@@ -38,17 +38,17 @@ module _ (e o : Triple) (m : List ℕ) (tray : ℕ) where
   unfolding w.refusalOf w.declines standsIn number
   writable z =
       let n = given-none (standsIn (w.declines e o m tray)) .0 z in
-      let t = neither (not (eqb (length m) (cells e))) (ltb tray (length (encode e o m))) (n wrong-tray) in
+      let t = neither (not (eqb (length m) (cells e))) (ltb tray (length (encodeRecord e o m))) (n wrong-tray) in
       record {
         placed = n off-size;
         whole = eqb-true (length m) (cells e) (not-false _ (t .0));
-        room = ltb-false tray (length (encode e o m)) (t .1);
+        room = ltb-false tray (length (encodeRecord e o m)) (t .1);
         voxels = n stray-label;
       }
 
   unrefused : Writable e o m tray → w.refusalOf e o m tray ≡ 0
   unfolding w.refusalOf w.declines givenBy first table number standsIn
-  unrefused k = rw (k .placed, eq-eqb (length m) (cells e) (k .whole), le-ltb tray (length (encode e o m)) (k .room), k .voxels)
+  unrefused k = rw (k .placed, eq-eqb (length m) (cells e) (k .whole), le-ltb tray (length (encodeRecord e o m)) (k .room), k .voxels)
 
 module _ (e o : Triple) (m t : List ℕ) where
   accepted-writing : w.refusalOf e o m (length t) ≡ 0 → w.writing e o m t ≡ w.accepted e o m t
@@ -107,11 +107,11 @@ module _ (b t : List ℕ) where
 
 -- What `write_record` wrote, `read_record` reads back as the map, the extents and the origin it was written from.
 pub written-read : (e o : Triple) (m t : List ℕ) (a : Written) (t′ : List ℕ) → w.outcome a t′ ≡ w.writing e o m t → a .refusal ≡ 0
-    → ((x : Axis) → coord e x < 65536) → ((x : Axis) → coord o x < 65536) → Below 4294967296 m
+    → ((x : Axis) → coord e x < 65536) → ((x : Axis) → coord o x < 65536) → EntriesBelow 4294967296 m
     → (s : List ℕ) → length s ≡ cells e → r.reading (take (a .length) t′) s ≡ r.outcome (r.headOf 0 e o) m
 unfolding w.accepted r.accepted
 written-read e o m t a t′ promise fine he ho hm s k =
-    let E : List ℕ = encode e o m in
+    let E : List ℕ = encodeRecord e o m in
     let z : w.refusalOf e o m (length t) ≡ 0 = no-refusal e o m t a t′ promise fine in
     let W : Writable e o m (length t) = writable e o m (length t) z in
     let acc : w.outcome a t′ ≡ w.accepted e o m t = promise ∙ accepted-writing e o m t z in
@@ -126,19 +126,19 @@ written-read e o m t a t′ promise fine he ho hm s k =
       room = k ∙ ap cells (sym ee);
       sound = rw ee (encode-whole e o m (W .whole) hm (W .voxels));
     } in
-    let back : decode (cells e) E ≡ m = rw (W .whole) at (decode-encode e o m hm) in
+    let back : decodeRecord (cells e) E ≡ m = rw (W .whole) at (decode-encoded e o m hm) in
     rw bytes (accepted-reading E s (undeclined E (length s) R) ∙ rw (ee, oo, back))
 
 -- Each record that `read_record` accepts is byte for byte the one its map would be written as.
-pub read-written : (b t : List ℕ) (a : Head) (t′ : List ℕ) → r.outcome a t′ ≡ r.reading b t → a .refusal ≡ 0 → Below 256 b
+pub read-written : (b t : List ℕ) (a : Head) (t′ : List ℕ) → r.outcome a t′ ≡ r.reading b t → a .refusal ≡ 0 → EntriesBelow 256 b
     → (s : List ℕ) → length b ≤ length s → w.writing (extentsOf b) (originOf b) t′ s ≡ w.outcome (record { refusal = 0; length = length b }) (b ++ drop (length b) s)
 unfolding w.accepted r.accepted
 read-written b t a t′ promise fine hb s k =
     let z : r.refusalOf b (length t) ≡ 0 = no-decline b t a t′ promise fine in
     let R : Readable b (length t) = readable b (length t) z in
     let n : ℕ = cells (extentsOf b) in
-    let tray : t′ ≡ decode n b = ap (λ (x : r.Outcome). x .tray) (promise ∙ accepted-reading b t z) in
-    let same : encode (extentsOf b) (originOf b) t′ ≡ b = rw tray (encode-decode b hb (R .sound)) in
+    let tray : t′ ≡ decodeRecord n b = ap (λ (x : r.Outcome). x .tray) (promise ∙ accepted-reading b t z) in
+    let same : encodeRecord (extentsOf b) (originOf b) t′ ≡ b = rw tray (encode-decode b hb (R .sound)) in
     let W : Writable (extentsOf b) (originOf b) t′ (length s) = record {
       placed = R .placed;
       whole = rw tray (length-decode n b);

@@ -9,13 +9,13 @@ use native.Mathlib.Omega.{arith}
 use lib.Dec.{leb, ltb}
 use lib.ListN.{length, take, drop}
 use borrow.Author.Tests.{leb-true, ltb-true, lt-ltb, le-ltb}
-use Rattle.lists.proofs.Cases.{and-left, and-right}
+use Rattle.lists.proofs.Cases.{and-first, and-second}
 use Rattle.refusals.specs.Refusals.{number, table, first, givenBy, standsIn}
-use Rattle.joiner.specs.Job.{Face, Curve, Point, State, width, fits, listedTrays}
+use Rattle.joiner.specs.Job.{Face, Curve, Point, State, width, lengthsFit, listedTrays}
 use Rattle.joiner.specs.Job as joiner
 use Rattle.joiner.specs.Calls.{Call, reading, answer}
 use Rattle.joiner.specs.Declines.{adds, declines, lentTo, refusal, standsFor, talliesFit, tallyFits}
-use Rattle.joiner.specs.Entries.{Step, rowTaken}
+use Rattle.joiner.specs.Entries.{CallStep, rowTaken}
 use Rattle.model.proofs.Facts.{Facts, facts, fits-at, tally-fits}
 use Rattle.job.specs.declared.Job.{Job}
 use Rattle.job.specs.Jobs.{jobOf, stateOf, anyCuts}
@@ -66,13 +66,13 @@ module _ (kind : Kind) (n : ℕ) (faces curves points : List ℕ) (κ : Kind) (e
 pub numbered-fits : (j : joiner.Job) → talliesFit j ≡ true → (κ : joiner.Kind) → j .numbered κ ≤ j .told .entries κ
 unfolding talliesFit tallyFits
 numbered-fits j e κ =
-    let h : j .numbered κ ≤ j .sofar κ = leb-true _ _ (and-right (leb (j .sofar κ) (j .told .entries κ)) (leb (j .numbered κ) (j .sofar κ)) (go κ)) in
+    let h : j .numbered κ ≤ j .sofar κ = leb-true _ _ (and-second (leb (j .sofar κ) (j .told .entries κ)) (leb (j .numbered κ) (j .sofar κ)) (go κ)) in
     omega (arith, h, tally-fits j e κ)
   where
     go : (κ : joiner.Kind) → tallyFits j κ ≡ true
-    go Face = and-left (tallyFits j Face) (tallyFits j Curve && tallyFits j Point) e
-    go Curve = and-left (tallyFits j Curve) (tallyFits j Point) (and-right (tallyFits j Face) (tallyFits j Curve && tallyFits j Point) e)
-    go Point = and-right (tallyFits j Curve) (tallyFits j Point) (and-right (tallyFits j Face) (tallyFits j Curve && tallyFits j Point) e)
+    go Face = and-first (tallyFits j Face) (tallyFits j Curve && tallyFits j Point) e
+    go Curve = and-first (tallyFits j Curve) (tallyFits j Point) (and-second (tallyFits j Face) (tallyFits j Curve && tallyFits j Point) e)
+    go Point = and-second (tallyFits j Curve) (tallyFits j Point) (and-second (tallyFits j Face) (tallyFits j Curve && tallyFits j Point) e)
 
 -- ---- the tests by lengths are the joiner's
 
@@ -83,16 +83,16 @@ module _ (j : Job) (kind : Kind) (n : ℕ) (faces curves points : List ℕ) (cx 
   abbrev call : Call
   call = reading (kindOf kind) n
 
-  trays-is : fits (lentTo (before .job .told) (before .tables) call) ≡ traysFit (j .«face_entries») (j .«curve_entries») (j .«point_entries») (sizesOf faces curves points)
+  trays-is : lengthsFit (lentTo (before .job .told) (before .tables) call) ≡ traysFit (j .«face_entries») (j .«curve_entries») (j .«point_entries») (sizesOf faces curves points)
   unfolding listedTrays traysFit
   trays-is =
       fits-append (listedTrays (before .job .told) (before .tables) Face) (listedTrays (before .job .told) (before .tables) Curve ++ listedTrays (before .job .told) (before .tables) Point) ∙
-      ap (λ (x : Bool). fits (listedTrays (before .job .told) (before .tables) Face) && x)
+      ap (λ (x : Bool). lengthsFit (listedTrays (before .job .told) (before .tables) Face) && x)
       (fits-append (listedTrays (before .job .told) (before .tables) Curve) (listedTrays (before .job .told) (before .tables) Point))
 
-  none : (κ : joiner.Kind) → adds before call κ ≡ 0
+  none-added : (κ : joiner.Kind) → adds before call κ ≡ 0
   unfolding adds
-  none κ = refl
+  none-added κ = refl
 
   tallies-is : talliesFit (jobOf j cx cy cz) ≡ talliesFit (jobOf j [] [] [])
   unfolding talliesFit tallyFits
@@ -104,25 +104,25 @@ module _ (j : Job) (kind : Kind) (n : ℕ) (faces curves points : List ℕ) (cx 
   -- The refusal is the joiner's.
   pub refusal-is : refusal before call ≡ refusalOf j kind n (sizesOf faces curves points)
   unfolding refusal declines givenBy first table number standsIn refusalOf
-  refusal-is = rw (← trays-is, ← stands-is, ← late-none before call none false)
+  refusal-is = rw (← trays-is, ← stands-is, ← late-none before call none-added false)
 
   -- ---- an accepted reading
 
   module _ (acc : refusalOf j kind n (sizesOf faces curves points) ≡ 0) where
-    F : Facts before call
-    F = facts before call (refusal-is ∙ acc)
+    call-facts : Facts before call
+    call-facts = facts before call (refusal-is ∙ acc)
 
     some : 0 < n
-    some = ltb-true 0 n (and-left (ltb 0 n) (leb n (numberedOf j kind)) (F .at))
+    some = ltb-true 0 n (and-first (ltb 0 n) (leb n (numberedOf j kind)) (call-facts .at))
 
     most : n ≤ before .job .told .entries (kindOf kind)
-    most = omega (arith, leb-true n (numberedOf j kind) (and-right (ltb 0 n) (leb n (numberedOf j kind)) (F .at)), numbered-fits (before .job) (F .tallies) (kindOf kind))
+    most = omega (arith, leb-true n (numberedOf j kind) (and-second (ltb 0 n) (leb n (numberedOf j kind)) (call-facts .at)), numbered-fits (before .job) (call-facts .tallies) (kindOf kind))
 
     long : (κ : joiner.Kind) → length (before .tables .listed κ) ≡ width κ * before .job .told .entries κ
     unfolding listedTrays
-    long Face = fits-at (lentTo (before .job .told) (before .tables) call) 0 (F .lent)
-    long Curve = fits-at (lentTo (before .job .told) (before .tables) call) 1 (F .lent)
-    long Point = fits-at (lentTo (before .job .told) (before .tables) call) 2 (F .lent)
+    long Face = fits-at (lentTo (before .job .told) (before .tables) call) 0 (call-facts .lent)
+    long Curve = fits-at (lentTo (before .job .told) (before .tables) call) 1 (call-facts .lent)
+    long Point = fits-at (lentTo (before .job .told) (before .tables) call) 2 (call-facts .lent)
 
     has-row : HasRow kind n faces curves points
     has-row = (some, rw (long (kindOf kind)) (mul-le-mul-left (width (kindOf kind)) most))
@@ -132,7 +132,7 @@ module _ (j : Job) (kind : Kind) (n : ℕ) (faces curves points : List ℕ) (cx 
 module _ (j : Job) (kind : Kind) (n : ℕ) (faces curves points : List ℕ) (number′ : ℕ) (e : number′ ≡ refusalOf j kind n (sizesOf faces curves points)) where
   abbrev Reads : List ℕ → Type 0
   Reads part =
-      anyCuts (λ cx cy cz. Step (stateOf j cx cy cz (lent faces curves points)) (reading (kindOf kind) n) (answer number′ 0 part)
+      anyCuts (λ cx cy cz. CallStep (stateOf j cx cy cz (lent faces curves points)) (reading (kindOf kind) n) (answer number′ 0 part)
       (stateOf j cx cy cz (lent faces curves points)))
 
   pub reading-refused : (number′ ≡ 0 → ⊥) → Reads []

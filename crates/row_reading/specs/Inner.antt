@@ -7,7 +7,7 @@ use lib.Dec.{leb, ltb}
 use lib.ListN.{length, take, drop}
 use Rattle.cells.specs.Box.{triple}
 use Rattle.cells.specs.Extents.{offSize}
-use Rattle.joiner.specs.Job.{Closed, Tables, sameStage, width, tray, fits}
+use Rattle.joiner.specs.Job.{Closed, Tables, sameStage, width, tray, lengthsFit}
 use Rattle.joiner.specs.Job as joiner
 use Rattle.joiner.specs.Declines.{talliesFit}
 use Rattle.job.specs.declared.Job.{Job}
@@ -35,7 +35,7 @@ numberedOf j kind = byKind (j .«numbered_faces») (j .«numbered_curves») (j .
 
 -- 6 denies it: the tables have a row for each entry.
 unfoldable pub traysFit : ℕ → ℕ → ℕ → Sizes → Bool
-traysFit faces curves points z = fits (tray (z .faces) (2 * faces) ∷ []) && (fits (tray (z .curves) (4 * curves) ∷ []) && fits (tray (z .points) (6 * points) ∷ []))
+traysFit faces curves points z = lengthsFit (tray (z .faces) (2 * faces) ∷ []) && (lengthsFit (tray (z .curves) (4 * curves) ∷ []) && lengthsFit (tray (z .points) (6 * points) ∷ []))
 
 -- The refusal, 0 for none: the joiner's `refusal`, whatever the cut lists are.
 unfoldable pub refusalOf : Job → Kind → ℕ → Sizes → ℕ

@@ -16,7 +16,7 @@ ghost use Prim.Native.Nat.{_-_, _*_, _≤_, _<_};
 ghost use lib.Dec.{leb, ltb};
 ghost use lib.ListN.{length, take, drop};
 ghost use Rattle.joiner.specs.Calls.{reading, answer};
-ghost use Rattle.joiner.specs.Entries.{Step};
+ghost use Rattle.joiner.specs.Entries.{CallStep};
 ghost use Rattle.job.specs.Jobs.{anyCuts, stateOf};
 ghost use Rattle.row_reading.specs.Inner.{kindOf, lent, numberedOf, traysFit, refusalOf, HasRow, rowIn};
 
@@ -131,7 +131,7 @@ pub fn row<'a>(
     point_listed: &'a [u32],
     refusal: &mut u32,
 ) -> &'a [u32]
-    ensures { λ r. ⌜ anyCuts (λ cx cy cz. Step
+    ensures { λ r. ⌜ anyCuts (λ cx cy cz. CallStep
         (stateOf job cx cy cz (lent (now («face_listed» .entry)) (now («curve_listed» .entry)) (now («point_listed» .entry))))
         (reading (kindOf kind) number) (answer (now (refusal .exit)) 0 (now r))
         (stateOf job cx cy cz (lent (now («face_listed» .entry)) (now («curve_listed» .entry)) (now («point_listed» .entry))))) ⌝ }

@@ -8,7 +8,7 @@ use native.Mathlib.Nat.{le-refl}
 use native.Mathlib.Omega.{arith}
 use lib.ListN.{length, set}
 use borrow.Author.Tests.{le-ltb}
-use Rattle.lists.proofs.Cases.{by-test, and-left, and-right}
+use Rattle.lists.proofs.Cases.{by-test, and-first, and-second}
 use Rattle.refusals.specs.Refusals.{number, table, first, givenBy, standsIn}
 use Rattle.closure.specs.Joined.{joins}
 use Rattle.union_find.specs.Links.{root, Rooted}
@@ -17,11 +17,11 @@ use Rattle.cells.specs.Extents.{Sized}
 use Rattle.labels.specs.Components.{largest}
 use Rattle.labels.proofs.CountLaws.{largest-bound}
 use Rattle.cutting.specs.Cutting.{Cutting, intervals, blocks, blockExtents}
-use Rattle.joiner.specs.Job.{Kind, Face, Curve, Point, State, orderOf, countOf, fromOf, fits, blockTrays, linkTrays, ticked}
+use Rattle.joiner.specs.Job.{Kind, Face, Curve, Point, State, orderOf, countOf, fromOf, lengthsFit, blockTrays, linkTrays, ticked}
 use Rattle.joiner.specs.Stages.{seamAxis, seamStep, nextAfter}
 use Rattle.joiner.specs.Calls.{join, answer, layersDiffer, mapsFit, full, overfull}
 use Rattle.joiner.specs.Declines.{adds, counted, declines, lentTo, mapStands, refusal, standing, standsFor, stray, talliesFit}
-use Rattle.joiner.specs.Entries.{SeamDone, Step, Merged, AtSeam}
+use Rattle.joiner.specs.Entries.{SeamDone, CallStep, Merged, AtSeam}
 use Rattle.joiner.proofs.Shared.{seam-listed}
 use Rattle.joiner.proofs.SeamSteps.{axis-bound}
 use Rattle.model.proofs.Facts.{Facts, facts, fits-at, tally-fits, Standing, faces-stand, curves-stand}
@@ -38,7 +38,7 @@ use Rattle.steps.specs.Steps.{entryOf, placedOf, lateOf, Advanced}
 use Rattle.steps.proofs.StepLaws.{refusal-opened, late-none, few-of, block-sized, stands-is, links-is, ticked-by, numbered-kept, step-refused, step-accepted}
 use Rattle.seaming.specs.declared.Joined.{Joined}
 use Rattle.seaming.specs.declared.Shared.{Shared}
-use Rattle.seaming.specs.Inner.{lent, sizesOf, mapsFitIn, traysFit, standIn, restOf, refusalOf, Ready, SharedBy, Linked}
+use Rattle.seaming.specs.Inner.{lent, sizesOf, mapsFitIn, traysFit, standIn, laterRefusal, refusalOf, Ready, SharedBy, Linked}
 
 module _ (j : Job) (cx cy cz ticks blocks′ faces curves : List ℕ) (b c : ℕ) (m n : List ℕ) where
   abbrev pub k : Cutting
@@ -49,7 +49,7 @@ module _ (j : Job) (cx cy cz ticks blocks′ faces curves : List ℕ) (b c : ℕ
 
   -- ---- the tests by lengths are the joiner's
 
-  trays-is : (mapsFit k (join b c m n) && fits (lentTo (before .job .told) (before .tables) (join b c m n)))
+  trays-is : (mapsFit k (join b c m n) && lengthsFit (lentTo (before .job .told) (before .tables) (join b c m n)))
       ≡ traysFit (blocks k) (blockExtents k b) (blockExtents k c) (j .«face_entries») (j .«curve_entries») (sizesOf ticks blocks′ faces curves m n)
   unfolding blockTrays linkTrays traysFit mapsFitIn
   trays-is = ap (λ (x : Bool). mapsFit k (join b c m n) && x) (fits-append (blockTrays (before .job .told) (before .tables)) (linkTrays (before .job .told) (before .tables)))
@@ -59,9 +59,9 @@ module _ (j : Job) (cx cy cz ticks blocks′ faces curves : List ℕ) (b c : ℕ
   unfolding standIn
   stands-both = rw (stands-is before (blockExtents k b) b m, stands-is before (blockExtents k c) c n, links-is before b, links-is before c)
 
-  none : (κ : Kind) → adds before (join b c m n) κ ≡ 0
+  none-added : (κ : Kind) → adds before (join b c m n) κ ≡ 0
   unfolding adds
-  none κ = refl
+  none-added κ = refl
 
   adds-none : (κ : Kind) → adds before (join b c m n) κ ≡ byKind 0 0 0 κ
   unfolding adds
@@ -70,46 +70,46 @@ module _ (j : Job) (cx cy cz ticks blocks′ faces curves : List ℕ) (b c : ℕ
   adds-none Point = refl
 
   pub refusal-is : refusal before (join b c m n) ≡ refusalOf j cx cy cz ticks (sizesOf ticks blocks′ faces curves m n) blocks′ faces curves b c m n
-  unfolding refusalOf restOf placedOf lateOf ticked tickedIn seamStep
-  refusal-is = refusal-opened before (join b c m n) refl ∙ rw (← trays-is, ← stands-both, ← late-none before (join b c m n) none (layersDiffer k (join b c m n)))
+  unfolding refusalOf laterRefusal placedOf lateOf ticked tickedIn seamStep
+  refusal-is = refusal-opened before (join b c m n) refl ∙ rw (← trays-is, ← stands-both, ← late-none before (join b c m n) none-added (layersDiffer k (join b c m n)))
 
   -- ---- what an accepted step has passed
 
   module _ (acc : Ready j cx cy cz ticks blocks′ faces curves b c m n) where
-    F : Facts before (join b c m n)
-    F = facts before (join b c m n) (refusal-is ∙ acc .none)
+    call-facts : Facts before (join b c m n)
+    call-facts = facts before (join b c m n) (refusal-is ∙ acc .none)
 
     pub seam-few : intervals cx * intervals cy * intervals cz ≤ 16384
-    seam-few = few-of k (F .cut)
+    seam-few = few-of k (call-facts .cut)
 
     pub low-sized : (r : Block) → Tells k b r → Sized 64 (sizeOf r)
-    low-sized = block-sized k (F .cut) b (seam-listed k b c (F .at) .0)
+    low-sized = block-sized k (call-facts .cut) b (seam-listed k b c (call-facts .at) .0)
 
     pub high-sized : (r : Block) → Tells k c r → Sized 64 (sizeOf r)
-    high-sized = block-sized k (F .cut) c (seam-listed k b c (F .at) .1)
+    high-sized = block-sized k (call-facts .cut) c (seam-listed k b c (call-facts .at) .1)
 
     pub step-in : (axis step : ℕ) → axis ≡ seamAxis k b c → step ≡ 6 * b + axis → step < length ticks
     unfolding blockTrays
-    step-in axis step e f = omega (arith, axis-bound k b c, seam-listed k b c (F .at) .0, fits-at (lentTo (before .job .told) (before .tables) (join b c m n)) 0 (F .lent))
+    step-in axis step e f = omega (arith, axis-bound k b c, seam-listed k b c (call-facts .at) .0, fits-at (lentTo (before .job .told) (before .tables) (join b c m n)) 0 (call-facts .lent))
 
     pub seam-sums : (j .faces + 0 ≤ j .«face_entries») × (j .curves + 0 ≤ j .«curve_entries») × (j .points + 0 ≤ j .«point_entries»)
     seam-sums =
-        let h : (κ : Kind) → before .job .sofar κ ≤ before .job .told .entries κ = tally-fits (before .job) (F .tallies) in
+        let h : (κ : Kind) → before .job .sofar κ ≤ before .job .told .entries κ = tally-fits (before .job) (call-facts .tallies) in
         (omega (arith, h Face), omega (arith, h Curve), omega (arith, h Point))
 
     pub face-length : length faces ≡ j .«face_entries»
     unfolding blockTrays linkTrays
-    face-length = fits-at (lentTo (before .job .told) (before .tables) (join b c m n)) 2 (F .lent)
+    face-length = fits-at (lentTo (before .job .told) (before .tables) (join b c m n)) 2 (call-facts .lent)
 
     pub curve-length : length curves ≡ j .«curve_entries»
     unfolding blockTrays linkTrays
-    curve-length = fits-at (lentTo (before .job .told) (before .tables) (join b c m n)) 3 (F .lent)
+    curve-length = fits-at (lentTo (before .job .told) (before .tables) (join b c m n)) 3 (call-facts .lent)
 
     lower-stands : mapStands before (blockExtents k b) b m ≡ true
-    lower-stands = and-left (mapStands before (blockExtents k b) b m) _ (F .stands)
+    lower-stands = and-first (mapStands before (blockExtents k b) b m) _ (call-facts .stands)
 
     upper-stands : mapStands before (blockExtents k c) c n ≡ true
-    upper-stands = and-left (mapStands before (blockExtents k c) c n) _ (and-right (mapStands before (blockExtents k b) b m) _ (F .stands))
+    upper-stands = and-first (mapStands before (blockExtents k c) c n) _ (and-second (mapStands before (blockExtents k b) b m) _ (call-facts .stands))
 
     -- ---- what it leaves
 
@@ -119,7 +119,7 @@ module _ (j : Job) (cx cy cz ticks blocks′ faces curves : List ℕ) (b c : ℕ
           → Rooted xs ys (joins (root xs) (layerEdges m (sh .lower) n (sh .upper) odd (fromOf (before .tables) κ b) (fromOf (before .tables) κ c) size (sh .columns) (sh .rows)))
           → Merged xs ys (AtSeam k (before .tables) κ b c m n)
       merged κ odd size o L U h xs ys J =
-          seam-joined k (F .cut) b c (F .at) axis (sh .columns) (sh .rows) number-is m (sh .lower) n (sh .upper)
+          seam-joined k (call-facts .cut) b c (call-facts .at) axis (sh .columns) (sh .rows) number-is m (sh .lower) n (sh .upper)
           (rw (A .size) at (S .last)) (rw (B .size) at (S .first)) (rw (A .size) at (S .wide)) (rw (A .size) at (S .deep))
           (before .tables) κ odd size o
           (λ p i q. omega (arith, largest-bound (blockExtents k b) m p i, ap (largest (blockExtents k b) m) q, L .most))
@@ -161,12 +161,12 @@ module _ (j : Job) (cx cy cz ticks blocks′ faces curves : List ℕ) (b c : ℕ
     told-number : number′ ≡ refusal before (join b c m n)
     told-number = e ∙ sym refusal-is
 
-    pub seam-refused : (number′ ≡ 0 → ⊥) → Step before (join b c m n) (answer number′ 0 []) before
+    pub seam-refused : (number′ ≡ 0 → ⊥) → CallStep before (join b c m n) (answer number′ 0 []) before
     seam-refused = step-refused before (join b c m n) number′ told-number
 
     pub ready : number′ ≡ 0 → Ready j cx cy cz ticks blocks′ faces curves b c m n
     ready z = record { none = sym e ∙ z }
 
-    pub seam-accepted : number′ ≡ 0 → (r : Joined) (t : State) → (r .refusal ≡ 0) × SeamDone before b c m n t → Step before (join b c m n) (answer (r .refusal) 0 []) t
+    pub seam-accepted : number′ ≡ 0 → (r : Joined) (t : State) → (r .refusal ≡ 0) × SeamDone before b c m n t → CallStep before (join b c m n) (answer (r .refusal) 0 []) t
     seam-accepted z r t u =
         step-accepted before (join b c m n) number′ told-number z (answer (r .refusal) 0 []) t (u .0) (ap (λ (x : ℕ). answer x 0 []) (u .0), u .1)

@@ -6,7 +6,7 @@ use mathlib.Core.List.{List}
 use Prim.Native.Nat.{ℕ, _+_, _*_}
 use lib.Dec.{eqb}
 use borrow.Author.Tests.{not-true, not-false, eqb-true}
-use Rattle.lists.proofs.Cases.{and-left, and-right}
+use Rattle.lists.proofs.Cases.{and-first, and-second}
 use Rattle.cells.specs.Box.{Triple}
 use Rattle.cells.specs.Extents.{Sized}
 use Rattle.cells.specs.Grid.{cells}
@@ -27,7 +27,7 @@ use Rattle.steps.specs.Steps.{openedOf, entryOf, mapStandsIn, linksStandIn}
 use Rattle.steps.proofs.StepLaws.{or-first, or-then, opened-passed, block-sized}
 use Rattle.seaming.specs.declared.Shared.{Shared}
 use Rattle.seaming.specs.declared.Sizes.{Sizes}
-use Rattle.seaming.specs.Inner.{standIn, traysFit, mapsFitIn, restOf, refusalOf, anySeam, SharedBy}
+use Rattle.seaming.specs.Inner.{standIn, traysFit, mapsFitIn, laterRefusal, refusalOf, anySeam, SharedBy}
 
 -- ---- the tests of the maps
 
@@ -86,22 +86,22 @@ module _ (k : Cutting) (b c : ℕ) (low high : Block) (A : Tells k b low) (B : T
 module _ (e f : Triple) (count faces curves : ℕ) (z : Sizes) (u : Bool) (h : u ≡ traysFit count e f faces curves z) (p : not u ≡ false) where
   both-fit : mapsFitIn e f z ≡ true
   unfolding traysFit
-  both-fit = and-left (mapsFitIn e f z) _ (sym h ∙ not-false u p)
+  both-fit = and-first (mapsFitIn e f z) _ (sym h ∙ not-false u p)
 
   pub lower-length : (n : ℕ) → z .lower ≡ n → n ≡ cells e
   unfolding mapsFitIn
-  lower-length n q = sym q ∙ eqb-true _ _ (and-left (eqb (z .lower) (cells e)) (eqb (z .upper) (cells f)) both-fit)
+  lower-length n q = sym q ∙ eqb-true _ _ (and-first (eqb (z .lower) (cells e)) (eqb (z .upper) (cells f)) both-fit)
 
   pub upper-length : (n : ℕ) → z .upper ≡ n → n ≡ cells f
   unfolding mapsFitIn
-  upper-length n q = sym q ∙ eqb-true _ _ (and-right (eqb (z .lower) (cells e)) (eqb (z .upper) (cells f)) both-fit)
+  upper-length n q = sym q ∙ eqb-true _ _ (and-second (eqb (z .lower) (cells e)) (eqb (z .upper) (cells f)) both-fit)
 
 -- the tick of a seam's step
 pub tick-told : (k : Cutting) (ticks : List ℕ) (b c axis step : ℕ) (u : Bool) → axis ≡ seamAxis k b c → step ≡ 6 * b + axis → u ≡ tickedIn ticks step → u ≡ tickedIn ticks (6 * b + seamAxis k b c)
 tick-told k ticks b c axis step u e f h = rw (← e, ← f) h
 
-pub kept : (s t : Bool) → s ≡ t → not s ≡ false → t ≡ true
-kept s t e p = sym e ∙ not-false s p
+pub kept-test : (s t : Bool) → s ≡ t → not s ≡ false → t ≡ true
+kept-test s t e p = sym e ∙ not-false s p
 
 -- the rungs of `refusal`
 module _ (j : Job) (cx cy cz ticks : List ℕ) (z : Sizes) (table fs cs : List ℕ) (b c : ℕ) (m n : List ℕ) (r : ℕ) (e : r ≡ openedOf (jobOf j cx cy cz) Seam) where
@@ -125,7 +125,7 @@ module _ (j : Job) (cx cy cz ticks : List ℕ) (z : Sizes) (table fs cs : List �
       unfolding refusalOf
       seam-5 w = rw (← e, sym is-seam ∙ not-false t p, sym i ∙ w) (or-then r _ 5 q refl)
 
-      pub seam-rest : u ≡ false → (x : ℕ) → x ≡ restOf j cx cy cz z table fs cs b c m n → Refuses x
+      pub seam-rest : u ≡ false → (x : ℕ) → x ≡ laterRefusal j cx cy cz z table fs cs b c m n → Refuses x
       unfolding refusalOf
       seam-rest w x f = rw (← e, sym is-seam ∙ not-false t p, sym i ∙ w) (or-then r _ x q f)
 

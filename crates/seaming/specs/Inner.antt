@@ -11,7 +11,7 @@ use Rattle.union_find.specs.Links.{root, Rooted}
 use Rattle.cells.specs.Box.{Triple}
 use Rattle.cells.specs.Grid.{cells, sides}
 use Rattle.cutting.specs.Cutting.{Cutting, blocks, blockExtents, goodCut, seam}
-use Rattle.joiner.specs.Job.{Seam, Tables, fits}
+use Rattle.joiner.specs.Job.{Seam, Tables, lengthsFit}
 use Rattle.joiner.specs.Stages.{seamAxis}
 use Rattle.joiner.specs.Calls.{join, layersDiffer}
 use Rattle.joiner.specs.Declines.{talliesFit}
@@ -23,7 +23,7 @@ use Rattle.job.specs.declared.Job.{Job}
 use Rattle.job.specs.Jobs.{blockLengths, linkLengths, tablesOf, toldOf, jobOf}
 use Rattle.staging.specs.Staging.{tickedIn}
 use Rattle.steps.specs.declared.Entry.{Entry}
-use Rattle.steps.specs.Steps.{orElse, openedOf, entryOf, mapStandsIn, linksStandIn}
+use Rattle.steps.specs.Steps.{firstRefusal, openedOf, entryOf, mapStandsIn, linksStandIn}
 use Rattle.seaming.specs.declared.Shared.{Shared}
 use Rattle.seaming.specs.declared.Sizes.{Sizes}
 
@@ -49,7 +49,7 @@ mapsFitIn e f z = eqb (z .lower) (cells e) && eqb (z .upper) (cells f)
 
 unfoldable pub traysFit : ℕ → Triple → Triple → ℕ → ℕ → Sizes → Bool
 traysFit count e f faces curves z =
-    mapsFitIn e f z && (fits (blockLengths count (z .ticks) (z .blocks)) && fits (linkLengths faces curves (z .«face_links») (z .«curve_links»)))
+    mapsFitIn e f z && (lengthsFit (blockLengths count (z .ticks) (z .blocks)) && lengthsFit (linkLengths faces curves (z .«face_links») (z .«curve_links»)))
 
 -- 8 denies it: the tallies fit, both maps keep to their entries, and the links of both blocks may be followed.
 unfoldable pub standIn : Bool → Triple → Triple → Entry → Entry → ℕ → ℕ → List ℕ → List ℕ → List ℕ → List ℕ → Bool
@@ -57,8 +57,8 @@ standIn tallies e f d g all-faces all-curves m n faces curves =
     tallies && (mapStandsIn e d all-faces all-curves m && (mapStandsIn f g all-faces all-curves n && (linksStandIn d faces curves && linksStandIn g faces curves)))
 
 -- The refusal of a call that brings a seam: 6, 8, 9 or none. 10 cannot stand, since nothing is added.
-unfoldable pub restOf : Job → List ℕ → List ℕ → List ℕ → Sizes → List ℕ → List ℕ → List ℕ → ℕ → ℕ → List ℕ → List ℕ → ℕ
-restOf j cx cy cz z table faces curves b c m n =
+unfoldable pub laterRefusal : Job → List ℕ → List ℕ → List ℕ → Sizes → List ℕ → List ℕ → List ℕ → ℕ → ℕ → List ℕ → List ℕ → ℕ
+laterRefusal j cx cy cz z table faces curves b c m n =
     let k : Cutting = toldOf j cx cy cz .cutting in
     cond (not (traysFit (blocks k) (blockExtents k b) (blockExtents k c) (j .«face_entries») (j .«curve_entries») z)) 6
     (cond (not (standIn (talliesFit (jobOf j cx cy cz)) (blockExtents k b) (blockExtents k c) (entryOf table b) (entryOf table c) (j .«face_entries») (j .«curve_entries») m n faces curves)) 8
@@ -68,8 +68,8 @@ restOf j cx cy cz z table faces curves b c m n =
 unfoldable pub refusalOf : Job → List ℕ → List ℕ → List ℕ → List ℕ → Sizes → List ℕ → List ℕ → List ℕ → ℕ → ℕ → List ℕ → List ℕ → ℕ
 refusalOf j cx cy cz ticks z table faces curves b c m n =
     let k : Cutting = toldOf j cx cy cz .cutting in
-    orElse (openedOf (jobOf j cx cy cz) Seam)
-    (cond (not (seam k b c)) 4 (cond (tickedIn ticks (6 * b + seamAxis k b c)) 5 (restOf j cx cy cz z table faces curves b c m n)))
+    firstRefusal (openedOf (jobOf j cx cy cz) Seam)
+    (cond (not (seam k b c)) 4 (cond (tickedIn ticks (6 * b + seamAxis k b c)) 5 (laterRefusal j cx cy cz z table faces curves b c m n)))
 
 -- ---- the act
 

@@ -41,11 +41,11 @@ ghost use Rattle.cutting.specs.Cutting.{goodCut, seam};
 ghost use Rattle.joiner.specs.Stages.{seamAxis};
 ghost use Rattle.joiner.specs.Calls.{join, answer, layersDiffer};
 ghost use Rattle.joiner.specs.Declines.{talliesFit};
-ghost use Rattle.joiner.specs.Entries.{Step, SeamDone};
+ghost use Rattle.joiner.specs.Entries.{CallStep, SeamDone};
 ghost use Rattle.seams.specs.Walks.{layerEdges};
 ghost use Rattle.blocks.specs.Blocks.{cutOf, sizeOf};
 ghost use Rattle.job.specs.Jobs.{anyCuts, jobOf, stateOf};
-ghost use Rattle.seaming.specs.Inner.{lent, mapsFitIn, traysFit, standIn, restOf, refusalOf, Ready, anySeam, SharedBy, Linked};
+ghost use Rattle.seaming.specs.Inner.{lent, mapsFitIn, traysFit, standIn, laterRefusal, refusalOf, Ready, anySeam, SharedBy, Linked};
 
 // What a seam step answers: the number of its refusal, 0 for none, and the job.
 pub struct Joined {
@@ -181,7 +181,7 @@ fn rest(
         × (seam (cutOf (job .nx) (job .ny) (job .nz) (now cx) (now cy) (now cz)) lower upper ≡ true)
         × (axis ≡ seamAxis (cutOf (job .nx) (job .ny) (job .nz) (now cx) (now cy) (now cz)) lower upper) ⌝ }
     requires { ⌜ (sizes .lower ≡ length (now m)) × (sizes .upper ≡ length (now n)) ⌝ }
-    ensures { λ r. ⌜ r ≡ restOf job (now (cx .entry)) (now (cy .entry)) (now (cz .entry)) sizes (now (table .entry)) (now («face_links» .entry)) (now («curve_links» .entry)) lower upper (now (m .entry)) (now (n .entry)) ⌝ }
+    ensures { λ r. ⌜ r ≡ laterRefusal job (now (cx .entry)) (now (cy .entry)) (now (cz .entry)) sizes (now (table .entry)) (now («face_links» .entry)) (now («curve_links» .entry)) lower upper (now (m .entry)) (now (n .entry)) ⌝ }
 {
     let low = block_at(cx, cy, cz, lower as usize);
     let high = block_at(cx, cy, cz, upper as usize);
@@ -371,7 +371,7 @@ pub fn seam(
     m: &[u32],
     n: &[u32],
 ) -> Joined
-    ensures { λ r. ⌜ Step
+    ensures { λ r. ⌜ CallStep
         (stateOf job (now (cx .entry)) (now (cy .entry)) (now (cz .entry)) (lent (now (ticks .entry)) (now (blocks .entry)) (now («face_links» .entry)) (now («curve_links» .entry))))
         (join lower upper (now (m .entry)) (now (n .entry))) (answer (r .refusal) 0 [])
         (stateOf (r .job) (now (cx .entry)) (now (cy .entry)) (now (cz .entry)) (lent (now (ticks .exit)) (now (blocks .entry)) (now («face_links» .exit)) (now («curve_links» .exit)))) ⌝ }

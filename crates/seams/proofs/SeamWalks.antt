@@ -10,7 +10,7 @@ use borrow.Author.Tests.{eq-eqb, eqb-true, eqb-false, ne-eqb, lt-ltb}
 use lib.Dec.{eqb}
 use lib.ListN.{getD}
 use Rattle.lists.specs.Lists.{consecutive, someOf}
-use Rattle.lists.proofs.Cases.{and-left, and-right, by-test}
+use Rattle.lists.proofs.Cases.{and-first, and-second, by-test}
 use Rattle.lists.proofs.Lists.{consecutive-in, consecutive-out}
 use Rattle.lists.proofs.Tests.{some-none}
 use Rattle.closure.specs.Joined.{Edge, edge, joins}
@@ -29,7 +29,7 @@ use Rattle.joiner.specs.Entries.{AtSeam, Merged, Together, same, joined, back, 
 use Rattle.joiner.proofs.Shared.{Shares, shared-in, shared-out}
 use Rattle.layers.specs.Layers.{across, axisOf, cellPair, columnsOf, firstAcross, lastAt, layerPairs, rowsOf}
 use Rattle.layers.proofs.LayerLaws.{Follows, layer-differs, layer-in, layer-out, layer-shares, shares-layer, seam-follows}
-use Rattle.seams.specs.Walks.{LayerOf, cellOf, differ, differAt, edgesAlong, hasPlace, joinAt, layerEdges, layersDifferTo, numberAt, rowDiffersTo, rowEdges}
+use Rattle.seams.specs.Walks.{LayerOf, cellOf, cellsDiffer, differAt, edgesAlong, hasPlace, joinAt, layerEdges, layersDifferTo, numberAt, rowDiffersTo, rowEdges}
 use Rattle.seams.specs.declared.Layer.{Layer}
 use Rattle.seams.proofs.WalkLaws.{has-low, spoilt}
 
@@ -97,7 +97,7 @@ module _ (m : List ℕ) (l : Layer) (n : List ℕ) (r : Layer) where
 module _ (e f : Triple) (a : Axis) (some : 0 < coord e a) (m : List ℕ) (l : Layer) (n : List ℕ) (r : Layer) (L : LayerOf e a true l) (U : LayerOf f a false r) where
   -- one cell
   cell-differs : (u v : ℕ) → u < columnsOf (sides e) a → v < rowsOf (sides e) a → differs e m n (cellPair e f a u v) ≡ differAt m l n r u v
-  unfolding differs cellPair differAt differ numberAt
+  unfolding differs cellPair differAt cellsDiffer numberAt
   cell-differs u v hu hv = rw (L .is u v, U .is u v, test)
     where
       test : eqb (order e (lastAt e a u v)) 3 ≡ eqb (u % 2 + v % 2) 0
@@ -176,10 +176,10 @@ module _ (m : List ℕ) (l : Layer) (n : List ℕ) (r : Layer) (odd from to size
       × (edge x y ≡ edge (from + (numberAt m l u v - 1)) (to + (numberAt n r u v - 1)))
   unfolding joinAt
   cell-out u v j = by-test (eqb (u % 2 + v % 2) odd && (hasPlace from (numberAt m l u v) size && hasPlace to (numberAt n r u v) size))
-      (λ t. let z = and-right (eqb (u % 2 + v % 2) odd) (hasPlace from (numberAt m l u v) size && hasPlace to (numberAt n r u v) size) t in (
-        and-left (eqb (u % 2 + v % 2) odd) (hasPlace from (numberAt m l u v) size && hasPlace to (numberAt n r u v) size) t,
-        and-left (hasPlace from (numberAt m l u v) size) (hasPlace to (numberAt n r u v) size) z,
-        and-right (hasPlace from (numberAt m l u v) size) (hasPlace to (numberAt n r u v) size) z,
+      (λ t. let z = and-second (eqb (u % 2 + v % 2) odd) (hasPlace from (numberAt m l u v) size && hasPlace to (numberAt n r u v) size) t in (
+        and-first (eqb (u % 2 + v % 2) odd) (hasPlace from (numberAt m l u v) size && hasPlace to (numberAt n r u v) size) t,
+        and-first (hasPlace from (numberAt m l u v) size) (hasPlace to (numberAt n r u v) size) z,
+        and-second (hasPlace from (numberAt m l u v) size) (hasPlace to (numberAt n r u v) size) z,
         List·Memᴰ·eq-of-singleton (rw t at j),
       ))
       (λ t. absurd (List·Memᴰ·not-nil (rw t at j)))

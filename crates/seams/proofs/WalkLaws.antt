@@ -11,12 +11,12 @@ use borrow.Author.Tests.{eqb-false, ltb-true, ltb-false, not-true, not-false, lt
 use lib.Dec.{eqb, leb, ltb}
 use lib.ListN.{length, getD, List·getD-eq-default}
 use Rattle.lists.specs.Lists.{consecutive}
-use Rattle.lists.proofs.Cases.{by-test, and-left, and-right}
+use Rattle.lists.proofs.Cases.{by-test, and-first, and-second}
 use Rattle.lists.proofs.Lists.{consecutive-left}
 use Rattle.closure.specs.Joined.{Edge, edge, joins}
 use Rattle.union_find.specs.Links.{root, united, Rooted}
 use Rattle.union_find.proofs.LinkLaws.{Left, left-all, left-fewer, left-none, rooted-refl, rooted-then, united-inside}
-use Rattle.seams.specs.Walks.{cellOf, numberAt, differ, differAt, rowDiffersTo, layersDifferTo, hasPlace, joinAt, edgesAlong}
+use Rattle.seams.specs.Walks.{cellOf, numberAt, cellsDiffer, differAt, rowDiffersTo, layersDifferTo, hasPlace, joinAt, edgesAlong}
 use Rattle.seams.specs.declared.Layer.{Layer}
 
 -- ---- the number of a cell
@@ -37,20 +37,20 @@ module _ (m : List ℕ) (l : Layer) (u v : ℕ) where
 -- ---- two numbers
 
 module _ (voxel : Bool) (a b : ℕ) where
-  pub voxels-differ : voxel ≡ true → not (eqb a b) ≡ differ voxel a b
-  unfolding differ
+  pub voxels-differ : voxel ≡ true → not (eqb a b) ≡ cellsDiffer voxel a b
+  unfolding cellsDiffer
   voxels-differ e = rw e
 
-  pub blank-differs : voxel ≡ false → a ≡ 0 → not (eqb b 0) ≡ differ voxel a b
-  unfolding differ
+  pub blank-differs : voxel ≡ false → a ≡ 0 → not (eqb b 0) ≡ cellsDiffer voxel a b
+  unfolding cellsDiffer
   blank-differs e p = rw (e, p) (go (eqb b 0))
     where
       go : (t : Bool) → not t ≡ not (eqb 0 (cond t 0 1))
       go true = refl
       go false = refl
 
-  pub active-differs : voxel ≡ false → ¬ (a ≡ 0) → eqb b 0 ≡ differ voxel a b
-  unfolding differ
+  pub active-differs : voxel ≡ false → ¬ (a ≡ 0) → eqb b 0 ≡ cellsDiffer voxel a b
+  unfolding cellsDiffer
   active-differs e p = rw (e, ne-eqb a 0 p) (go (eqb b 0))
     where
       go : (t : Bool) → t ≡ not (eqb 1 (cond t 0 1))
@@ -122,11 +122,11 @@ module _ (from a size : ℕ) where
 
   pub has-low : hasPlace from a size ≡ true → 0 < a
   unfolding hasPlace
-  has-low e = let z = eqb-false a 0 (not-true (eqb a 0) (and-left (not (eqb a 0)) (ltb (from + (a - 1)) size) e)) in omega arith
+  has-low e = let z = eqb-false a 0 (not-true (eqb a 0) (and-first (not (eqb a 0)) (ltb (from + (a - 1)) size) e)) in omega arith
 
   pub has-below : hasPlace from a size ≡ true → from + (a - 1) < size
   unfolding hasPlace
-  has-below e = ltb-true (from + (a - 1)) size (and-right (not (eqb a 0)) (ltb (from + (a - 1)) size) e)
+  has-below e = ltb-true (from + (a - 1)) size (and-second (not (eqb a 0)) (ltb (from + (a - 1)) size) e)
 
 module _ (from a to b size : ℕ) where
   pub no-first : hasPlace from a size ≡ false → true ≡ not (hasPlace from a size && hasPlace to b size)
@@ -154,8 +154,8 @@ module _ (from a to b size : ℕ) where
   pub placed : (d : Bool) → d ≡ not (hasPlace from a size && hasPlace to b size) → d ≡ false → Placed
   placed d e t =
       let z = not-false (hasPlace from a size && hasPlace to b size) (sym e ∙ t) in
-      let p = and-left (hasPlace from a size) (hasPlace to b size) z in
-      let q = and-right (hasPlace from a size) (hasPlace to b size) z in
+      let p = and-first (hasPlace from a size) (hasPlace to b size) z in
+      let q = and-second (hasPlace from a size) (hasPlace to b size) z in
       record { low-a = has-low from a size p; low-b = has-low to b size q; high-a = has-below from a size p; high-b = has-below to b size q }
 
 -- ---- one cell

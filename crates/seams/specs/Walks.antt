@@ -20,11 +20,11 @@ unfoldable pub numberAt : List ℕ → Layer → ℕ → ℕ → ℕ
 numberAt m l u v = getD m (cellOf l u v) 0
 
 -- "A code differs, or a cell is active in one block only." A cell of the layer is a voxel where column and row are even.
-unfoldable pub differ : Bool → ℕ → ℕ → Bool
-differ voxel a b = cond voxel (not (eqb a b)) (not (eqb (cond (eqb a 0) 0 1) (cond (eqb b 0) 0 1)))
+unfoldable pub cellsDiffer : Bool → ℕ → ℕ → Bool
+cellsDiffer voxel a b = cond voxel (not (eqb a b)) (not (eqb (cond (eqb a 0) 0 1) (cond (eqb b 0) 0 1)))
 
 unfoldable pub differAt : List ℕ → Layer → List ℕ → Layer → ℕ → ℕ → Bool
-differAt m l n r u v = differ (eqb (u % 2 + v % 2) 0) (numberAt m l u v) (numberAt n r u v)
+differAt m l n r u v = cellsDiffer (eqb (u % 2 + v % 2) 0) (numberAt m l u v) (numberAt n r u v)
 
 -- Among the first u columns of row v, and in the first v rows of so many columns.
 unfoldable pub rowDiffersTo : List ℕ → Layer → List ℕ → Layer → ℕ → ℕ → Bool

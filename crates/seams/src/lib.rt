@@ -10,7 +10,7 @@ ghost use Rattle.cells.specs.Extents.{Sized};
 ghost use Rattle.cells.specs.Grid.{sides};
 ghost use Rattle.union_find.specs.Links.{root, Rooted};
 ghost use Rattle.layers.specs.Layers.{axisOf, columnsOf, rowsOf};
-ghost use Rattle.seams.specs.Walks.{numberAt, differ, differAt, layersDifferTo, hasPlace, joinAt, rowEdges, layerEdges, LayerOf};
+ghost use Rattle.seams.specs.Walks.{numberAt, cellsDiffer, differAt, layersDifferTo, hasPlace, joinAt, rowEdges, layerEdges, LayerOf};
 
 // Where the cells of a layer stand in a map: column u of row v at start + u·column + v·row.
 pub struct Layer {
@@ -32,7 +32,7 @@ fn number_at(m: &[u32], l: Layer, u: u16, v: u16) -> u32
 
 // Whether the codes of a voxel differ, or just one of the numbers of another cell is 0.
 fn differ(voxel: bool, a: u32, b: u32) -> bool
-    ensures { λ r. ⌜ r ≡ differ voxel a b ⌝ }
+    ensures { λ r. ⌜ r ≡ cellsDiffer voxel a b ⌝ }
 {
     if voxel {
         return a != b;

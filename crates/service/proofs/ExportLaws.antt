@@ -15,11 +15,11 @@ use Rattle.labeller.specs.Labelling.{Outcome, outcome}
 use Rattle.service.specs.Exports.{exported, export, exportedWriting, exportWriting, exportedReading, exportReading}
 use Rattle.joiner.specs.Job.{Kind, Tables}
 use Rattle.joiner.specs.Calls.{Call, reading, answer}
-use Rattle.joiner.specs.Entries.{Step}
+use Rattle.joiner.specs.Entries.{CallStep}
 use Rattle.job.specs.declared.Job.{Job}
 use Rattle.job.specs.declared.Stage.{Stage}
 use Rattle.job.specs.Jobs.{anyCuts, stateOf}
-use Rattle.job_numbers.specs.Numbers.{jobIn, kept}
+use Rattle.job_numbers.specs.Numbers.{jobIn, keptNumbers}
 use Rattle.row_reading.specs.Inner.{lent}
 use Rattle.tie.specs.Contracts.{read}
 use Rattle.tie.proofs.Service.{called-step}
@@ -56,13 +56,13 @@ module _ (a : Head) (t h : List ℕ) (o : Reading·Outcome) (promise : Reading·
 -- ---- the joiner, on all nineteen tables
 
 module _ (ns ns′ : List ℕ) (other : Stage) (cx cy cz : List ℕ) (t t′ : Tables) (c : Call) (r : ℕ) (job : Job) where
-  pub step-exported : (j : Job) → j ≡ jobIn ns other → Step (stateOf j cx cy cz t) c (answer r 0 []) (stateOf job cx cy cz t′) → ns′ ≡ kept r ns job → ExportedStep ns ns′ other cx cy cz t t′ c r
-  step-exported j e s n = record { job = job; step = subst (λ (x : Job). Step (stateOf x cx cy cz t) c (answer r 0 []) (stateOf job cx cy cz t′)) e s; numbers = n }
+  pub step-exported : (j : Job) → j ≡ jobIn ns other → CallStep (stateOf j cx cy cz t) c (answer r 0 []) (stateOf job cx cy cz t′) → ns′ ≡ keptNumbers r ns job → ExportedStep ns ns′ other cx cy cz t t′ c r
+  step-exported j e s n = record { job = job; step = subst (λ (x : Job). CallStep (stateOf x cx cy cz t) c (answer r 0 []) (stateOf job cx cy cz t′)) e s; numbers = n }
 
 module _ (ns : List ℕ) (other : Stage) (cx cy cz : List ℕ) (t : Tables) (c : Call) (r found v : ℕ) (j : Job) (e : j ≡ jobIn ns other)
-    (s : Step (stateOf j cx cy cz t) c (answer r found []) (stateOf j cx cy cz t)) where
-  looked-up : Step (stateOf (jobIn ns other) cx cy cz t) c (answer r found []) (stateOf (jobIn ns other) cx cy cz t)
-  looked-up = subst (λ (x : Job). Step (stateOf x cx cy cz t) c (answer r found []) (stateOf x cx cy cz t)) e s
+    (s : CallStep (stateOf j cx cy cz t) c (answer r found []) (stateOf j cx cy cz t)) where
+  looked-up : CallStep (stateOf (jobIn ns other) cx cy cz t) c (answer r found []) (stateOf (jobIn ns other) cx cy cz t)
+  looked-up = subst (λ (x : Job). CallStep (stateOf x cx cy cz t) c (answer r found []) (stateOf x cx cy cz t)) e s
 
   pub lookup-stored : r ≡ 0 → ExportedLookup ns other cx cy cz t c r v found
   lookup-stored z = record { found = found; step = looked-up; number = rw (eq-eqb r 0 z) }
@@ -71,7 +71,7 @@ module _ (ns : List ℕ) (other : Stage) (cx cy cz : List ℕ) (t : Tables) (c :
   lookup-refused n = record { found = found; step = looked-up; number = rw (ne-eqb r 0 n) }
 
 module _ (j : Job) (κ : Kind) (n : ℕ) (fs cs ps : List ℕ) (r : ℕ) (part : List ℕ)
-    (s : anyCuts (λ cx cy cz. Step (stateOf j cx cy cz (lent fs cs ps)) (reading κ n) (answer r 0 part) (stateOf j cx cy cz (lent fs cs ps)))) where
+    (s : anyCuts (λ cx cy cz. CallStep (stateOf j cx cy cz (lent fs cs ps)) (reading κ n) (answer r 0 part) (stateOf j cx cy cz (lent fs cs ps)))) where
   pub row-stored : r ≡ 0 → (row row′ : List ℕ) → row′ ≡ sixOf part → RowExported j κ n fs cs ps r row row′
   row-stored z row row′ e cx cy cz t = record { part = part; step = called-step (read {j = j} {cx = cx} {cy = cy} {cz = cz} s); places = rw (eq-eqb r 0 z) e }
 

@@ -18,7 +18,7 @@ use Rattle.joiner.specs.Job.{Crossing, Enrol, Points, Seam, column}
 use Rattle.joiner.specs.Stages.{crossingStep, enrolStep, finished, pointStep, products, seamAxis, seamStep, seams, stepsOf}
 use Rattle.layers.specs.Layers.{axisOf}
 use Rattle.stages.specs.Ticks.{axisNumber, hasNext, seamTicked, seamsTicked, seamsTickedTo, tickedTo}
-use Rattle.lists.proofs.Cases.{and-both, and-left, and-right, by-test}
+use Rattle.lists.proofs.Cases.{and-both, and-first, and-second, by-test}
 use Rattle.lists.proofs.Lists.{consecutive-in, consecutive-out, keep-in, keep-out}
 use Rattle.lists.proofs.Tests.{all-in, all-out, implied, implies}
 use Rattle.cells.proofs.BoxLaws.{Inside, place-inside, raised}
@@ -41,8 +41,8 @@ unfolding tickedTo
 ticked-at f column zero e b h = absurd (omega arith)
 ticked-at f column (suc n) e b h =
     by-test (eqb b n)
-    (λ t. ap (λ (x : ℕ). f (6 * x + column)) (eqb-true b n t) ∙ and-right (tickedTo f column n) (f (6 * n + column)) e)
-    (λ t. let d : b ≢ n = eqb-false b n t in ticked-at f column n (and-left (tickedTo f column n) (f (6 * n + column)) e) b (omega arith))
+    (λ t. ap (λ (x : ℕ). f (6 * x + column)) (eqb-true b n t) ∙ and-second (tickedTo f column n) (f (6 * n + column)) e)
+    (λ t. let d : b ≢ n = eqb-false b n t in ticked-at f column n (and-first (tickedTo f column n) (f (6 * n + column)) e) b (omega arith))
 
 ticked-all : (f : ℕ → Bool) (column n : ℕ) → ((b : ℕ) → b < n → f (6 * b + column) ≡ true) → tickedTo f column n ≡ true
 unfolding tickedTo
@@ -72,23 +72,23 @@ points-finished k f = column-ticked f pointStep 5 (blocks k) (λ b. refl)
 
 -- the next block along an axis
 module _ (k : Cutting) (b : ℕ) (hb : b < blocks k) (a : Axis) (h : hasNext k b a ≡ true) where
-  abbrev up : Triple
-  up = raised a (place (blockSides k) b)
+  abbrev next-place : Triple
+  next-place = raised a (place (blockSides k) b)
 
-  up-inside : Inside (blockSides k) up
+  up-inside : Inside (blockSides k) next-place
   unfolding hasNext blocks
   up-inside = raised-inside (blockSides k) (place (blockSides k) b) a (place-inside (blockSides k) b hb) (omega (arith, ltb-true (suc (interval k b a)) (intervals (cuts k a)) h, interval-is k b a, block-sides-on k a))
 
   next-block : ℕ
-  next-block = index (blockSides k) up
+  next-block = index (blockSides k) next-place
 
-  next-at : (d : Axis) → interval k next-block d ≡ coord up d
+  next-at : (d : Axis) → interval k next-block d ≡ coord next-place d
   unfolding next-block
-  next-at d = interval-at k up up-inside d
+  next-at d = interval-at k next-place up-inside d
 
   next-seam : seam k b next-block ≡ true
   unfolding next-block
-  next-seam = seam-raised k b next-block a hb (block-in k up up-inside) next-at
+  next-seam = seam-raised k b next-block a hb (block-in k next-place up-inside) next-at
 
   -- .. which is a seam along this axis
   next-step : seamStep k (edge b next-block) ≡ 6 * b + axisNumber a
@@ -149,8 +149,8 @@ unfolding seamsTickedTo
 seams-at k f zero e b h = absurd (omega arith)
 seams-at k f (suc n) e b h =
     by-test (eqb b n)
-    (λ t. ap (seamsTicked k f) (eqb-true b n t) ∙ and-right (seamsTickedTo k f n) (seamsTicked k f n) e)
-    (λ t. let d : b ≢ n = eqb-false b n t in seams-at k f n (and-left (seamsTickedTo k f n) (seamsTicked k f n) e) b (omega arith))
+    (λ t. ap (seamsTicked k f) (eqb-true b n t) ∙ and-second (seamsTickedTo k f n) (seamsTicked k f n) e)
+    (λ t. let d : b ≢ n = eqb-false b n t in seams-at k f n (and-first (seamsTickedTo k f n) (seamsTicked k f n) e) b (omega arith))
 
 seams-all : (k : Cutting) (f : ℕ → Bool) (n : ℕ) → ((b : ℕ) → b < n → seamsTicked k f b ≡ true) → seamsTickedTo k f n ≡ true
 unfolding seamsTickedTo
@@ -164,9 +164,9 @@ seam-implied k f b a s h = implied (hasNext k b a) (f (6 * b + axisNumber a)) s 
 -- the three axes of a block
 axes-out : (k : Cutting) (f : ℕ → Bool) (b : ℕ) → seamsTicked k f b ≡ true → (a : Axis) → seamTicked k f b a ≡ true
 unfolding seamsTicked
-axes-out k f b e X = and-left (seamTicked k f b X) (seamTicked k f b Y && seamTicked k f b Z) e
-axes-out k f b e Y = and-left (seamTicked k f b Y) (seamTicked k f b Z) (and-right (seamTicked k f b X) (seamTicked k f b Y && seamTicked k f b Z) e)
-axes-out k f b e Z = and-right (seamTicked k f b Y) (seamTicked k f b Z) (and-right (seamTicked k f b X) (seamTicked k f b Y && seamTicked k f b Z) e)
+axes-out k f b e X = and-first (seamTicked k f b X) (seamTicked k f b Y && seamTicked k f b Z) e
+axes-out k f b e Y = and-first (seamTicked k f b Y) (seamTicked k f b Z) (and-second (seamTicked k f b X) (seamTicked k f b Y && seamTicked k f b Z) e)
+axes-out k f b e Z = and-second (seamTicked k f b Y) (seamTicked k f b Z) (and-second (seamTicked k f b X) (seamTicked k f b Y && seamTicked k f b Z) e)
 
 pub seam-finished : (k : Cutting) (f : ℕ → Bool) → finished k f Seam ≡ seamsTickedTo k f (blocks k)
 unfolding finished stepsOf

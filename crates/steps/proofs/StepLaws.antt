@@ -9,7 +9,7 @@ use native.Mathlib.Omega.{arith}
 use lib.Dec.{eqb, leb, ltb}
 use lib.ListN.{getD, length, set, List·getD-eq-default}
 use borrow.Author.Tests.{eqb-true, eqb-false, ne-eqb, eq-eqb, le-ltb, lt-ltb, ltb-true, not-true, not-false}
-use Rattle.lists.proofs.Cases.{by-test, and-left}
+use Rattle.lists.proofs.Cases.{by-test, and-first}
 use Rattle.refusals.specs.Refusals.{number, table, first, givenBy, standsIn}
 use Rattle.cells.specs.Box.{Triple}
 use Rattle.cells.specs.Extents.{Sized, offSize}
@@ -22,7 +22,7 @@ use Rattle.joiner.specs.Job as joiner
 use Rattle.joiner.specs.Stages.{nextAfter}
 use Rattle.joiner.specs.Calls.{Call, Answer, answer, stageOf, placed, repeated, layersDiffer, full, overfull}
 use Rattle.joiner.specs.Declines.{adds, counted, cutFor, declines, filled, linksStand, mapStands, numberStands, refusal, standing, standsFor, stray, talliesFit, waysStand}
-use Rattle.joiner.specs.Entries.{Done, Step, Ticked}
+use Rattle.joiner.specs.Entries.{Done, CallStep, Ticked}
 use Rattle.model.proofs.Facts.{tally-fits}
 use Rattle.blocks.specs.Blocks.{anyExtents, cutOf, sizeOf, Tells}
 use Rattle.blocks.specs.declared.Block.{Block}
@@ -36,30 +36,30 @@ use Rattle.job.specs.Jobs as job
 use Rattle.staging.specs.Staging.{tickedIn}
 use Rattle.staging.proofs.StagingLaws.{next-told}
 use Rattle.steps.specs.declared.Entry.{Entry}
-use Rattle.steps.specs.Steps.{orElse, openedOf, reachedOf, lateOf, placedOf, entryOf, standsBy, mapStandsIn, linksStandIn, numberStandsIn, movedOn, Advanced}
+use Rattle.steps.specs.Steps.{firstRefusal, openedOf, reachedOf, lateOf, placedOf, entryOf, standsBy, mapStandsIn, linksStandIn, numberStandsIn, movedOn, Advanced}
 
 -- ---- one refusal or else another
 
 module _ (x y : ℕ) where
-  pub or-first : (x ≡ 0 → ⊥) → x ≡ orElse x y
-  unfolding orElse
+  pub or-first : (x ≡ 0 → ⊥) → x ≡ firstRefusal x y
+  unfolding firstRefusal
   or-first n = rw (ne-eqb x 0 n)
 
-  pub or-then : (r : ℕ) → x ≡ 0 → r ≡ y → r ≡ orElse x y
-  unfolding orElse
+  pub or-then : (r : ℕ) → x ≡ 0 → r ≡ y → r ≡ firstRefusal x y
+  unfolding firstRefusal
   or-then r e q = rw (eq-eqb x 0 e) q
 
-  pub or-none : orElse x y ≡ 0 → (x ≡ 0) × (y ≡ 0)
-  unfolding orElse
+  pub or-none : firstRefusal x y ≡ 0 → (x ≡ 0) × (y ≡ 0)
+  unfolding firstRefusal
   or-none h = by-test (eqb x 0) (λ t. (eqb-true x 0 t, rw t at h)) (λ t. absurd (eqb-false x 0 t (rw t at h)))
 
-pub or-else-assoc : (x y z : ℕ) → orElse x (orElse y z) ≡ orElse (orElse x y) z
-unfolding orElse
+pub or-else-assoc : (x y z : ℕ) → firstRefusal x (firstRefusal y z) ≡ firstRefusal (firstRefusal x y) z
+unfolding firstRefusal
 or-else-assoc x y z = by-test (eqb x 0) (λ t. rw t) (λ t. rw (t, t))
 
 -- 6, or else what follows
-pub or-six : (a : Bool) (x : ℕ) → cond (not a) 6 x ≡ orElse (cond (not a) 6 0) x
-unfolding orElse
+pub or-six : (a : Bool) (x : ℕ) → cond (not a) 6 x ≡ firstRefusal (cond (not a) 6 0) x
+unfolding firstRefusal
 or-six true x = refl
 or-six false x = refl
 
@@ -69,32 +69,32 @@ six-none false h = absurd (omega arith)
 
 -- ---- the ladder
 
-three : (a b c : Bool) (x : ℕ) → cond a 1 (cond b 2 (cond c 3 x)) ≡ orElse (cond a 1 (cond b 2 (cond c 3 0))) x
-unfolding orElse
-three true b c x = refl
-three false true c x = refl
-three false false true x = refl
-three false false false x = refl
+first-three : (a b c : Bool) (x : ℕ) → cond a 1 (cond b 2 (cond c 3 x)) ≡ firstRefusal (cond a 1 (cond b 2 (cond c 3 0))) x
+unfolding firstRefusal
+first-three true b c x = refl
+first-three false true c x = refl
+first-three false false true x = refl
+first-three false false false x = refl
 
-five : (a b : Bool) (x : ℕ) → cond a 4 (cond b 5 x) ≡ orElse (cond a 4 (cond b 5 0)) x
-unfolding orElse
-five true b x = refl
-five false true x = refl
-five false false x = refl
+four-five : (a b : Bool) (x : ℕ) → cond a 4 (cond b 5 x) ≡ firstRefusal (cond a 4 (cond b 5 0)) x
+unfolding firstRefusal
+four-five true b x = refl
+four-five false true x = refl
+four-five false false x = refl
 
 module _ (s : State) (c : Call) (cut : cutFor s c ≡ goodCut (s .job .told .cutting)) where
-  pub refusal-opened : refusal s c ≡ orElse (openedOf (s .job) (stageOf c)) (placedOf s c)
+  pub refusal-opened : refusal s c ≡ firstRefusal (openedOf (s .job) (stageOf c)) (placedOf s c)
   unfolding refusal declines givenBy first table number standsIn openedOf placedOf lateOf
   refusal-opened =
-      rw cut (three (offSize 1024 (s .job .told .cutting .extents)) (not (goodCut (s .job .told .cutting))) (not (sameStage (s .job .stage) (stageOf c))) (placedOf s c))
+      rw cut (first-three (offSize 1024 (s .job .told .cutting .extents)) (not (goodCut (s .job .told .cutting))) (not (sameStage (s .job .stage) (stageOf c))) (placedOf s c))
 
   -- a step of block b
   pub refusal-reached : (b step : ℕ) → placed (s .job .told .cutting) (s .job .numbered) c ≡ ltb b (blocks (s .job .told .cutting))
       → repeated (s .job .told .cutting) (ticked (s .tables)) c ≡ tickedIn (s .tables .ticks) step
-      → refusal s c ≡ orElse (reachedOf (s .job) (stageOf c) (s .tables .ticks) b step) (lateOf s c)
+      → refusal s c ≡ firstRefusal (reachedOf (s .job) (stageOf c) (s .tables .ticks) b step) (lateOf s c)
   unfolding reachedOf placedOf
   refusal-reached b step p q =
-      refusal-opened ∙ ap (orElse (openedOf (s .job) (stageOf c))) (rw (p, q) (five (not (ltb b (blocks (s .job .told .cutting)))) (tickedIn (s .tables .ticks) step) (lateOf s c))) ∙
+      refusal-opened ∙ ap (firstRefusal (openedOf (s .job) (stageOf c))) (rw (p, q) (four-five (not (ltb b (blocks (s .job .told .cutting)))) (tickedIn (s .tables .ticks) step) (lateOf s c))) ∙
       or-else-assoc (openedOf (s .job) (stageOf c)) (cond (not (ltb b (blocks (s .job .told .cutting)))) 4 (cond (tickedIn (s .tables .ticks) step) 5 0)) (lateOf s c)
 
 -- 10 cannot stand where nothing is added
@@ -111,7 +111,7 @@ module _ (s : State) (c : Call) (none : (κ : Kind) → adds s c κ ≡ 0) where
       → _≡_ {A = ℕ} (cond (stray s c) 8 (cond l 9 (cond (full (s .job .told .entries) (s .job .sofar) (adds s c)) 10 0)))
       (cond (not (talliesFit (s .job) && standsFor s c)) 8 (cond l 9 0))
   unfolding stray
-  late-none l = by-test (talliesFit (s .job) && standsFor s c) (λ t. rw (t, room (and-left (talliesFit (s .job)) (standsFor s c) t))) (λ t. rw t)
+  late-none l = by-test (talliesFit (s .job) && standsFor s c) (λ t. rw (t, room (and-first (talliesFit (s .job)) (standsFor s c) t))) (λ t. rw t)
 
 -- ---- what the first tests passed
 
@@ -284,8 +284,8 @@ numbered-kept j cx cy cz ticks ticks′ step faces curves points r A κ = ap (λ
 -- ---- one call
 
 module _ (s : State) (c : Call) (number′ : ℕ) (e : number′ ≡ refusal s c) where
-  pub step-refused : (number′ ≡ 0 → ⊥) → Step s c (answer number′ 0 []) s
+  pub step-refused : (number′ ≡ 0 → ⊥) → CallStep s c (answer number′ 0 []) s
   step-refused n = record { told = e; declined = λ _. (ap (λ (x : ℕ). answer x 0 []) e, refl); accepted = λ a. absurd (n (e ∙ a)) }
 
-  pub step-accepted : number′ ≡ 0 → (a : Answer) (t : State) → a .refusal ≡ 0 → Done s c a t → Step s c a t
+  pub step-accepted : number′ ≡ 0 → (a : Answer) (t : State) → a .refusal ≡ 0 → Done s c a t → CallStep s c a t
   step-accepted z a t u d = record { told = u ∙ sym z ∙ e; declined = λ n. absurd (n (sym e ∙ z)); accepted = λ _. d }

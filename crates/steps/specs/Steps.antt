@@ -11,7 +11,7 @@ use Rattle.cells.specs.Box.{Triple}
 use Rattle.cells.specs.Extents.{offSize}
 use Rattle.labels.specs.Components.{largest}
 use Rattle.cutting.specs.Cutting.{blocks, goodCut}
-use Rattle.joiner.specs.Job.{State, sameStage, ticked, fits}
+use Rattle.joiner.specs.Job.{State, sameStage, ticked, lengthsFit}
 use Rattle.joiner.specs.Job as joiner
 use Rattle.joiner.specs.Stages.{nextAfter}
 use Rattle.joiner.specs.Calls.{Call, stageOf, repeated, placed, mapsFit, layersDiffer, full}
@@ -26,8 +26,8 @@ use Rattle.steps.specs.declared.Entry.{Entry}
 -- ---- refusals
 
 -- The first of two refusals, 0 for none.
-unfoldable pub orElse : ℕ → ℕ → ℕ
-orElse x y = cond (eqb x 0) y x
+unfoldable pub firstRefusal : ℕ → ℕ → ℕ
+firstRefusal x y = cond (eqb x 0) y x
 
 -- The refusals up to 3: off size, bad cut, wrong stage.
 unfoldable pub openedOf : joiner.Job → joiner.Stage → ℕ
@@ -35,12 +35,12 @@ openedOf j s = cond (offSize 1024 (j .told .cutting .extents)) 1 (cond (not (goo
 
 -- The refusals up to 5 of a step of block b: no such block, done already.
 unfoldable pub reachedOf : joiner.Job → joiner.Stage → List ℕ → ℕ → ℕ → ℕ
-reachedOf j s ticks b step = orElse (openedOf j s) (cond (not (ltb b (blocks (j .told .cutting)))) 4 (cond (tickedIn ticks step) 5 0))
+reachedOf j s ticks b step = firstRefusal (openedOf j s) (cond (not (ltb b (blocks (j .told .cutting)))) 4 (cond (tickedIn ticks step) 5 0))
 
 -- The refusals from 6 on: wrong tray, stray label, layers differ, table full.
 unfoldable pub lateOf : State → Call → ℕ
 lateOf s c =
-    cond (not (mapsFit (s .job .told .cutting) c && fits (lentTo (s .job .told) (s .tables) c))) 6
+    cond (not (mapsFit (s .job .told .cutting) c && lengthsFit (lentTo (s .job .told) (s .tables) c))) 6
     (cond (stray s c) 8 (cond (layersDiffer (s .job .told .cutting) c) 9 (cond (full (s .job .told .entries) (s .job .sofar) (adds s c)) 10 0)))
 
 -- The refusals from 4 on.

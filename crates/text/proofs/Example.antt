@@ -4,17 +4,17 @@ use mathlib.Core.Path.{_≡_, refl}
 use mathlib.Core.List.{List, [], _∷_, _++_}
 use Prim.Native.Nat.{ℕ}
 use Rattle.lists.specs.Lists.{consecutive, tabulate}
-use Rattle.closure.specs.Joined.{merge, join, joins, rep}
+use Rattle.closure.specs.Joined.{mergeIds, joinClasses, joins, rep}
 use Rattle.closure.specs.Numbered.{countBelow, leader, numberBy, label}
 use Rattle.refusals.specs.Refusals.{number as refusal-number, table, first, givenBy, standsIn}
 use Rattle.cells.specs.Box.{stride, volume, index, place}
 use Rattle.cells.specs.Codes.{blank}
 use Rattle.cells.specs.Extents.{isExtent, offSize}
-use Rattle.cells.specs.Grid.{sides, cells, odd, order, along, up, voxel}
+use Rattle.cells.specs.Grid.{sides, cells, parity, order, along, upperNeighbours, voxel}
 use Rattle.cells.specs.Row.{rowOf, occupied, row, active}
-use Rattle.labels.specs.Number.{pairs, alike, edgesAt, below, edges, activeOf, number, numberedAt, numbered, codeAt, mapDown, labels}
+use Rattle.labels.specs.Number.{pairs, alike, edgesAt, orderBelow, edges, activeOf, number, numberedAt, numbered, codeAt, mapDown, labels}
 use Rattle.labels.specs.Components.{ofOrder, largest, component, firstCell, rowAtFirst, componentRow}
-use Rattle.text.specs.Words.{gap, digit, ended, wordsFrom, wordsOf, digits, valueFrom, spelled, isNumber}
+use Rattle.text.specs.Words.{gap, digit, ended, wordsFrom, wordsOf, allDigits, valueFrom, spelled, isNumber}
 use Rattle.text.specs.Request.{numbers, word, readable, extentsIn, codesIn, formed, declinesText, textRefusal, askedExtents, askedCodes}
 use Rattle.text.specs.Listing.{decimalIn, decimal, spaced, letter, width, coordinates, line, linesFor, linesOf, heading, listing, refusedLine, printed}
 
@@ -29,5 +29,5 @@ pub example-printed : printed example ≡
     (102 ∷ 32 ∷ 50 ∷ 32 ∷ 50 ∷ 32 ∷ 49 ∷ 32 ∷ 48 ∷ 32 ∷ 49 ∷ 32 ∷ 51 ∷ 10 ∷ []) ++
     (102 ∷ 32 ∷ 51 ∷ 32 ∷ 49 ∷ 32 ∷ 50 ∷ 32 ∷ 48 ∷ 32 ∷ 50 ∷ 32 ∷ 51 ∷ 10 ∷ []) ++
     (99 ∷ 32 ∷ 49 ∷ 32 ∷ 49 ∷ 32 ∷ 49 ∷ 32 ∷ 48 ∷ 32 ∷ 49 ∷ 32 ∷ 50 ∷ 32 ∷ 51 ∷ 32 ∷ 48 ∷ 10 ∷ [])
-unfolding consecutive tabulate merge join joins rep countBelow leader numberBy label refusal-number table first givenBy standsIn stride volume index place blank isExtent offSize sides cells odd order along up voxel rowOf occupied row active pairs alike edgesAt below edges activeOf number numberedAt numbered codeAt mapDown labels ofOrder largest component firstCell rowAtFirst componentRow gap digit ended wordsFrom wordsOf digits valueFrom spelled isNumber numbers word readable extentsIn codesIn formed declinesText textRefusal askedExtents askedCodes decimalIn decimal spaced letter width coordinates line linesFor linesOf heading listing refusedLine printed example
+unfolding consecutive tabulate mergeIds joinClasses joins rep countBelow leader numberBy label refusal-number table first givenBy standsIn stride volume index place blank isExtent offSize sides cells parity order along upperNeighbours voxel rowOf occupied row active pairs alike edgesAt orderBelow edges activeOf number numberedAt numbered codeAt mapDown labels ofOrder largest component firstCell rowAtFirst componentRow gap digit ended wordsFrom wordsOf allDigits valueFrom spelled isNumber numbers word readable extentsIn codesIn formed declinesText textRefusal askedExtents askedCodes decimalIn decimal spaced letter width coordinates line linesFor linesOf heading listing refusedLine printed example
 example-printed = refl

@@ -6,7 +6,7 @@ use mathlib.Core.List.{List, [], _∷_, map}
 use Prim.Native.Nat.{ℕ, _+_}
 use lib.Dec.{eqb, leb}
 use lib.ListN.{length, getD, drop}
-use Rattle.refusals.specs.Refusals.{off-size, blank-voxel, bad-record, Case, _if_, given}
+use Rattle.refusals.specs.Refusals.{off-size, blank-voxel, bad-record, Case, _if_, givenRefusal}
 use Rattle.cells.specs.Box.{Triple, triple, volume}
 use Rattle.cells.specs.Codes.{blank}
 use Rattle.cells.specs.Extents.{offSize}
@@ -42,7 +42,7 @@ declinesText ws = off-size if (readable ws && offSize 8 (extentsIn ws)) ∷ blan
 
 -- The refusal of a text, 0 for none.
 unfoldable pub textRefusal : List ℕ → ℕ
-textRefusal text = given (declinesText (wordsOf text))
+textRefusal text = givenRefusal (declinesText (wordsOf text))
 
 -- What a text asks for: extents and codes.
 unfoldable pub askedExtents : List ℕ → Triple

@@ -30,9 +30,9 @@ unfoldable pub wordsOf : List ℕ → List (List ℕ)
 wordsOf text = wordsFrom [] text
 
 -- Every byte is a digit.
-unfoldable pub digits : List ℕ → Bool
-digits [] = true
-digits (b ∷ bs) = digit b && digits bs
+unfoldable pub allDigits : List ℕ → Bool
+allDigits [] = true
+allDigits (b ∷ bs) = digit b && allDigits bs
 
 -- The number that digits spell, after others that spell n.
 unfoldable pub valueFrom : ℕ → List ℕ → ℕ
@@ -44,4 +44,4 @@ spelled w = valueFrom 0 w
 
 -- A word is a number: "of 1 to 10 decimal digits and below 2^32".
 unfoldable pub isNumber : List ℕ → Bool
-isNumber w = digits w && (leb 1 (length w) && (leb (length w) 10 && ltb (spelled w) (2 ^ 32)))
+isNumber w = allDigits w && (leb 1 (length w) && (leb (length w) 10 && ltb (spelled w) (2 ^ 32)))

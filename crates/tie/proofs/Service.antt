@@ -6,20 +6,20 @@ use Prim.Native.Nat.{ℕ, _<_}
 use Rattle.cutting.specs.Cutting.{blocks, blockExtents}
 use Rattle.joiner.specs.Job.{Told, Tables}
 use Rattle.joiner.specs.Calls.{Call, Answer, enrol, join, cross, point, look, reading}
-use Rattle.joiner.specs.Entries.{Opening, Step}
+use Rattle.joiner.specs.Entries.{Opening, CallStep}
 use Rattle.joiner.specs.Book.{begun}
 use Rattle.joiner.specs.Statement.{Entry, Run, Fair, Labelling, Measured}
 use Rattle.joiner.proofs.Statement3.{statement3}
 use Rattle.frames.specs.Frames.{noTables}
 use Rattle.frames.proofs.FrameLaws.{framed}
-use Rattle.tie.specs.Contracts.{Held, stateIn, Called, enrolled, joined, crossed, pointed, looked, read, OpenedBy, opened, Calls, none, next}
+use Rattle.tie.specs.Contracts.{Held, stateIn, CalledEntry, enrolled, joined, crossed, pointed, looked, read, OpenedBy, opened, Calls, none, next}
 
 -- An opening through `open` is one of the joiner.
 pub opened-opening : {o : Told} {lent : Tables} {r : ℕ} {h : Held} → OpenedBy o lent r h → Opening o lent r (stateIn h)
 opened-opening (opened O) = O
 
 -- A call through an entry is a step of the joiner, of all nineteen tables.
-pub called-step : {h g : Held} {c : Call} {a : Answer} → Called h c a g → Step (stateIn h) c a (stateIn g)
+pub called-step : {h g : Held} {c : Call} {a : Answer} → CalledEntry h c a g → CallStep (stateIn h) c a (stateIn g)
 called-step {h = h} {g = g} (enrolled S) = framed noTables (stateIn h .tables) (stateIn h) (stateIn g) (enrol _ _) _ S
 called-step {h = h} {g = g} (joined S) = framed noTables (stateIn h .tables) (stateIn h) (stateIn g) (join _ _ _ _) _ S
 called-step {h = h} {g = g} (crossed S) = framed noTables (stateIn h .tables) (stateIn h) (stateIn g) (cross _ _) _ S

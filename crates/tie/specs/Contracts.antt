@@ -6,7 +6,7 @@ use Prim.Native.Nat.{ℕ}
 use Rattle.cells.specs.Box.{Triple}
 use Rattle.joiner.specs.Job.{Kind, Told, Tables, State}
 use Rattle.joiner.specs.Calls.{Call, enrol, join, cross, point, look, reading, Answer, answer}
-use Rattle.joiner.specs.Entries.{Opening, Step}
+use Rattle.joiner.specs.Entries.{Opening, CallStep}
 use Rattle.joiner.specs.Statement.{Entry}
 use Rattle.job.specs.declared.Job.{Job}
 use Rattle.job.specs.Jobs.{toldBy, tablesOf, stateOf, anyCuts}
@@ -31,55 +31,55 @@ pub data OpenedBy : Told → Tables → ℕ → Held → Type 0 where
 
 -- A call through an entry, with its answer, from what is held before to what is held after: the premise is the entry's `ensures`. (The crate `jobs`
 -- proves each method out of its entry's contract by these constructors.)
-pub data Called : Held → Call → Answer → Held → Type 0 where
+pub data CalledEntry : Held → Call → Answer → Held → Type 0 where
   -- `enrol`
   enrolled : {j j′ : Job} {b r : ℕ} {m : List ℕ} {cx cy cz ticks blocks fl cl fk ck pk fr cr pr fn cn pn ff cf pf fs cs ps
       ticks′ blocks′ fl′ cl′ fk′ ck′ fr′ cr′ : List ℕ}
-      → Step (stateOf j cx cy cz (tablesOf ticks blocks fl cl fk ck [] fr cr [] [] [] [] [] [] [] [] [] []))
+      → CallStep (stateOf j cx cy cz (tablesOf ticks blocks fl cl fk ck [] fr cr [] [] [] [] [] [] [] [] [] []))
       (enrol b m) (answer r 0 [])
       (stateOf j′ cx cy cz (tablesOf ticks′ blocks′ fl′ cl′ fk′ ck′ [] fr′ cr′ [] [] [] [] [] [] [] [] [] []))
-      → Called (held j cx cy cz ticks blocks fl cl fk ck pk fr cr pr fn cn pn ff cf pf fs cs ps) (enrol b m) (answer r 0 [])
+      → CalledEntry (held j cx cy cz ticks blocks fl cl fk ck pk fr cr pr fn cn pn ff cf pf fs cs ps) (enrol b m) (answer r 0 [])
       (held j′ cx cy cz ticks′ blocks′ fl′ cl′ fk′ ck′ pk fr′ cr′ pr fn cn pn ff cf pf fs cs ps)
   -- `seam`
   joined : {j j′ : Job} {b c r : ℕ} {m n : List ℕ} {cx cy cz ticks blocks fl cl fk ck pk fr cr pr fn cn pn ff cf pf fs cs ps
       ticks′ fl′ cl′ : List ℕ}
-      → Step (stateOf j cx cy cz (tablesOf ticks blocks fl cl [] [] [] [] [] [] [] [] [] [] [] [] [] [] []))
+      → CallStep (stateOf j cx cy cz (tablesOf ticks blocks fl cl [] [] [] [] [] [] [] [] [] [] [] [] [] [] []))
       (join b c m n) (answer r 0 [])
       (stateOf j′ cx cy cz (tablesOf ticks′ blocks fl′ cl′ [] [] [] [] [] [] [] [] [] [] [] [] [] [] []))
-      → Called (held j cx cy cz ticks blocks fl cl fk ck pk fr cr pr fn cn pn ff cf pf fs cs ps) (join b c m n) (answer r 0 [])
+      → CalledEntry (held j cx cy cz ticks blocks fl cl fk ck pk fr cr pr fn cn pn ff cf pf fs cs ps) (join b c m n) (answer r 0 [])
       (held j′ cx cy cz ticks′ blocks fl′ cl′ fk ck pk fr cr pr fn cn pn ff cf pf fs cs ps)
   -- `crossing`
   crossed : {j j′ : Job} {b r : ℕ} {m : List ℕ} {cx cy cz ticks blocks fl cl fk ck pk fr cr pr fn cn pn ff cf pf fs cs ps
       ticks′ fl′ cl′ fn′ cn′ ff′ cf′ fs′ cs′ : List ℕ}
-      → Step (stateOf j cx cy cz (tablesOf ticks blocks fl cl fk ck [] fr cr [] fn cn [] ff cf [] fs cs []))
+      → CallStep (stateOf j cx cy cz (tablesOf ticks blocks fl cl fk ck [] fr cr [] fn cn [] ff cf [] fs cs []))
       (cross b m) (answer r 0 [])
       (stateOf j′ cx cy cz (tablesOf ticks′ blocks fl′ cl′ fk ck [] fr cr [] fn′ cn′ [] ff′ cf′ [] fs′ cs′ []))
-      → Called (held j cx cy cz ticks blocks fl cl fk ck pk fr cr pr fn cn pn ff cf pf fs cs ps) (cross b m) (answer r 0 [])
+      → CalledEntry (held j cx cy cz ticks blocks fl cl fk ck pk fr cr pr fn cn pn ff cf pf fs cs ps) (cross b m) (answer r 0 [])
       (held j′ cx cy cz ticks′ blocks fl′ cl′ fk ck pk fr cr pr fn′ cn′ pn ff′ cf′ pf fs′ cs′ ps)
   -- `point`
   pointed : {j j′ : Job} {b r : ℕ} {m : List ℕ} {cx cy cz ticks blocks fl cl fk ck pk fr cr pr fn cn pn ff cf pf fs cs ps
       ticks′ pk′ pr′ pn′ pf′ ps′ : List ℕ}
-      → Step (stateOf j cx cy cz (tablesOf ticks blocks [] [] [] [] pk [] [] pr [] cn pn [] [] pf [] [] ps))
+      → CallStep (stateOf j cx cy cz (tablesOf ticks blocks [] [] [] [] pk [] [] pr [] cn pn [] [] pf [] [] ps))
       (point b m) (answer r 0 [])
       (stateOf j′ cx cy cz (tablesOf ticks′ blocks [] [] [] [] pk′ [] [] pr′ [] cn pn′ [] [] pf′ [] [] ps′))
-      → Called (held j cx cy cz ticks blocks fl cl fk ck pk fr cr pr fn cn pn ff cf pf fs cs ps) (point b m) (answer r 0 [])
+      → CalledEntry (held j cx cy cz ticks blocks fl cl fk ck pk fr cr pr fn cn pn ff cf pf fs cs ps) (point b m) (answer r 0 [])
       (held j′ cx cy cz ticks′ blocks fl cl fk ck pk′ fr cr pr′ fn cn pn′ ff cf pf′ fs cs ps′)
   -- `lookup`, which changes nothing
   looked : {j : Job} {b r v : ℕ} {m : List ℕ} {c : Triple} {cx cy cz ticks blocks fl cl fk ck pk fr cr pr fn cn pn ff cf pf fs cs ps : List ℕ}
-      → Step (stateOf j cx cy cz (tablesOf ticks blocks [] [] [] [] [] [] [] [] fn cn [] [] [] pf [] [] []))
+      → CallStep (stateOf j cx cy cz (tablesOf ticks blocks [] [] [] [] [] [] [] [] fn cn [] [] [] pf [] [] []))
       (look b m c) (answer r v [])
       (stateOf j cx cy cz (tablesOf ticks blocks [] [] [] [] [] [] [] [] fn cn [] [] [] pf [] [] []))
-      → Called (held j cx cy cz ticks blocks fl cl fk ck pk fr cr pr fn cn pn ff cf pf fs cs ps) (look b m c) (answer r v [])
+      → CalledEntry (held j cx cy cz ticks blocks fl cl fk ck pk fr cr pr fn cn pn ff cf pf fs cs ps) (look b m c) (answer r v [])
       (held j cx cy cz ticks blocks fl cl fk ck pk fr cr pr fn cn pn ff cf pf fs cs ps)
   -- `row`, which changes nothing either, and is not lent the cut lists
   read : {j : Job} {κ : Kind} {n r : ℕ} {p : List ℕ} {cx cy cz ticks blocks fl cl fk ck pk fr cr pr fn cn pn ff cf pf fs cs ps : List ℕ}
-      → anyCuts (λ cx′ cy′ cz′. Step (stateOf j cx′ cy′ cz′ (tablesOf [] [] [] [] [] [] [] [] [] [] [] [] [] [] [] [] fs cs ps))
+      → anyCuts (λ cx′ cy′ cz′. CallStep (stateOf j cx′ cy′ cz′ (tablesOf [] [] [] [] [] [] [] [] [] [] [] [] [] [] [] [] fs cs ps))
       (reading κ n) (answer r 0 p)
       (stateOf j cx′ cy′ cz′ (tablesOf [] [] [] [] [] [] [] [] [] [] [] [] [] [] [] [] fs cs ps)))
-      → Called (held j cx cy cz ticks blocks fl cl fk ck pk fr cr pr fn cn pn ff cf pf fs cs ps) (reading κ n) (answer r 0 p)
+      → CalledEntry (held j cx cy cz ticks blocks fl cl fk ck pk fr cr pr fn cn pn ff cf pf fs cs ps) (reading κ n) (answer r 0 p)
       (held j cx cy cz ticks blocks fl cl fk ck pk fr cr pr fn cn pn ff cf pf fs cs ps)
 
 -- A list of calls, each on what the call before it left.
 pub data Calls : Held → List Entry → Type 0 where
   none : {h : Held} → Calls h []
-  next : {h g : Held} {c : Call} {a : Answer} {es : List Entry} → Called h c a g → Calls g es → Calls h (record { call = c; answer = a; after = stateIn g } ∷ es)
+  next : {h g : Held} {c : Call} {a : Answer} {es : List Entry} → CalledEntry h c a g → Calls g es → Calls h (record { call = c; answer = a; after = stateIn g } ∷ es)

@@ -11,19 +11,19 @@ use lib.ListN.{length, getD, List·getD-eq-default}
 use lib.Dec.{eqb, leb}
 use borrow.Author.Tests.{leb-true, le-leb, lt-leb, eq-eqb, ne-eqb}
 use Rattle.lists.specs.Lists.{consecutive, allOf}
-use Rattle.lists.proofs.Cases.{by-test, and-left, and-right, and-both, or-right}
+use Rattle.lists.proofs.Cases.{by-test, and-first, and-second, and-both, or-right}
 use Rattle.lists.proofs.Lists.{consecutive-in, consecutive-out}
 use Rattle.lists.proofs.Tests.{all-in, all-out}
-use Rattle.closure.specs.Trees.{climb}
+use Rattle.closure.specs.Trees.{ancestor}
 use Rattle.closure.proofs.Rooted.{same?}
 use Rattle.union_find.specs.Links.{parent, soundAt, soundWay, soundFrom, soundBelow, soundRange, stepsWithin, depth, depths, soundWays, Walked}
 use Rattle.union_find.proofs.LinkLaws.{parent-low}
 
 -- ---- one link
 
-and-self : (t : Bool) → (t && t) ≡ t
-and-self true = refl
-and-self false = refl
+and-twice : (t : Bool) → (t && t) ≡ t
+and-twice true = refl
+and-twice false = refl
 
 and-none : (t : Bool) → (t && false) ≡ false
 and-none true = refl
@@ -61,7 +61,7 @@ module _ (ls : List ℕ) where
   way-own : (n x : ℕ) → parent ls x ≡ x → soundWay ls n x ≡ soundAt ls x
   unfolding soundWay
   way-own zero x e = refl
-  way-own (suc n) x e = rw (e, way-own n x e) (and-self (soundAt ls x))
+  way-own (suc n) x e = rw (e, way-own n x e) (and-twice (soundAt ls x))
 
   way-more : (n x : ℕ) → x ≤ n → soundWay ls (suc n) x ≡ soundWay ls n x
   unfolding soundWay
@@ -96,23 +96,23 @@ module _ (ls : List ℕ) where
   -- ---- a whole way
 
   -- Each id on the way has a sound way.
-  pub sound-climb : (k x : ℕ) → soundFrom ls x ≡ true → soundFrom ls (climb (parent ls) k x) ≡ true
-  unfolding climb
+  pub sound-climb : (k x : ℕ) → soundFrom ls x ≡ true → soundFrom ls (ancestor (parent ls) k x) ≡ true
+  unfolding ancestor
   sound-climb zero x e = e
-  sound-climb (suc k) x e = sound-climb k (parent ls x) (and-right (soundAt ls x) _ (sym (sound-step x) ∙ e))
+  sound-climb (suc k) x e = sound-climb k (parent ls x) (and-second (soundAt ls x) _ (sym (sound-step x) ∙ e))
 
   -- No link on a sound way is cut short ..
-  pub way-whole : (k x : ℕ) → soundFrom ls x ≡ true → parent ls (climb (parent ls) k x) + getD ls (climb (parent ls) k x) 0 ≡ climb (parent ls) k x
+  pub way-whole : (k x : ℕ) → soundFrom ls x ≡ true → parent ls (ancestor (parent ls) k x) + getD ls (ancestor (parent ls) k x) 0 ≡ ancestor (parent ls) k x
   way-whole k x e =
-      let y = climb (parent ls) k x in
-      whole-link ls y (and-left (soundAt ls y) _ (sym (sound-step y) ∙ sound-climb k x e))
+      let y = ancestor (parent ls) k x in
+      whole-link ls y (and-first (soundAt ls y) _ (sym (sound-step y) ∙ sound-climb k x e))
 
   -- .. and a way with no link cut short is sound.
-  pub whole-way : (x : ℕ) → ((k : ℕ) → parent ls (climb (parent ls) k x) + getD ls (climb (parent ls) k x) 0 ≡ climb (parent ls) k x) → soundFrom ls x ≡ true
-  unfolding soundFrom soundWay climb
+  pub whole-way : (x : ℕ) → ((k : ℕ) → parent ls (ancestor (parent ls) k x) + getD ls (ancestor (parent ls) k x) 0 ≡ ancestor (parent ls) k x) → soundFrom ls x ≡ true
+  unfolding soundFrom soundWay ancestor
   whole-way x h = go x x h
     where
-      go : (n y : ℕ) → ((k : ℕ) → parent ls (climb (parent ls) k y) + getD ls (climb (parent ls) k y) 0 ≡ climb (parent ls) k y) → soundWay ls n y ≡ true
+      go : (n y : ℕ) → ((k : ℕ) → parent ls (ancestor (parent ls) k y) + getD ls (ancestor (parent ls) k y) 0 ≡ ancestor (parent ls) k y) → soundWay ls n y ≡ true
       go zero y g = link-whole ls y (g 0)
       go (suc n) y g = and-both (soundAt ls y) _ (link-whole ls y (g 0)) (go n (parent ls y) (λ k. g (suc k)))
 

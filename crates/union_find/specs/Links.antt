@@ -8,7 +8,7 @@ use mathlib.Core.Path.{_≡_}
 use lib.Dec.{eqb, leb, ltb}
 use lib.ListN.{length, getD}
 use Rattle.lists.specs.Lists.{consecutive, allOf}
-use Rattle.closure.specs.Joined.{join}
+use Rattle.closure.specs.Joined.{joinClasses}
 use Rattle.closure.specs.Trees.{rootOf}
 
 -- The parent of x. An id past the end is its own.
@@ -61,7 +61,7 @@ soundWays ls from n = soundRange ls from n && (leb (depths ls from n) (length ls
 
 -- The roots once a and b are in one class: the smaller of their two roots is the root of both. An id past the end stays alone.
 unfoldable pub united : List ℕ → ℕ → ℕ → ℕ → ℕ
-united ls a b x = cond (ltb a (length ls) && ltb b (length ls)) (join (root ls) a b x) (root ls x)
+united ls a b x = cond (ltb a (length ls) && ltb b (length ls)) (joinClasses (root ls) a b x) (root ls x)
 
 -- ms has the length of ls, and the roots g, and a link that was no longer than its place is so still. Which links lead to these roots is left free.
 pub record Rooted (ls ms : List ℕ) (g : ℕ → ℕ) : Type 0 where

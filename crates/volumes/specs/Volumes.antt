@@ -6,7 +6,7 @@ use Prim.Native.Nat.{ℕ}
 use lib.ListN.{getD}
 use Rattle.lists.specs.Lists.{tabulate, zeros}
 use Rattle.cells.specs.Box.{Triple, triple, volume}
-use Rattle.cells.specs.Grid.{cells, up}
+use Rattle.cells.specs.Grid.{cells, upperNeighbours}
 use Rattle.labels.specs.Number.{labels}
 use Rattle.labels.specs.Components.{largest, componentRow}
 use Rattle.labeller.specs.Labelling.{labelling}
@@ -48,7 +48,7 @@ answer (size e) = labelling e (tabulate (volume e) (λ i. 1)) (zeros (cells e)) 
 answer (map-of e codes) = labels e codes
 answer (counts e codes) = map (λ j. largest e (labels e codes) j) (2 ∷ 1 ∷ 0 ∷ [])
 answer (row-of e codes j n) = componentRow e (labels e codes) j n
-answer (near e codes p) = map (λ q. getD (labels e codes) q 0) (up e p)
+answer (near e codes p) = map (λ q. getD (labels e codes) q 0) (upperNeighbours e p)
 answer (block k codes b) = cond (goodCut k) (labels (blockExtents k b) (blockCodes k b codes)) []
 answer (joined o codes) = closedJob (joinedUp o codes)
 

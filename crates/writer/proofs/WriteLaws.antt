@@ -24,7 +24,7 @@ use Rattle.refusals.proofs.RefusalLaws.{given-none}
 use Rattle.lines.specs.Lines.{lineCount, firstX}
 use Rattle.lines.proofs.LineLaws.{Tests, line-start, line-next, line-end, next-line, cells-lines}
 use Rattle.records.specs.Fields.{packed, laid}
-use Rattle.records.specs.Record.{headBytes, bit, mapByte, bitmapLength, bitmap, listed, encode, some, blankVoxel}
+use Rattle.records.specs.Record.{headBytes, bit, mapByte, bitmapLength, bitmap, listed, encodeRecord, some, blankVoxel}
 use Rattle.records.proofs.LaidLaws.{length-laid, laid-append, laid-none, laid-more, laid-front, laid-encode, length-encode, listed-next, length-next}
 use Rattle.writer.specs.Inner.{byteOf, Ready}
 use Rattle.writer.specs.Writing.{declines, refusalOf, outcome, accepted, refused, writing}
@@ -197,7 +197,7 @@ module _ (m : List ℕ) (at : ℕ) (t : List ℕ) (fits : at + length (listed m)
 -- ---- the pieces of a record
 
 pub pieces : (e o : Triple) (m t t₁ t₂ t₃ : List ℕ) (at r : ℕ) → Ready m (length t) → t₁ ≡ laid 0 (headBytes e o) t → t₂ ≡ laid 12 (bitmap m) t₁ → at ≡ 12 + bitmapLength (length m)
-    → (r ≡ at + length (listed m)) × (t₃ ≡ laid at (listed m) t₂) → (r ≡ length (encode e o m)) × (t₃ ≡ laid 0 (encode e o m) t)
+    → (r ≡ at + length (listed m)) × (t₃ ≡ laid at (listed m) t₂) → (r ≡ length (encodeRecord e o m)) × (t₃ ≡ laid 0 (encodeRecord e o m) t)
 pieces e o m t t₁ t₂ t₃ at r g a b c d = (
   d .0 ∙ ap (λ (n : ℕ). n + length (listed m)) c ∙ sym (length-encode e o m),
   d .1 ∙ rw (c, b, a) (laid-encode e o m t (g .fits)),
@@ -207,7 +207,7 @@ pieces e o m t t₁ t₂ t₃ at r g a b c d = (
 
 module _ (e o : Triple) (m : List ℕ) (tray : ℕ) where
   -- the tests in the order of the code
-  ladder : refusalOf e o m tray ≡ cond (offPlace e o) 1 (cond (not (eqb (length m) (cells e)) || ltb tray (length (encode e o m))) 6 (cond (blankVoxel e m) 8 0))
+  ladder : refusalOf e o m tray ≡ cond (offPlace e o) 1 (cond (not (eqb (length m) (cells e)) || ltb tray (length (encodeRecord e o m))) 6 (cond (blankVoxel e m) 8 0))
   unfolding refusalOf givenBy first table number standsIn declines
   ladder = refl
 
@@ -236,9 +236,9 @@ module _ (e o : Triple) (m : List ℕ) (tray : ℕ) where
       let s = sized-at e o (n off-size) in
       let w = n wrong-tray in
       let a = not (eqb (length m) (cells e)) in
-      let b = ltb tray (length (encode e o m)) in
+      let b = ltb tray (length (encodeRecord e o m)) in
       let k : length m ≡ cells e = eqb-true _ _ (not-false _ (neither a b w .0)) in
-      let f = ltb-false tray (length (encode e o m)) (neither a b w .1) in
+      let f = ltb-false tray (length (encodeRecord e o m)) (neither a b w .1) in
       record { short = omega (arith, cells-high s); fits = rw (length-encode e o m) at f }
 
 -- ---- the ways of `write_record`
@@ -247,7 +247,7 @@ pub write-refused : (e o : Triple) (m t : List ℕ) (n : ℕ) → n ≡ refusalO
 unfolding writing refused
 write-refused e o m t n h z = rw (← h, ne-eqb n 0 z)
 
-pub write-accepted : (e o : Triple) (m t u : List ℕ) (n r : ℕ) → n ≡ refusalOf e o m (length t) → n ≡ 0 → (r ≡ length (encode e o m)) × (u ≡ laid 0 (encode e o m) t)
+pub write-accepted : (e o : Triple) (m t u : List ℕ) (n r : ℕ) → n ≡ refusalOf e o m (length t) → n ≡ 0 → (r ≡ length (encodeRecord e o m)) × (u ≡ laid 0 (encodeRecord e o m) t)
     → outcome (record { refusal = 0; length = r }) u ≡ writing e o m t
 unfolding writing accepted
 write-accepted e o m t u n r h z d = rw (← h, eq-eqb n 0 z, d .0, d .1, laid-front)

@@ -5,21 +5,21 @@ use mathlib.Core.List.{List, [], _∷_, _++_}
 use Prim.Native.Nat.{ℕ}
 use lib.Dec.{eqb, ltb}
 use lib.ListN.{length, drop}
-use Rattle.refusals.specs.Refusals.{off-size, wrong-tray, stray-label, Case, _if_, given}
+use Rattle.refusals.specs.Refusals.{off-size, wrong-tray, stray-label, Case, _if_, givenRefusal}
 use Rattle.cells.specs.Box.{Triple}
 use Rattle.cells.specs.Extents.{offPlace}
 use Rattle.cells.specs.Grid.{cells}
-use Rattle.records.specs.Record.{encode, blankVoxel}
+use Rattle.records.specs.Record.{encodeRecord, blankVoxel}
 use Rattle.writer.specs.declared.Written.{Written}
 
 -- The cases of `write_record`. The tray goes in by its length.
 unfoldable pub declines : Triple → Triple → List ℕ → ℕ → List Case
 declines e o m tray =
-    off-size if offPlace e o ∷ wrong-tray if (not (eqb (length m) (cells e)) || ltb tray (length (encode e o m))) ∷ stray-label if blankVoxel e m ∷ []
+    off-size if offPlace e o ∷ wrong-tray if (not (eqb (length m) (cells e)) || ltb tray (length (encodeRecord e o m))) ∷ stray-label if blankVoxel e m ∷ []
 
 -- The refusal of a call, 0 for none.
 unfoldable pub refusalOf : Triple → Triple → List ℕ → ℕ → ℕ
-refusalOf e o m tray = given (declines e o m tray)
+refusalOf e o m tray = givenRefusal (declines e o m tray)
 
 -- The answer, and what the record tray holds.
 pub record Outcome : Type 0 where
@@ -31,7 +31,7 @@ outcome a t = record { answer = a; tray = t }
 
 -- Accepted: the record, "its bytes after the record stay", and the record's length.
 unfoldable pub accepted : Triple → Triple → List ℕ → List ℕ → Outcome
-accepted e o m t = outcome (record { refusal = 0; length = length (encode e o m) }) (encode e o m ++ drop (length (encode e o m)) t)
+accepted e o m t = outcome (record { refusal = 0; length = length (encodeRecord e o m) }) (encodeRecord e o m ++ drop (length (encodeRecord e o m)) t)
 
 -- Refused: the number, and the tray as it was.
 unfoldable pub refused : ℕ → List ℕ → Outcome

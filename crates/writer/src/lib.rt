@@ -15,7 +15,7 @@ ghost use Rattle.cells.specs.Extents.{Sized};
 ghost use Rattle.cells.specs.Grid.{cells, order};
 ghost use Rattle.lines.specs.Lines.{lineCount};
 ghost use Rattle.records.specs.Fields.{bytes, laid};
-ghost use Rattle.records.specs.Record.{headBytes, bit, mapByte, bitmap, bitmapLength, listed, encode, some, blankVoxel};
+ghost use Rattle.records.specs.Record.{headBytes, bit, mapByte, bitmap, bitmapLength, listed, encodeRecord, some, blankVoxel};
 ghost use Rattle.writer.specs.Inner.{byteOf, Ready};
 ghost use Rattle.writer.specs.Writing.{refusalOf, outcome, writing};
 
@@ -254,8 +254,8 @@ fn write_parts(
     tray: &mut [u8],
 ) -> usize
     requires { ⌜ Ready (now map) (length (now tray)) ⌝ }
-    ensures { λ r. ⌜ (r ≡ length (encode (triple nx ny nz) (triple ox oy oz) (now (map .entry))))
-        × (now (tray .exit) ≡ laid 0 (encode (triple nx ny nz) (triple ox oy oz) (now (map .entry))) (now (tray .entry))) ⌝ }
+    ensures { λ r. ⌜ (r ≡ length (encodeRecord (triple nx ny nz) (triple ox oy oz) (now (map .entry))))
+        × (now (tray .exit) ≡ laid 0 (encodeRecord (triple nx ny nz) (triple ox oy oz) (now (map .entry))) (now (tray .entry))) ⌝ }
 {
     write_head(tray, nx, ny, nz, ox, oy, oz);
     write_bits(map, tray);

@@ -1,7 +1,7 @@
 -- `blocks::low` meets its contract.
 use mathlib.Core.Path.{refl}
 use borrow.Author.Needs.{needs}
-use Rattle.cutting.specs.Cutting.{low}
+use Rattle.cutting.specs.Cutting.{lowEnd}
 use Rattle.blocks.proofs.CodeLaws.{low-past}
 use Rattle.blocks.proofs.low.Statement.{statement}
 use Rattle.blocks.proofs.low.Tie as tie
@@ -13,7 +13,7 @@ shared-slice-read-result : tie.Need-shared-slice-read-result
 shared-slice-read-result c = search needs
 
 returns : tie.Need-returns
-unfolding low
+unfolding lowEnd
 returns c = refl
 
 returns-2 : tie.Need-returns-2

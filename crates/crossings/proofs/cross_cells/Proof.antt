@@ -13,24 +13,24 @@ use Rattle.lines.specs.Lines.{lineCount}
 use Rattle.lines.proofs.LineLaws.{lines-high}
 use Rattle.crossings.specs.Crossings.{crossAt, crossEdges}
 use Rattle.crossings.specs.Inner.{lineEdges}
-use Rattle.crossings.proofs.CrossLaws.{Rest, rest-all, rest-fewer, rest-none, trays-kept}
+use Rattle.crossings.proofs.CrossLaws.{StillToCross, rest-all, rest-fewer, rest-none, trays-kept}
 use Rattle.crossings.proofs.WalkLaws.{fromLine, lines-start, lines-next, lines-end}
 use Rattle.crossings.proofs.cross_cells.Statement.{statement}
 use Rattle.crossings.proofs.cross_cells.Tie as tie
 
 abbrev Inv-loop : tie.InvT-loop
 Inv-loop map nx ny nz j above₀ above-from links₀ from lines l₀ above links l =
-    Rest above₀ above links₀ links (crossEdges (triple nx ny nz) map j (root above₀) above-from from) (fromLine (crossAt (triple nx ny nz) map (root above₀) above-from from) (triple nx ny nz) (j - 1) l)
+    StillToCross above₀ above links₀ links (crossEdges (triple nx ny nz) map j (root above₀) above-from from) (fromLine (crossAt (triple nx ny nz) map (root above₀) above-from from) (triple nx ny nz) (j - 1) l)
 
 abbrev μ-loop : tie.MeasureT-loop
 μ-loop map nx ny nz j above₀ above-from links₀ from lines l₀ above links l = lines - l
 
-abbrev grid : tie.Start Inv-loop μ-loop → Triple
-grid s = triple (s .args .nx) (s .args .ny) (s .args .nz)
+abbrev extents-of : tie.Start Inv-loop μ-loop → Triple
+extents-of s = triple (s .args .nx) (s .args .ny) (s .args .nz)
 
 -- The edges at a cell, by the roots of the order above.
 abbrev edges : tie.Start Inv-loop μ-loop → (ℕ → ℕ) → ℕ → List Edge
-edges s f = crossAt (grid s) (s .args .map .now) f (s .args .above-from) (s .args .from)
+edges s f = crossAt (extents-of s) (s .args .map .now) f (s .args .above-from) (s .args .from)
 
 -- The entry, from the loop.
 abbrev begin : tie.At-loop Inv-loop μ-loop → tie.Start Inv-loop μ-loop
@@ -60,7 +60,7 @@ loop-holds : tie.Need-loop-holds Inv-loop μ-loop
 unfolding crossEdges
 loop-holds c =
     let s = c .before .before .before in
-    rw (← lines-start (edges s (root (s .args .above .now))) (grid s) (s .args .j - 1)) (rest-all _ _ _)
+    rw (← lines-start (edges s (root (s .args .above .now))) (extents-of s) (s .args .j - 1)) (rest-all _ _ _)
 
 cross-line-requires : tie.Need-cross-line-requires Inv-loop μ-loop
 unfolding lineCount sides
@@ -80,8 +80,8 @@ loop-again c =
     let d = c .before .before .before .before .before .before .before .before in
     let s = begin d in
     let l = d .loop in
-    rest-fewer (λ f. lineEdges (edges s f) (grid s) (s .args .j - 1) (l .l))
-    (rw (lines-next (edges s (root (s .args .above .now))) (grid s) (s .args .j - 1) (l .l) (c .before .before .before .before .before .before .before .loop-test .taken)) at (l .inv))
+    rest-fewer (λ f. lineEdges (edges s f) (extents-of s) (s .args .j - 1) (l .l))
+    (rw (lines-next (edges s (root (s .args .above .now))) (extents-of s) (s .args .j - 1) (l .l) (c .before .before .before .before .before .before .before .loop-test .taken)) at (l .inv))
     (c .before .before .before .before .cross-line .ensures)
 
 same-length : tie.Need-same-length Inv-loop μ-loop
@@ -95,7 +95,7 @@ unfolding lineCount sides
 returns c =
     let s = begin (c .before) in
     let l = c .before .loop in
-    rest-none (rw (lines-end (edges s (root (s .args .above .now))) (grid s) (s .args .j - 1) (l .l) (c .loop-test .left)) at (l .inv))
+    rest-none (rw (lines-end (edges s (root (s .args .above .now))) (extents-of s) (s .args .j - 1) (l .l) (c .loop-test .left)) at (l .inv))
 
 pub cross-cells-spec : {M : Type 1} → statement M
 cross-cells-spec =

@@ -15,7 +15,7 @@ use Rattle.lines.specs.Lines.{lineY, lineZ}
 use Rattle.lines.proofs.LineLaws.{line-inside, first-passes}
 use Rattle.crossings.specs.Crossings.{crossAt}
 use Rattle.crossings.specs.Inner.{lineEdges}
-use Rattle.crossings.proofs.CrossLaws.{Rest, rest-all, rest-fewer, rest-none, trays-kept, line-cross}
+use Rattle.crossings.proofs.CrossLaws.{StillToCross, rest-all, rest-fewer, rest-none, trays-kept, line-cross}
 use Rattle.crossings.proofs.WalkLaws.{fromCell, cells-start, cells-next, cells-end}
 use Rattle.crossings.proofs.cross_line.Statement.{statement}
 use Rattle.crossings.proofs.cross_line.Tie as tie
@@ -23,22 +23,22 @@ use Rattle.crossings.proofs.cross_line.Tie as tie
 abbrev Inv-loop : tie.InvT-loop
 Inv-loop map nx ny nz j l above₀ above-from links₀ from w h y z n start a b base x₀ above links x =
     (x < w → (x % 2 ≡ start) × (n ≡ start + (y + z)))
-    × Rest above₀ above links₀ links (lineEdges (crossAt (triple nx ny nz) map (root above₀) above-from from) (triple nx ny nz) (j - 1) l)
+    × StillToCross above₀ above links₀ links (lineEdges (crossAt (triple nx ny nz) map (root above₀) above-from from) (triple nx ny nz) (j - 1) l)
     (fromCell (crossAt (triple nx ny nz) map (root above₀) above-from from) (triple nx ny nz) (j - 1) l x)
 
 abbrev μ-loop : tie.MeasureT-loop
 μ-loop map nx ny nz j l above₀ above-from links₀ from w h y z n start a b base x₀ above links x = w - x
 
-abbrev grid : tie.Start Inv-loop μ-loop → Triple
-grid s = triple (s .args .nx) (s .args .ny) (s .args .nz)
+abbrev extents-of : tie.Start Inv-loop μ-loop → Triple
+extents-of s = triple (s .args .nx) (s .args .ny) (s .args .nz)
 
 -- The edges at a cell.
 abbrev edges : tie.Start Inv-loop μ-loop → ℕ → List Edge
-edges s = crossAt (grid s) (s .args .map .now) (root (s .args .above .now)) (s .args .above-from) (s .args .from)
+edges s = crossAt (extents-of s) (s .args .map .now) (root (s .args .above .now)) (s .args .above-from) (s .args .from)
 
 -- The order of the cells, and how many of their axes are odd.
-odd : (s : tie.Start Inv-loop μ-loop) → 4 - s .args .j + (s .args .j - 1) ≡ 3
-odd s = omega (arith, s .pre .0 .low, s .pre .0 .high)
+odd-axes : (s : tie.Start Inv-loop μ-loop) → 4 - s .args .j + (s .args .j - 1) ≡ 3
+odd-axes s = omega (arith, s .pre .0 .low, s .pre .0 .high)
 
 -- The entry, from the place after the strides and from the loop.
 abbrev entry : tie.After-last-stride Inv-loop μ-loop → tie.Start Inv-loop μ-loop
@@ -48,9 +48,9 @@ abbrev begin : tie.At-loop Inv-loop μ-loop → tie.Start Inv-loop μ-loop
 begin d = entry (d .before)
 
 -- The cell at x of the line lies in the grid.
-cell-inside : (s : tie.Start Inv-loop μ-loop) (x : ℕ) → x < 2 * s .args .nx - 1 → s .args .l * (2 * s .args .nx - 1) + x < cells (grid s)
+cell-inside : (s : tie.Start Inv-loop μ-loop) (x : ℕ) → x < 2 * s .args .nx - 1 → s .args .l * (2 * s .args .nx - 1) + x < cells (extents-of s)
 unfolding sides
-cell-inside s x h = line-inside (grid s) (s .args .l) x h (s .pre .1)
+cell-inside s x h = line-inside (extents-of s) (s .args .l) x h (s .pre .1)
 
 mul-w : tie.Need-mul-w Inv-loop μ-loop
 mul-w c = search needs
@@ -100,7 +100,7 @@ loop-holds c =
     let s = entry c in
     let f = c .before .before .first-x .ensures in (
       rw f (λ h. let p = first-passes _ _ _ h in omega arith),
-      rw (f, ← cells-start (edges s) (grid s) (s .args .j - 1) (s .args .l) (4 - s .args .j) (odd s)) (rest-all _ _ _),
+      rw (f, ← cells-start (edges s) (extents-of s) (s .args .j - 1) (s .args .l) (4 - s .args .j) (odd-axes s)) (rest-all _ _ _),
     )
 
 add-cross-at : tie.Need-add-cross-at Inv-loop μ-loop
@@ -114,7 +114,7 @@ cross-at-requires c κs =
     let l = d .loop in
     let i = l .inv .0 (c .before .before .loop-test .taken) in
     rw (d .before .before .first-stride .ensures, d .before .last-stride .ensures, ← i .0)
-    (line-cross (grid s) (s .args .map .now) _ _ (s .args .j) (s .args .above-from) (s .args .from) (s .args .l) (l .x) (trays-kept (s .pre .0) (l .inv .1)) (s .pre .1) (omega arith) (omega arith))
+    (line-cross (extents-of s) (s .args .map .now) _ _ (s .args .j) (s .args .above-from) (s .args .from) (s .args .l) (l .x) (trays-kept (s .pre .0) (l .inv .1)) (s .pre .1) (omega arith) (omega arith))
 
 add-x : tie.Need-add-x Inv-loop μ-loop
 add-x c = search needs
@@ -130,8 +130,8 @@ loop-again c =
     let l = d .loop in
     let i = l .inv .0 (c .before .before .before .before .before .before .before .loop-test .taken) in (
       λ h. omega arith,
-      rest-fewer (λ f. crossAt (grid s) (s .args .map .now) f (s .args .above-from) (s .args .from) (s .args .l * (2 * s .args .nx - 1) + l .x))
-          (rw (cells-next (edges s) (grid s) (s .args .j - 1) (s .args .l) (4 - s .args .j) (odd s) (l .x) (omega arith) (omega arith)) at (l .inv .1))
+      rest-fewer (λ f. crossAt (extents-of s) (s .args .map .now) f (s .args .above-from) (s .args .from) (s .args .l * (2 * s .args .nx - 1) + l .x))
+          (rw (cells-next (edges s) (extents-of s) (s .args .j - 1) (s .args .l) (4 - s .args .j) (odd-axes s) (l .x) (omega arith) (omega arith)) at (l .inv .1))
           (c .before .before .before .before .cross-at .ensures),
     )
 
@@ -146,7 +146,7 @@ unfolding sides
 returns c =
     let s = begin (c .before) in
     let l = c .before .loop in
-    rest-none (rw (cells-end (edges s) (grid s) (s .args .j - 1) (s .args .l) (4 - s .args .j) (odd s) (l .x) (c .loop-test .left)) at (l .inv .1))
+    rest-none (rw (cells-end (edges s) (extents-of s) (s .args .j - 1) (s .args .l) (4 - s .args .j) (odd-axes s) (l .x) (c .loop-test .left)) at (l .inv .1))
 
 pub cross-line-spec : {M : Type 1} → statement M
 cross-line-spec =

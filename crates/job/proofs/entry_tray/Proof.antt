@@ -1,6 +1,6 @@
 -- `job::entry_tray` meets its contract.
 use borrow.Author.Needs.{needs}
-use Rattle.joiner.specs.Job.{fits}
+use Rattle.joiner.specs.Job.{lengthsFit}
 use Rattle.job.proofs.entry_tray.Statement.{statement}
 use Rattle.job.proofs.entry_tray.Tie as tie
 
@@ -8,7 +8,7 @@ also-requires : tie.Need-also-requires
 also-requires c κs = search needs
 
 returns : tie.Need-returns
-unfolding fits
+unfolding lengthsFit
 returns c = cc
 
 pub entry-tray-spec : {M : Type 1} → statement M

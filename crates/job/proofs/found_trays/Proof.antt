@@ -1,6 +1,6 @@
 -- `job::found_trays` meets its contract.
 use borrow.Author.Needs.{needs}
-use Rattle.joiner.specs.Job.{fits}
+use Rattle.joiner.specs.Job.{lengthsFit}
 use Rattle.job.proofs.found_trays.Statement.{statement}
 use Rattle.job.proofs.found_trays.Tie as tie
 
@@ -14,7 +14,7 @@ also-requires-2 : tie.Need-also-requires-2
 also-requires-2 c κs = search needs
 
 returns : tie.Need-returns
-unfolding fits
+unfolding lengthsFit
 returns c = cc
 
 pub found-trays-spec : {M : Type 1} → statement M

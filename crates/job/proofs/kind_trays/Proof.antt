@@ -1,6 +1,6 @@
 -- `job::kind_trays` meets its contract.
 use borrow.Author.Needs.{needs}
-use Rattle.joiner.specs.Job.{fits}
+use Rattle.joiner.specs.Job.{lengthsFit}
 use Rattle.job.proofs.kind_trays.Statement.{statement}
 use Rattle.job.proofs.kind_trays.Tie as tie
 
@@ -23,7 +23,7 @@ also-requires-5 : tie.Need-also-requires-5
 also-requires-5 c κs = search needs
 
 returns : tie.Need-returns
-unfolding fits
+unfolding lengthsFit
 returns c = cc
 
 pub kind-trays-spec : {M : Type 1} → statement M

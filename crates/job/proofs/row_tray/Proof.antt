@@ -1,6 +1,6 @@
 -- `job::row_tray` meets its contract.
 use borrow.Author.Needs.{needs}
-use Rattle.joiner.specs.Job.{fits}
+use Rattle.joiner.specs.Job.{lengthsFit}
 use Rattle.job.proofs.row_tray.Statement.{statement}
 use Rattle.job.proofs.row_tray.Tie as tie
 
@@ -11,7 +11,7 @@ also-requires : tie.Need-also-requires
 also-requires c κs = search needs
 
 returns : tie.Need-returns
-unfolding fits
+unfolding lengthsFit
 returns c = cc
 
 pub row-tray-spec : {M : Type 1} → statement M

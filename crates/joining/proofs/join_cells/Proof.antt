@@ -20,8 +20,8 @@ Inv-loop map nx ny nz j links₀ lines l₀ links l = Left links₀ links (edges
 abbrev μ-loop : tie.MeasureT-loop
 μ-loop map nx ny nz j links₀ lines l₀ links l = lines - l
 
-abbrev grid : tie.Start Inv-loop μ-loop → Triple
-grid s = triple (s .args .nx) (s .args .ny) (s .args .nz)
+abbrev extents-of : tie.Start Inv-loop μ-loop → Triple
+extents-of s = triple (s .args .nx) (s .args .ny) (s .args .nz)
 
 -- A side of the grid has at most 127 cells.
 lines-high : (s : tie.Start Inv-loop μ-loop) → (2 * s .args .ny - 1) * (2 * s .args .nz - 1) ≤ 127 * 127
@@ -45,7 +45,7 @@ mul-lines-3 c = omega (arith, lines-high (c .before .before))
 loop-holds : tie.Need-loop-holds Inv-loop μ-loop
 loop-holds c =
     let s = c .before .before in
-    rw (← lines-start (grid s) (s .args .map .now) (s .args .j)) (left-all _ _)
+    rw (← lines-start (extents-of s) (s .args .map .now) (s .args .j)) (left-all _ _)
 
 join-line-requires : tie.Need-join-line-requires Inv-loop μ-loop
 unfolding lineCount sides
@@ -64,7 +64,7 @@ unfolding lineCount sides
 loop-again c =
     let s = c .before .before .before .before .before .before .before .before in
     let l = c .before .before .before .before .before .loop in
-    left-fewer _ (rw (lines-next (grid s) (s .args .map .now) (s .args .j) (l .l) (c .before .before .before .before .loop-test .taken)) at (l .inv)) (c .before .before .join-line .ensures)
+    left-fewer _ (rw (lines-next (extents-of s) (s .args .map .now) (s .args .j) (l .l) (c .before .before .before .before .loop-test .taken)) at (l .inv)) (c .before .before .join-line .ensures)
 
 same-length : tie.Need-same-length Inv-loop μ-loop
 same-length c = search needs
@@ -74,7 +74,7 @@ unfolding lineCount sides
 returns c =
     let s = c .before .before .before .before in
     let l = c .before .loop in
-    left-none (rw (lines-end (grid s) (s .args .map .now) (s .args .j) (l .l) (c .loop-test .left)) at (l .inv))
+    left-none (rw (lines-end (extents-of s) (s .args .map .now) (s .args .j) (l .l) (c .loop-test .left)) at (l .inv))
 
 pub join-cells-spec : {M : Type 1} → statement M
 join-cells-spec =

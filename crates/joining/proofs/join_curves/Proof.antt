@@ -5,24 +5,24 @@ use mathlib.Core.Bool.{_&&_}
 use mathlib.Core.List.{[], _∷_}
 use native.Mathlib.Omega.{arith}
 use borrow.Author.Needs.{needs}
-use Rattle.lists.proofs.Cases.{and-left, and-right}
+use Rattle.lists.proofs.Cases.{and-first, and-second}
 use Rattle.cells.specs.Box.{Triple, triple}
 use Rattle.lines.specs.Lines.{around}
 use Rattle.joining.proofs.JoinLaws.{blank-row, joined-around, idle-around, Near, near, getD-below}
 use Rattle.joining.proofs.join_curves.Statement.{statement}
 use Rattle.joining.proofs.join_curves.Tie as tie
 
-abbrev grid : tie.Start → Triple
-grid s = triple (s .args .nx) (s .args .ny) (s .args .nz)
+abbrev extents-of : tie.Start → Triple
+extents-of s = triple (s .args .nx) (s .args .ny) (s .args .nz)
 
 -- The cells along the three axes.
-on-a : (s : tie.Start) → Near (grid s) (s .args .map .now) (s .args .t) (s .args .a) (s .args .b ∷ s .args .c ∷ [])
+on-a : (s : tie.Start) → Near (extents-of s) (s .args .map .now) (s .args .t) (s .args .a) (s .args .b ∷ s .args .c ∷ [])
 on-a s = near (s .pre .0) (s .pre .1) [] _ (s .args .b ∷ s .args .c ∷ []) (s .pre .2)
 
-on-b : (s : tie.Start) → Near (grid s) (s .args .map .now) (s .args .t) (s .args .b) (s .args .a ∷ s .args .c ∷ [])
+on-b : (s : tie.Start) → Near (extents-of s) (s .args .map .now) (s .args .t) (s .args .b) (s .args .a ∷ s .args .c ∷ [])
 on-b s = near (s .pre .0) (s .pre .1) (s .args .a ∷ []) _ (s .args .c ∷ []) (s .pre .2)
 
-on-c : (s : tie.Start) → Near (grid s) (s .args .map .now) (s .args .t) (s .args .c) (s .args .a ∷ s .args .b ∷ [])
+on-c : (s : tie.Start) → Near (extents-of s) (s .args .map .now) (s .args .t) (s .args .c) (s .args .a ∷ s .args .b ∷ [])
 on-c s = near (s .pre .0) (s .pre .1) (s .args .a ∷ s .args .b ∷ []) _ [] (s .pre .2)
 
 sub-curve-row : tie.Need-sub-curve-row
@@ -84,15 +84,15 @@ unfolding around
 returns c =
     let s = c .before .before .before .before .before .before .before .before .before .before .before .before .before .before .before in
     let t5 = c .if1 .taken in
-    let t4 = and-left ((((c .before .before .before .before .before .before .is-blank .result && c .before .before .before .before .before .is-blank2 .result) && c .before .before .before .before .is-blank3 .result) && c .before .before .before .is-blank4 .result) && c .before .before .is-blank5 .result) (c .before .is-blank6 .result) t5 in
-    let t3 = and-left (((c .before .before .before .before .before .before .is-blank .result && c .before .before .before .before .before .is-blank2 .result) && c .before .before .before .before .is-blank3 .result) && c .before .before .before .is-blank4 .result) (c .before .before .is-blank5 .result) t4 in
-    let t2 = and-left ((c .before .before .before .before .before .before .is-blank .result && c .before .before .before .before .before .is-blank2 .result) && c .before .before .before .before .is-blank3 .result) (c .before .before .before .is-blank4 .result) t3 in
-    let t1 = and-left (c .before .before .before .before .before .before .is-blank .result && c .before .before .before .before .before .is-blank2 .result) (c .before .before .before .before .is-blank3 .result) t2 in
-    let t0 = and-left (c .before .before .before .before .before .before .is-blank .result) (c .before .before .before .before .before .is-blank2 .result) t1 in
-    idle-around (grid s) (s .args .map .now) (s .args .t) (s .args .a ∷ s .args .b ∷ s .args .c ∷ []) (s .pre .2)
+    let t4 = and-first ((((c .before .before .before .before .before .before .is-blank .result && c .before .before .before .before .before .is-blank2 .result) && c .before .before .before .before .is-blank3 .result) && c .before .before .before .is-blank4 .result) && c .before .before .is-blank5 .result) (c .before .is-blank6 .result) t5 in
+    let t3 = and-first (((c .before .before .before .before .before .before .is-blank .result && c .before .before .before .before .before .is-blank2 .result) && c .before .before .before .before .is-blank3 .result) && c .before .before .before .is-blank4 .result) (c .before .before .is-blank5 .result) t4 in
+    let t2 = and-first ((c .before .before .before .before .before .before .is-blank .result && c .before .before .before .before .before .is-blank2 .result) && c .before .before .before .before .is-blank3 .result) (c .before .before .before .is-blank4 .result) t3 in
+    let t1 = and-first (c .before .before .before .before .before .before .is-blank .result && c .before .before .before .before .before .is-blank2 .result) (c .before .before .before .before .is-blank3 .result) t2 in
+    let t0 = and-first (c .before .before .before .before .before .before .is-blank .result) (c .before .before .before .before .before .is-blank2 .result) t1 in
+    idle-around (extents-of s) (s .args .map .now) (s .args .t) (s .args .a ∷ s .args .b ∷ s .args .c ∷ []) (s .pre .2)
     (c .before .before .before .before .before .before .before .before .before .before .before .before .curve-row .result ∷ c .before .before .before .before .before .before .before .before .before .before .before .curve-row2 .result ∷ c .before .before .before .before .before .before .before .before .before .before .curve-row3 .result ∷ c .before .before .before .before .before .before .before .before .before .curve-row4 .result ∷ c .before .before .before .before .before .before .before .before .curve-row5 .result ∷ c .before .before .before .before .before .before .before .curve-row6 .result ∷ [])
     (rw (c .before .before .before .before .before .before .before .before .before .before .before .before .curve-row .ensures, c .before .before .before .before .before .before .before .before .before .before .before .curve-row2 .ensures, c .before .before .before .before .before .before .before .before .before .before .curve-row3 .ensures, c .before .before .before .before .before .before .before .before .before .curve-row4 .ensures, c .before .before .before .before .before .before .before .before .curve-row5 .ensures, c .before .before .before .before .before .before .before .curve-row6 .ensures))
-    (blank-row _ (c .before .before .before .before .before .before .is-blank .ensures) t0, (blank-row _ (c .before .before .before .before .before .is-blank2 .ensures) (and-right (c .before .before .before .before .before .before .is-blank .result) (c .before .before .before .before .before .is-blank2 .result) t1), (blank-row _ (c .before .before .before .before .is-blank3 .ensures) (and-right (c .before .before .before .before .before .before .is-blank .result && c .before .before .before .before .before .is-blank2 .result) (c .before .before .before .before .is-blank3 .result) t2), (blank-row _ (c .before .before .before .is-blank4 .ensures) (and-right ((c .before .before .before .before .before .before .is-blank .result && c .before .before .before .before .before .is-blank2 .result) && c .before .before .before .before .is-blank3 .result) (c .before .before .before .is-blank4 .result) t3), (blank-row _ (c .before .before .is-blank5 .ensures) (and-right (((c .before .before .before .before .before .before .is-blank .result && c .before .before .before .before .before .is-blank2 .result) && c .before .before .before .before .is-blank3 .result) && c .before .before .before .is-blank4 .result) (c .before .before .is-blank5 .result) t4), (blank-row _ (c .before .is-blank6 .ensures) (and-right ((((c .before .before .before .before .before .before .is-blank .result && c .before .before .before .before .before .is-blank2 .result) && c .before .before .before .before .is-blank3 .result) && c .before .before .before .is-blank4 .result) && c .before .before .is-blank5 .result) (c .before .is-blank6 .result) t5), tt))))))
+    (blank-row _ (c .before .before .before .before .before .before .is-blank .ensures) t0, (blank-row _ (c .before .before .before .before .before .is-blank2 .ensures) (and-second (c .before .before .before .before .before .before .is-blank .result) (c .before .before .before .before .before .is-blank2 .result) t1), (blank-row _ (c .before .before .before .before .is-blank3 .ensures) (and-second (c .before .before .before .before .before .before .is-blank .result && c .before .before .before .before .before .is-blank2 .result) (c .before .before .before .before .is-blank3 .result) t2), (blank-row _ (c .before .before .before .is-blank4 .ensures) (and-second ((c .before .before .before .before .before .before .is-blank .result && c .before .before .before .before .before .is-blank2 .result) && c .before .before .before .before .is-blank3 .result) (c .before .before .before .is-blank4 .result) t3), (blank-row _ (c .before .before .is-blank5 .ensures) (and-second (((c .before .before .before .before .before .before .is-blank .result && c .before .before .before .before .before .is-blank2 .result) && c .before .before .before .before .is-blank3 .result) && c .before .before .before .is-blank4 .result) (c .before .before .is-blank5 .result) t4), (blank-row _ (c .before .is-blank6 .ensures) (and-second ((((c .before .before .before .before .before .before .is-blank .result && c .before .before .before .before .before .is-blank2 .result) && c .before .before .before .before .is-blank3 .result) && c .before .before .before .is-blank4 .result) && c .before .before .is-blank5 .result) (c .before .is-blank6 .result) t5), tt))))))
 
 sub-t17 : tie.Need-sub-t17
 sub-t17 c = on-a (c .before .before .before .before .before .before .before .before .before .before .before .before .before .before .before) .low
@@ -147,7 +147,7 @@ unfolding around
 returns-2 c =
     let d = c .before .before .before .before .before .before .before .before .before .before .before in
     let s = d .before .before .before .before .before .before .before .before in
-    joined-around (grid s) _ [] [] tt _ (s .args .a ∷ s .args .b ∷ s .args .c ∷ []) (s .pre .2)
+    joined-around (extents-of s) _ [] [] tt _ (s .args .a ∷ s .args .b ∷ s .args .c ∷ []) (s .pre .2)
     (rw (d .before .before .before .before .before .curve-row .ensures, d .before .before .before .before .curve-row2 .ensures, d .before .before .before .curve-row3 .ensures, d .before .before .curve-row4 .ensures, d .before .curve-row5 .ensures, d .curve-row6 .ensures))
     (c .before .before .join-alike .ensures)
 

@@ -7,7 +7,7 @@ use mathlib.Core.Bool.{_&&_}
 use mathlib.Core.List.{List, [], _∷_}
 use native.Mathlib.Omega.{arith}
 use borrow.Author.Needs.{needs}
-use Rattle.lists.proofs.Cases.{and-left, and-right}
+use Rattle.lists.proofs.Cases.{and-first, and-second}
 use Rattle.cells.specs.Box.{Triple, triple}
 use Rattle.cells.specs.Row.{occupied}
 use Rattle.lines.specs.Lines.{around}
@@ -16,17 +16,17 @@ use Rattle.joining.proofs.join_faces.Statement.{statement}
 use Rattle.joining.proofs.join_faces.Tie as tie
 
 -- A row without an entry.
-abbrev none : List ℕ
-none = 0 ∷ 0 ∷ 0 ∷ 0 ∷ 0 ∷ 0 ∷ []
+abbrev no-row : List ℕ
+no-row = 0 ∷ 0 ∷ 0 ∷ 0 ∷ 0 ∷ 0 ∷ []
 
-abbrev grid : tie.Start → Triple
-grid s = triple (s .args .nx) (s .args .ny) (s .args .nz)
+abbrev extents-of : tie.Start → Triple
+extents-of s = triple (s .args .nx) (s .args .ny) (s .args .nz)
 
 -- The cells along the two odd axes.
-on-a : (s : tie.Start) → Near (grid s) (s .args .map .now) (s .args .t) (s .args .a) (s .args .b ∷ [])
+on-a : (s : tie.Start) → Near (extents-of s) (s .args .map .now) (s .args .t) (s .args .a) (s .args .b ∷ [])
 on-a s = near (s .pre .0) (s .pre .1) [] _ (s .args .b ∷ []) (s .pre .2)
 
-on-b : (s : tie.Start) → Near (grid s) (s .args .map .now) (s .args .t) (s .args .b) (s .args .a ∷ [])
+on-b : (s : tie.Start) → Near (extents-of s) (s .args .map .now) (s .args .t) (s .args .b) (s .args .a ∷ [])
 on-b s = near (s .pre .0) (s .pre .1) (s .args .a ∷ []) _ [] (s .pre .2)
 
 sub-p : tie.Need-sub-p
@@ -70,13 +70,13 @@ unfolding around
 returns c =
     let s = c .before .before .before .before .before .before .before .before .before .before .before in
     let t3 = c .if1 .taken in
-    let t2 = and-left ((c .before .before .before .before .is-blank .result && c .before .before .before .is-blank2 .result) && c .before .before .is-blank3 .result) (c .before .is-blank4 .result) t3 in
-    let t1 = and-left (c .before .before .before .before .is-blank .result && c .before .before .before .is-blank2 .result) (c .before .before .is-blank3 .result) t2 in
-    let t0 = and-left (c .before .before .before .before .is-blank .result) (c .before .before .before .is-blank2 .result) t1 in
-    idle-around (grid s) (s .args .map .now) (s .args .t) (s .args .a ∷ s .args .b ∷ []) (s .pre .2)
+    let t2 = and-first ((c .before .before .before .before .is-blank .result && c .before .before .before .is-blank2 .result) && c .before .before .is-blank3 .result) (c .before .is-blank4 .result) t3 in
+    let t1 = and-first (c .before .before .before .before .is-blank .result && c .before .before .before .is-blank2 .result) (c .before .before .is-blank3 .result) t2 in
+    let t0 = and-first (c .before .before .before .before .is-blank .result) (c .before .before .before .is-blank2 .result) t1 in
+    idle-around (extents-of s) (s .args .map .now) (s .args .t) (s .args .a ∷ s .args .b ∷ []) (s .pre .2)
     (c .before .before .before .before .before .before .before .before .face-row .result ∷ c .before .before .before .before .before .before .before .face-row2 .result ∷ c .before .before .before .before .before .before .face-row3 .result ∷ c .before .before .before .before .before .face-row4 .result ∷ [])
     (rw (c .before .before .before .before .before .before .before .before .face-row .ensures, c .before .before .before .before .before .before .before .face-row2 .ensures, c .before .before .before .before .before .before .face-row3 .ensures, c .before .before .before .before .before .face-row4 .ensures))
-    (blank-row _ (c .before .before .before .before .is-blank .ensures) t0, (blank-row _ (c .before .before .before .is-blank2 .ensures) (and-right (c .before .before .before .before .is-blank .result) (c .before .before .before .is-blank2 .result) t1), (blank-row _ (c .before .before .is-blank3 .ensures) (and-right (c .before .before .before .before .is-blank .result && c .before .before .before .is-blank2 .result) (c .before .before .is-blank3 .result) t2), (blank-row _ (c .before .is-blank4 .ensures) (and-right ((c .before .before .before .before .is-blank .result && c .before .before .before .is-blank2 .result) && c .before .before .is-blank3 .result) (c .before .is-blank4 .result) t3), tt))))
+    (blank-row _ (c .before .before .before .before .is-blank .ensures) t0, (blank-row _ (c .before .before .before .is-blank2 .ensures) (and-second (c .before .before .before .before .is-blank .result) (c .before .before .before .is-blank2 .result) t1), (blank-row _ (c .before .before .is-blank3 .ensures) (and-second (c .before .before .before .before .is-blank .result && c .before .before .before .is-blank2 .result) (c .before .before .is-blank3 .result) t2), (blank-row _ (c .before .is-blank4 .ensures) (and-second ((c .before .before .before .before .is-blank .result && c .before .before .before .is-blank2 .result) && c .before .before .is-blank3 .result) (c .before .is-blank4 .result) t3), tt))))
 
 cast-t26 : tie.Need-cast-t26
 cast-t26 c = omega (arith, on-a (c .before .before .before .before .before .before .before .before .before .before .before) .fits)
@@ -106,7 +106,7 @@ unfolding around occupied
 returns-2 c =
     let d = c .before .before .before .before .before .before .before .before .before in
     let s = d .before .before .before .before .before .before in
-    joined-around (grid s) _ (0 ∷ 0 ∷ []) (none ∷ none ∷ []) (refl, (refl, tt)) _ (s .args .a ∷ s .args .b ∷ []) (s .pre .2)
+    joined-around (extents-of s) _ (0 ∷ 0 ∷ []) (no-row ∷ no-row ∷ []) (refl, (refl, tt)) _ (s .args .a ∷ s .args .b ∷ []) (s .pre .2)
     (rw (d .before .before .before .face-row .ensures, d .before .before .face-row2 .ensures, d .before .face-row3 .ensures, d .face-row4 .ensures))
     (c .before .before .join-alike .ensures)
 

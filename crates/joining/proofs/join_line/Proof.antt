@@ -9,7 +9,7 @@ use Rattle.lists.specs.Lists.{consecutive, keep}
 use Rattle.cells.specs.Box.{Triple, triple, stride}
 use Rattle.cells.specs.Grid.{sides, cells}
 use Rattle.cells.proofs.ExtentLaws.{layer-high, cells-high}
-use Rattle.labels.specs.Number.{edgesAt, below}
+use Rattle.labels.specs.Number.{edgesAt, orderBelow}
 use Rattle.lines.specs.Lines.{lineY, lineZ}
 use Rattle.lines.proofs.LineLaws.{line-inside, line-strides, first-passes}
 use Rattle.union_find.proofs.LinkLaws.{Left, left-all, left-fewer, left-none}
@@ -20,18 +20,18 @@ use Rattle.joining.proofs.join_line.Tie as tie
 abbrev Inv-loop : tie.InvT-loop
 Inv-loop map nx ny nz j l links₀ w h y z n start a b base x₀ links x =
     (x < w → (x % 2 ≡ start) × (n ≡ start + (y + z)))
-    × Left links₀ links (edgesAt (triple nx ny nz) map (keep (below (triple nx ny nz) j) (consecutive (l * w) w))) (fromCell (triple nx ny nz) map j l x)
+    × Left links₀ links (edgesAt (triple nx ny nz) map (keep (orderBelow (triple nx ny nz) j) (consecutive (l * w) w))) (fromCell (triple nx ny nz) map j l x)
 
 abbrev μ-loop : tie.MeasureT-loop
 μ-loop map nx ny nz j l links₀ w h y z n start a b base x₀ links x = w - x
 
-abbrev grid : tie.Start Inv-loop μ-loop → Triple
-grid s = triple (s .args .nx) (s .args .ny) (s .args .nz)
+abbrev extents-of : tie.Start Inv-loop μ-loop → Triple
+extents-of s = triple (s .args .nx) (s .args .ny) (s .args .nz)
 
 -- The cell at x of the line lies in the grid.
-cell-inside : (s : tie.Start Inv-loop μ-loop) (x : ℕ) → x < 2 * s .args .nx - 1 → s .args .l * (2 * s .args .nx - 1) + x < cells (grid s)
+cell-inside : (s : tie.Start Inv-loop μ-loop) (x : ℕ) → x < 2 * s .args .nx - 1 → s .args .l * (2 * s .args .nx - 1) + x < cells (extents-of s)
 unfolding sides
-cell-inside s x h = line-inside (grid s) (s .args .l) x h (s .pre .2)
+cell-inside s x h = line-inside (extents-of s) (s .args .l) x h (s .pre .2)
 
 mul-w : tie.Need-mul-w Inv-loop μ-loop
 mul-w c = search needs
@@ -82,7 +82,7 @@ unfolding sides lineY lineZ
 loop-holds c =
     let s = c .before .before .before .before .before in
     let f = c .before .before .first-x .ensures in
-    (rw f (λ h. let p = first-passes _ _ _ h in omega arith), rw (f, ← cells-start (grid s) (s .args .map .now) (s .args .j) (s .args .l) (s .pre .1)) (left-all _ _))
+    (rw f (λ h. let p = first-passes _ _ _ h in omega arith), rw (f, ← cells-start (extents-of s) (s .args .map .now) (s .args .j) (s .args .l) (s .pre .1)) (left-all _ _))
 
 add-join-at : tie.Need-add-join-at Inv-loop μ-loop
 add-join-at c =
@@ -99,7 +99,7 @@ join-at-requires c κs =
       cell-inside s (l .x) (omega arith),
       omega arith,
       rw (c .before .before .before .before .first-stride .ensures, c .before .before .before .last-stride .ensures, ← i .0)
-          (line-strides (grid s) (s .args .l) (l .x) (4 - s .args .j) (omega arith) (omega arith) (omega arith)),
+          (line-strides (extents-of s) (s .args .l) (l .x) (4 - s .args .j) (omega arith) (omega arith) (omega arith)),
     )
 
 add-x : tie.Need-add-x Inv-loop μ-loop
@@ -114,7 +114,7 @@ loop-again c =
     let s = c .before .before .before .before .before .before .before .before .before .before .before in
     let l = c .before .before .before .before .before .loop in
     let i = l .inv .0 (c .before .before .before .before .loop-test .taken) in
-    (λ h. omega arith, left-fewer _ (rw (cells-next (grid s) (s .args .map .now) (s .args .j) (s .args .l) (s .pre .1) (l .x) (omega arith) (omega arith)) at (l .inv .1)) (c .before .before .join-at .ensures))
+    (λ h. omega arith, left-fewer _ (rw (cells-next (extents-of s) (s .args .map .now) (s .args .j) (s .args .l) (s .pre .1) (l .x) (omega arith) (omega arith)) at (l .inv .1)) (c .before .before .join-at .ensures))
 
 same-length : tie.Need-same-length Inv-loop μ-loop
 same-length c = search needs
@@ -124,7 +124,7 @@ unfolding sides
 returns c =
     let s = c .before .before .before .before .before .before .before in
     let l = c .before .loop in
-    left-none (rw (cells-end (grid s) (s .args .map .now) (s .args .j) (s .args .l) (s .pre .1) (l .x) (c .loop-test .left)) at (l .inv .1))
+    left-none (rw (cells-end (extents-of s) (s .args .map .now) (s .args .j) (s .args .l) (s .pre .1) (l .x) (c .loop-test .left)) at (l .inv .1))
 
 pub join-line-spec : {M : Type 1} → statement M
 join-line-spec =

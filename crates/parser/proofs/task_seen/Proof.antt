@@ -2,7 +2,7 @@
 use mathlib.Core.Path.{_∙_, sym}
 use native.Mathlib.Omega.{arith}
 use borrow.Author.Needs.{needs}
-use Rattle.parser.proofs.AnswerLaws.{task-refused, task-listing, small}
+use Rattle.parser.proofs.AnswerLaws.{task-refused, task-listing, small-extents}
 use Rattle.parser.proofs.task_seen.Statement.{statement}
 use Rattle.parser.proofs.task_seen.Tie as tie
 
@@ -13,13 +13,13 @@ returns : tie.Need-returns
 returns c = search task-refused
 
 cast-t5 : tie.Need-cast-t5
-cast-t5 c = let q = small _ _ (sym (c .before .before .line-number .ensures) ∙ c .before .if1 .left) in omega (arith, q)
+cast-t5 c = let q = small-extents _ _ (sym (c .before .before .line-number .ensures) ∙ c .before .if1 .left) in omega (arith, q)
 
 cast-t6 : tie.Need-cast-t6
-cast-t6 c = let q = small _ _ (sym (c .before .before .before .line-number .ensures) ∙ c .before .before .if1 .left) in omega (arith, q)
+cast-t6 c = let q = small-extents _ _ (sym (c .before .before .before .line-number .ensures) ∙ c .before .before .if1 .left) in omega (arith, q)
 
 cast-t7 : tie.Need-cast-t7
-cast-t7 c = let q = small _ _ (sym (c .before .before .before .before .line-number .ensures) ∙ c .before .before .before .if1 .left) in omega (arith, q)
+cast-t7 c = let q = small-extents _ _ (sym (c .before .before .before .before .line-number .ensures) ∙ c .before .before .before .if1 .left) in omega (arith, q)
 
 returns-2 : tie.Need-returns-2
 returns-2 c = search task-listing

@@ -3,7 +3,7 @@ use mathlib.Core.Path.{refl}
 use native.Mathlib.Omega.{arith}
 use borrow.Author.Needs.{needs}
 use Rattle.cells.specs.Box.{place}
-use Rattle.cells.specs.Grid.{sides, odd, order}
+use Rattle.cells.specs.Grid.{sides, parity, order}
 use Rattle.cells.proofs.ExtentLaws.{layer-low, layer-high}
 use Rattle.printer.proofs.order_of.Statement.{statement}
 use Rattle.printer.proofs.order_of.Tie as tie
@@ -45,7 +45,7 @@ sub-result : tie.Need-sub-result
 sub-result c = search needs
 
 returns : tie.Need-returns
-unfolding order odd place sides
+unfolding order parity place sides
 returns c = refl
 
 pub order-of-spec : {M : Type 1} → statement M

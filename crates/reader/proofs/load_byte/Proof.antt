@@ -38,8 +38,8 @@ shr-b : tie.Need-shr-b Inv-loop μ-loop
 shr-b c = search needs
 
 -- the cell of the bit, and its bit
-low : (c : tie.In-loop Inv-loop μ-loop) → 8 * c .before .before .before .before .before .args .i + c .before .loop .k < length (c .before .before .before .before .before .args .map .now)
-low c = omega (arith, c .before .before .before .before .before .pre .4)
+inside-map : (c : tie.In-loop Inv-loop μ-loop) → 8 * c .before .before .before .before .before .args .i + c .before .loop .k < length (c .before .before .before .before .before .args .map .now)
+inside-map c = omega (arith, c .before .before .before .before .before .pre .4)
 
 bit-is : (c : tie.In-loop Inv-loop μ-loop)
     → getD (c .before .before .before .before .before .args .bytes .now) (12 + c .before .before .before .before .before .args .i) 0 / 2 ^ c .before .loop .k % 2 ≡ bitAt (c .before .before .before .before .before .args .bytes .now) (8 * c .before .before .before .before .before .args .i + c .before .loop .k)
@@ -50,7 +50,7 @@ number-at-requires c κs =
     let st = c .before .before .before .before .before in (
       omega arith,
       omega (arith, st .pre .0 .bits),
-      λ e. rw (c .before .loop .inv .2 .place) (listed-room _ _ _ (st .pre .1) (low c) (sym (bit-is c) ∙ e)),
+      λ e. rw (c .before .loop .inv .2 .place) (listed-room _ _ _ (st .pre .1) (inside-map c) (sym (bit-is c) ∙ e)),
     )
 
 mul-map : tie.Need-mul-map Inv-loop μ-loop
@@ -76,7 +76,7 @@ unfolding bitmapLength
 add-next c =
     let st = c .before .before .before .before .before .before in
     let l = c .before .before .loop in
-    omega (arith, low (c .before), standing-bound (st .args .bytes .now) (8 * st .args .i + l .k), st .pre .0 .few, l .inv .2 .place)
+    omega (arith, inside-map (c .before), standing-bound (st .args .bytes .now) (8 * st .args .i + l .k), st .pre .0 .few, l .inv .2 .place)
 
 add-k : tie.Need-add-k Inv-loop μ-loop
 add-k c = search needs
@@ -91,7 +91,7 @@ loop-again c =
     let e : 8 * st .args .i + (l .k + 1) ≡ 8 * st .args .i + l .k + 1 = omega arith in (
       omega arith,
       simp length-set (l .inv .1),
-      rw e (read-more _ _ _ (l .inv .2) (rw (l .inv .1) (low (c .before))) (bit-is (c .before)) (c .number-at .ensures)),
+      rw e (read-more _ _ _ (l .inv .2) (rw (l .inv .1) (inside-map (c .before))) (bit-is (c .before)) (c .number-at .ensures)),
     )
 
 same-length : tie.Need-same-length Inv-loop μ-loop

@@ -1,7 +1,7 @@
 -- `reader::ones` meets its contract.
 use mathlib.Core.Path.{refl}
 use borrow.Author.Needs.{needs}
-use Rattle.reader.specs.Parts.{ones}
+use Rattle.reader.specs.Parts.{bitCount}
 use Rattle.reader.proofs.ones.Statement.{statement}
 use Rattle.reader.proofs.ones.Tie as tie
 
@@ -30,7 +30,7 @@ cast-result : tie.Need-cast-result
 cast-result c = search needs
 
 returns : tie.Need-returns
-unfolding ones
+unfolding bitCount
 returns c = refl
 
 pub ones-spec : {M : Type 1} → statement M

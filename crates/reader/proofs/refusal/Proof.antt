@@ -46,17 +46,17 @@ is-damaged-requires : tie.Need-is-damaged-requires
 is-damaged-requires c κs = sized-at _ _ (placed (c .before .before .before .before .before))
 
 -- what is left of the tests
-last : (c : tie.After-is-damaged) → let a = c .before .before .before .before .before .before .before .before .before .before .before .args in refusalOf (a .bytes .now) (a .tray) ≡ cond (c .is-damaged .result) 11 0
-last c =
+last-refusal : (c : tie.After-is-damaged) → let a = c .before .before .before .before .before .before .before .before .before .before .before .args in refusalOf (a .bytes .now) (a .tray) ≡ cond (c .is-damaged .result) 11 0
+last-refusal c =
     refusal-last _ _ (c .before .before .before .before .before .before .before .before .before .if1 .left) (c .before .before .before .before .before .before .before .before .head-of .ensures) (placed (c .before .before .before .before .before .before))
     (c .before .if3 .left ∙ c .before .before .cell-count .ensures)
     ∙ rw (c .is-damaged .ensures)
 
 returns-4 : tie.Need-returns-4
-returns-4 c = sym (last (c .before) ∙ rw (c .if4 .taken))
+returns-4 c = sym (last-refusal (c .before) ∙ rw (c .if4 .taken))
 
 returns-5 : tie.Need-returns-5
-returns-5 c = sym (last (c .before) ∙ rw (c .if4 .left))
+returns-5 c = sym (last-refusal (c .before) ∙ rw (c .if4 .left))
 
 pub refusal-spec : {M : Type 1} → statement M
 refusal-spec =

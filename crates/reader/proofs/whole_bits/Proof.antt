@@ -6,7 +6,7 @@ use borrow.Author.Needs.{needs}
 use Rattle.closure.specs.Numbered.{countBelow}
 use Rattle.records.specs.Record.{standing, bitmapLength}
 use Rattle.records.proofs.BitLaws.{standing-bound, standing-byte}
-use Rattle.reader.specs.Parts.{ones}
+use Rattle.reader.specs.Parts.{bitCount}
 use Rattle.reader.proofs.whole_bits.Statement.{statement}
 use Rattle.reader.proofs.whole_bits.Tie as tie
 
@@ -33,7 +33,7 @@ ones-requires c κs = search needs
 -- the bits of the byte are counted
 counted : (c : tie.After-ones Inv-loop μ-loop)
     → c .before .before .before .loop .count + c .ones .result ≡ standing (c .before .before .before .before .before .args .bytes .now) (8 * (c .before .before .before .loop .i + 1))
-unfolding ones
+unfolding bitCount
 counted c = let l = c .before .before .before .loop in rw (l .inv .1, c .ones .ensures) (sym (standing-byte _ (l .i) _ refl))
 
 add-count : tie.Need-add-count Inv-loop μ-loop

@@ -10,7 +10,7 @@ use borrow.Author.Tests.{eq-eqb, ne-eqb}
 use Rattle.lists.specs.Lists.{consecutive}
 use Rattle.lists.proofs.Lists.{consecutive-left}
 use Rattle.records.specs.Record.{some}
-use Rattle.records.specs.Fields.{field}
+use Rattle.records.specs.Fields.{fieldAt}
 use Rattle.records.proofs.BitLaws.{some-here, some-next, some-none}
 use Rattle.reader.proofs.ReadingLaws.{none-left}
 use Rattle.reader.proofs.zero_listed.Statement.{statement}
@@ -18,7 +18,7 @@ use Rattle.reader.proofs.zero_listed.Tie as tie
 
 abbrev Inv-loop : tie.InvT-loop
 Inv-loop bytes at count k₀ k =
-    (k ≤ count) × (some (λ i. eqb (field bytes (at + 4 * i) 4) 0) (consecutive 0 count) ≡ some (λ i. eqb (field bytes (at + 4 * i) 4) 0) (consecutive k (count - k)))
+    (k ≤ count) × (some (λ i. eqb (fieldAt bytes (at + 4 * i) 4) 0) (consecutive 0 count) ≡ some (λ i. eqb (fieldAt bytes (at + 4 * i) 4) 0) (consecutive k (count - k)))
 
 abbrev μ-loop : tie.MeasureT-loop
 μ-loop bytes at count k₀ k = count - k

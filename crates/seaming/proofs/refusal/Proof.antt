@@ -1,6 +1,6 @@
 -- `seaming::refusal` meets its contract.
 use borrow.Author.Needs.{needs}
-use Rattle.seaming.proofs.SeamingLaws.{kept, tick-told, seam-passed, seam-first, seam-4, seam-5, seam-rest}
+use Rattle.seaming.proofs.SeamingLaws.{kept-test, tick-told, seam-passed, seam-first, seam-4, seam-5, seam-rest}
 use Rattle.seaming.proofs.refusal.Statement.{statement}
 use Rattle.seaming.proofs.refusal.Tie as tie
 
@@ -30,7 +30,7 @@ returns-3 c = seam-5 _ _ _ _ _ _ _ _ _ _ _ _ _ _ ((c .before .before .before .be
 
 rest-requires : tie.Need-rest-requires
 rest-requires c κs = (
-  (seam-passed ((c .before .before .before .before .before .before .before .before .before .before .before .before .before .before .before .before .before .args) .job) _ _ _ _ ((c .before .before .before .before .before .before .before .opened) .ensures) ((c .before .before .before .before .before .before .if1) .left), kept _ _ ((c .before .before .before .before .before .is-seam) .ensures _ _ _) ((c .before .before .before .before .if2) .left), (c .before .before .before .seam-axis) .ensures _ _ _),
+  (seam-passed ((c .before .before .before .before .before .before .before .before .before .before .before .before .before .before .before .before .before .args) .job) _ _ _ _ ((c .before .before .before .before .before .before .before .opened) .ensures) ((c .before .before .before .before .before .before .if1) .left), kept-test _ _ ((c .before .before .before .before .before .is-seam) .ensures _ _ _) ((c .before .before .before .before .if2) .left), (c .before .before .before .seam-axis) .ensures _ _ _),
   (c .before .before .before .before .before .before .before .before .before .before .before .before .before .before .before .before .before .pre),
 )
 

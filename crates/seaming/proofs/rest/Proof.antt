@@ -3,7 +3,7 @@ use mathlib.Core.Path.{refl}
 use borrow.Author.Needs.{needs}
 use mathlib.Core.Path.{refl}
 use Rattle.job.proofs.JobLaws.{cond-here, cond-next, cond-not-here, cond-not-next}
-use Rattle.seaming.specs.Inner.{restOf}
+use Rattle.seaming.specs.Inner.{laterRefusal}
 use Rattle.seaming.proofs.SeamingLaws.{lower-sized, upper-sized, trays-told, stand-told, lower-length, upper-length}
 use Rattle.steps.proofs.StepLaws.{few-of, count-few}
 use Rattle.seaming.proofs.rest.Statement.{statement}
@@ -28,7 +28,7 @@ trays-fit-requires c κs =
     )
 
 returns : tie.Need-returns
-unfolding restOf
+unfolding laterRefusal
 returns c =
     cond-not-here _ _ _ _ _ (trays-told _ _ _ _ _ (c .before .before .before .before .block-at .ensures _ _ _)
     (c .before .before .before .block-at2 .ensures _ _ _) _ _ _ _ _ (c .before .before .block-count .ensures _ _ _) (c .before .trays-fit .ensures))
@@ -58,7 +58,7 @@ maps-stand-requires c κs =
     )
 
 returns-2 : tie.Need-returns-2
-unfolding restOf
+unfolding laterRefusal
 returns-2 c =
     cond-not-next _ _ _ _ _ (trays-told _ _ _ _ _ (c .before .before .before .before .before .before .before .before .block-at .ensures _ _ _)
     (c .before .before .before .before .before .before .before .block-at2 .ensures _ _ _) _ _ _ _ _
@@ -77,7 +77,7 @@ differ-requires c κs =
     )
 
 returns-3 : tie.Need-returns-3
-unfolding restOf
+unfolding laterRefusal
 returns-3 c =
     let p = c .before .before .before .before .before .before .before .before .before .before .before .before .before .before .before .before .before .before .before .pre .0 in
     cond-not-next _ _ _ _ _ (trays-told _ _ _ _ _
@@ -94,7 +94,7 @@ returns-3 c =
     (c .if3 .taken) refl))
 
 returns-4 : tie.Need-returns-4
-unfolding restOf
+unfolding laterRefusal
 returns-4 c =
     let p = c .before .before .before .before .before .before .before .before .before .before .before .before .before .before .before .before .before .before .before .pre .0 in
     cond-not-next _ _ _ _ _ (trays-told _ _ _ _ _
