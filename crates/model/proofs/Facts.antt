@@ -53,14 +53,19 @@ fits-at (t ∷ ts) (suc i) e = fits-at ts i (and-second (eqb (t .has) (t .states
 
 -- ---- tallies
 
+each-fits : (j : Job) → talliesFit j ≡ true → (κ : Kind) → tallyFits j κ ≡ true
+unfolding talliesFit
+each-fits j e Face = and-first (tallyFits j Face) (tallyFits j Curve && tallyFits j Point) e
+each-fits j e Curve = and-first (tallyFits j Curve) (tallyFits j Point) (and-second (tallyFits j Face) (tallyFits j Curve && tallyFits j Point) e)
+each-fits j e Point = and-second (tallyFits j Curve) (tallyFits j Point) (and-second (tallyFits j Face) (tallyFits j Curve && tallyFits j Point) e)
+
 pub tally-fits : (j : Job) → talliesFit j ≡ true → (κ : Kind) → j .sofar κ ≤ j .told .entries κ
-unfolding talliesFit tallyFits
-tally-fits j e κ = leb-true _ _ (and-first (leb (j .sofar κ) (j .told .entries κ)) (leb (j .numbered κ) (j .told .entries κ)) (go κ))
-  where
-    go : (κ : Kind) → tallyFits j κ ≡ true
-    go Face = and-first (tallyFits j Face) (tallyFits j Curve && tallyFits j Point) e
-    go Curve = and-first (tallyFits j Curve) (tallyFits j Point) (and-second (tallyFits j Face) (tallyFits j Curve && tallyFits j Point) e)
-    go Point = and-second (tallyFits j Curve) (tallyFits j Point) (and-second (tallyFits j Face) (tallyFits j Curve && tallyFits j Point) e)
+unfolding tallyFits
+tally-fits j e κ = leb-true _ _ (and-first (leb (j .sofar κ) (j .told .entries κ)) (leb (j .numbered κ) (j .told .entries κ)) (each-fits j e κ))
+
+pub numbered-fits : (j : Job) → talliesFit j ≡ true → (κ : Kind) → j .numbered κ ≤ j .told .entries κ
+unfolding tallyFits
+numbered-fits j e κ = leb-true _ _ (and-second (leb (j .sofar κ) (j .told .entries κ)) (leb (j .numbered κ) (j .told .entries κ)) (each-fits j e κ))
 
 -- Found points and new ones have room.
 pub points-room : (entries sofar more : Kind → ℕ) → full entries sofar more ≡ false → sofar Point + more Point ≤ entries Point

@@ -16,7 +16,7 @@ use Rattle.joiner.specs.Job as joiner
 use Rattle.joiner.specs.Calls.{Call, reading, answer}
 use Rattle.joiner.specs.Declines.{adds, declines, lentTo, refusal, standsFor, talliesFit, tallyFits}
 use Rattle.joiner.specs.Entries.{CallStep, rowTaken}
-use Rattle.model.proofs.Facts.{Facts, facts, fits-at, tally-fits}
+use Rattle.model.proofs.Facts.{Facts, facts, fits-at, numbered-fits}
 use Rattle.job.specs.declared.Job.{Job}
 use Rattle.job.specs.Jobs.{jobOf, stateOf, anyCuts}
 use Rattle.job.proofs.JobLaws.{cond-not-here, cond-not-next, fits-append}
@@ -63,17 +63,6 @@ module _ (kind : Kind) (n : ℕ) (faces curves points : List ℕ) (κ : Kind) (e
 -- ---- tallies
 
 -- No more is numbered than there are entries.
-pub numbered-fits : (j : joiner.Job) → talliesFit j ≡ true → (κ : joiner.Kind) → j .numbered κ ≤ j .told .entries κ
-unfolding talliesFit tallyFits
-numbered-fits j e κ =
-    let h : j .numbered κ ≤ j .sofar κ = leb-true _ _ (and-second (leb (j .sofar κ) (j .told .entries κ)) (leb (j .numbered κ) (j .sofar κ)) (go κ)) in
-    omega (arith, h, tally-fits j e κ)
-  where
-    go : (κ : joiner.Kind) → tallyFits j κ ≡ true
-    go Face = and-first (tallyFits j Face) (tallyFits j Curve && tallyFits j Point) e
-    go Curve = and-first (tallyFits j Curve) (tallyFits j Point) (and-second (tallyFits j Face) (tallyFits j Curve && tallyFits j Point) e)
-    go Point = and-second (tallyFits j Curve) (tallyFits j Point) (and-second (tallyFits j Face) (tallyFits j Curve && tallyFits j Point) e)
-
 -- ---- the tests by lengths are the joiner's
 
 module _ (j : Job) (kind : Kind) (n : ℕ) (faces curves points : List ℕ) (cx cy cz : List ℕ) where
