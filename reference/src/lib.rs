@@ -6,6 +6,7 @@ pub mod cutting;
 pub mod grid;
 pub mod label;
 pub mod listing;
+pub mod outcome;
 pub mod random;
 pub mod samples;
 pub mod table;

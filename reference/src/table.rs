@@ -3,7 +3,7 @@
 //! code walks them.
 use crate::book::{brought, Answer, Call, Kind};
 use crate::cutting::Cutting;
-use crate::grid::{once, width, Grid, Place};
+use crate::grid::{once, width, Grid, Place, Row};
 use crate::label::largest;
 use crate::refusal::*;
 
@@ -53,14 +53,6 @@ pub enum Stray {
     Final,
 }
 
-/// What an accepted step hands on: the tick that it sets, and the job's next stage and tallies.
-#[derive(Clone, PartialEq, Eq, Debug)]
-pub struct HandedOn {
-    pub tick: usize,
-    pub stage: u32,
-    pub so_far: [u64; 3],
-}
-
 impl<'a> State<'a> {
     /// The job by its thirteen numbers, with the cut lists.
     pub fn new(job: &[u32; 13], cuts: [&[u32]; 3], tables: Tables<'a>) -> State<'a> {
@@ -108,23 +100,6 @@ impl<'a> State<'a> {
         cases.iter().find(|(_, stands)| stands()).map_or(0, |&(refusal, _)| refusal)
     }
 
-    /// What an accepted step hands on: its tick is set, the stage moved on if it was the stage's last step, what it adds is added to the tallies.
-    pub fn handed_on(&self, call: &Call) -> Option<HandedOn> {
-        let tick = self.step(call)?;
-        let blocks = 0..self.cutting.blocks();
-        let seams = self.cutting.seams();
-        let steps: Vec<usize> = match self.stage {
-            0 => blocks.map(|b| 6 * b).collect(),
-            1 => seams.iter().map(|&(b, c)| 6 * b + 1 + self.cutting.seam(b, c).expect("a seam")).collect(),
-            2 => blocks.map(|b| 6 * b + 4).collect(),
-            _ => blocks.map(|b| 6 * b + 5).collect(),
-        };
-        let finished = steps.iter().all(|&step| step == tick || self.ticked(step));
-        let next = if self.stage == 0 && seams.is_empty() { 2 } else { self.stage + 1 };
-        let adds = self.adds(call);
-        Some(HandedOn { tick, stage: if finished { next } else { self.stage }, so_far: [0, 1, 2].map(|k: usize| u64::from(self.so_far[k]) + adds[k]) })
-    }
-
     // ---- 4, 5: places and ticks
 
     fn placed(&self, call: &Call) -> bool {
@@ -137,7 +112,7 @@ impl<'a> State<'a> {
     }
 
     /// The place of a step's tick: six for each block.
-    fn step(&self, call: &Call) -> Option<usize> {
+    pub(crate) fn step(&self, call: &Call) -> Option<usize> {
         match *call {
             Call::Enrol { block, .. } => Some(6 * block),
             Call::Seam { blocks: (b, c), .. } => self.cutting.seam(b, c).map(|axis| 6 * b + 1 + axis),
@@ -147,7 +122,7 @@ impl<'a> State<'a> {
         }
     }
 
-    fn ticked(&self, step: usize) -> bool {
+    pub(crate) fn ticked(&self, step: usize) -> bool {
         self.tables.ticks.get(step).is_some_and(|&tick| tick != 0)
     }
 
@@ -222,7 +197,7 @@ impl<'a> State<'a> {
     }
 
     /// The places of a block's faces or curves in their table: from the first on, up to before the second.
-    fn part(&self, kind: usize, block: usize) -> (u64, u64) {
+    pub(crate) fn part(&self, kind: usize, block: usize) -> (u64, u64) {
         let [count, from] = [kind, 3 + kind].map(|column| u64::from(self.tables.blocks[5 * block + column]));
         (from, from + count)
     }
@@ -299,8 +274,12 @@ impl<'a> State<'a> {
     /// How many point cells of a block are points over the final curves.
     fn points(&self, block: usize, map: &[u32]) -> u64 {
         let grid = self.cutting.grid(block);
-        let row = |p: usize| once(&grid.above(p).iter().map(|&q| self.final_number(1, block, map[q])).collect::<Vec<_>>());
-        (0..map.len()).filter(|&p| grid.order(p) == 0 && row(p)[0] != 0).count() as u64
+        (0..map.len()).filter(|&p| grid.order(p) == 0 && self.final_row(block, map, p)[0] != 0).count() as u64
+    }
+
+    /// The row of a point cell over the final curves.
+    pub(crate) fn final_row(&self, block: usize, map: &[u32], p: usize) -> Row {
+        once(&self.cutting.grid(block).above(p).iter().map(|&q| self.final_number(1, block, map[q])).collect::<Vec<_>>())
     }
 
     // ---- readings

@@ -1,5 +1,6 @@
 //! A call of the joiner: what is asked, and what is lent for it, every table between guards.
 use reference::book::{Answer, Call, Kind};
+use reference::outcome::{roots, Outcome};
 use reference::table::{State, Tables as View};
 use tugrelis::{raw, Tables};
 
@@ -77,17 +78,9 @@ impl Asked {
         State::new(&self.job, [0, 1, 2].map(|a: usize| &self.lists[a][..]), view(&self.tables))
     }
 
-    /// The job and the ticks that an accepted opening or step leaves, but for how much is numbered.
-    pub fn left(&self) -> ([u32; 10], Vec<u32>) {
-        let (mut job, mut ticks) = ([0; 10], vec![0; self.tables.ticks.len()]);
-        job[1..7].copy_from_slice(&self.job[1..7]);
-        if let Some(on) = self.call().and_then(|call| self.state().handed_on(&call)) {
-            ticks.copy_from_slice(&self.tables.ticks);
-            ticks[on.tick] = 1;
-            job[0] = on.stage;
-            (0..3).for_each(|k| job[7 + k] = on.so_far[k] as u32);
-        }
-        (job, ticks)
+    /// What an accepted opening or step leaves.
+    pub fn outcome(&self) -> Outcome {
+        self.call().map_or_else(|| self.state().opened(), |call| self.state().outcome(&call))
     }
 
     /// What the second implementation answers, and for a refusal 8 what it found.
@@ -156,6 +149,25 @@ impl Lent {
         }
     }
 
+    /// What differs from an outcome; nothing if it is this one.
+    pub fn differs(&self, told: &[u32], right: &Outcome) -> Option<&'static str> {
+        let (w, l) = (|i: usize| inner(&self.words[i]), |i: usize| inner(&self.longs[i]));
+        let same = [
+            ("stage", self.job[0] == right.stage),
+            ("extents and entries", self.job[1..7] == *told),
+            ("tallies", self.job[7..10] == right.so_far && self.job[10..] == right.numbered),
+            ("ticks", w(0) == right.ticks),
+            ("blocks", w(1) == right.blocks),
+            ("links", (0..2).all(|k| roots(w(2 + k)) == right.roots[k])),
+            ("keys", (0..3).all(|k| l(k) == right.keys[k])),
+            ("rows", (0..3).all(|k| w(4 + k) == right.rows[k])),
+            ("numbers", (0..3).all(|k| w(7 + k) == right.numbers[k])),
+            ("first positions", (0..3).all(|k| l(3 + k).starts_with(&right.firsts[k]))),
+            ("closed rows", (0..3).all(|k| w(10 + k).starts_with(&right.listed[k]))),
+        ];
+        same.iter().find(|(_, same)| !same).map(|&(what, _)| what)
+    }
+
     /// The answer of a call, with the number or row that it left.
     pub fn answer(&self, what: What, refusal: u32) -> Answer {
         let row = |places: usize| if self.row[places..].iter().all(|&n| n == 0) { Answer::Row(self.row[..places].to_vec()) } else { Answer::Row(self.row.to_vec()) };
@@ -179,6 +191,10 @@ pub fn guarded<T: Copy + From<u8>>(table: &[T]) -> Vec<T> {
 pub fn part<T>(table: &mut Vec<T>) -> &mut [T] {
     let n = table.len();
     &mut table[GUARD..n - GUARD]
+}
+
+fn inner<T>(table: &[T]) -> &[T] {
+    &table[GUARD..table.len() - GUARD]
 }
 
 pub fn holds<T: PartialEq + From<u8>>(table: &[T]) -> bool {
