@@ -9,15 +9,15 @@ use borrow.Author.Tests.{ne-eqb}
 use Rattle.cutting.specs.Cutting.{blocks, blockExtents}
 use Rattle.joiner.specs.Job.{Kind, width, Told, Tables, State}
 use Rattle.joiner.specs.Calls.{Call, reading, Answer, answer}
-use Rattle.joiner.specs.Entries.{Opened, Step}
+use Rattle.joiner.specs.Entries.{Opened, CallStep}
 use Rattle.joiner.specs.Book.{begun}
 use Rattle.joiner.specs.Statement.{Entry, Run, Fair, Labelling, Measured}
 use Rattle.joiner.proofs.Statement3.{statement3}
 use Rattle.job.specs.declared.Job.{Job}
 use Rattle.job.specs.declared.Stage.{Stage}
 use Rattle.job.specs.Jobs.{stateOf}
-use Rattle.job_numbers.specs.Numbers.{jobIn, numbersOf, kept}
-use Rattle.job_numbers.proofs.NumberLaws.{job-back, kept-new, kept-old}
+use Rattle.job_numbers.specs.Numbers.{jobIn, numbersOf, keptNumbers}
+use Rattle.job_numbers.proofs.NumberLaws.{job-back, keptNumbers-new, keptNumbers-old}
 use Rattle.exports.specs.Exports.{ExportedOpening, ExportedStep, ExportedLookup, ExportedRow}
 use Rattle.exports.specs.Calls.{Kept, keeps, stateKept, lookAnswer, rowAnswer, ExportedCall, stepped, looked, read, ExportedCalls, none, next}
 use Rattle.exports.proofs.Rows.{row-wide, six-front}
@@ -35,8 +35,8 @@ told-same : {ns : List ℕ} → OfJob ns → (other : Stage) → jobIn ns other 
 told-same N other = told-job N other ∙ sym (told-job N Stage.Enrol)
 
 -- the job of an accepted call is stored
-stored : (ns : List ℕ) (j : Job) → kept 0 ns j ≡ numbersOf j
-stored ns j = sym (kept-new 0 ns j refl (numbersOf j) refl)
+stored : (ns : List ℕ) (j : Job) → keptNumbers 0 ns j ≡ numbersOf j
+stored ns j = sym (keptNumbers-new 0 ns j refl (numbersOf j) refl)
 
 -- ---- a call
 
@@ -44,7 +44,7 @@ not-zero : (n : ℕ) → suc n ≡ 0 → ⊥
 not-zero n e = omega (arith, e)
 
 -- the answer of a refused call
-refused-answer : (s t : State) (c : Call) (n v : ℕ) (p : List ℕ) → Step s c (answer (suc n) v p) t → (answer (suc n) v p ≡ answer (suc n) 0 []) × (t ≡ s)
+refused-answer : (s t : State) (c : Call) (n v : ℕ) (p : List ℕ) → CallStep s c (answer (suc n) v p) t → (answer (suc n) v p ≡ answer (suc n) 0 []) × (t ≡ s)
 refused-answer s t c n v p S =
     let d = S .declined (λ z. not-zero n (S .told ∙ z)) in
     (d .0 ∙ ap (λ (r : ℕ). answer r 0 []) (sym (S .told)), d .1)
@@ -54,51 +54,51 @@ module _ (ns cx cy cz : List ℕ) (other : Stage) (N : OfJob ns) (t : Tables) (c
   from = stateKept (keeps ns cx cy cz t)
 
   -- a step from the job that the numbers tell
-  from-told : (a : Answer) (to : State) → Step (stateOf (jobIn ns other) cx cy cz t) c a to → Step from c a to
-  from-told a to S = subst (λ j. Step (stateOf j cx cy cz t) c a to) (told-same N other) S
+  from-told : (a : Answer) (to : State) → CallStep (stateOf (jobIn ns other) cx cy cz t) c a to → CallStep from c a to
+  from-told a to S = subst (λ j. CallStep (stateOf j cx cy cz t) c a to) (told-same N other) S
 
-  step-kept : (ns′ : List ℕ) (t′ : Tables) (r : ℕ) → ExportedStep ns ns′ other cx cy cz t t′ c r
-      → Step from c (answer r 0 []) (stateKept (keeps ns′ cx cy cz t′)) × OfJob ns′
-  step-kept ns′ t′ zero X =
+  step-keptNumbers : (ns′ : List ℕ) (t′ : Tables) (r : ℕ) → ExportedStep ns ns′ other cx cy cz t t′ c r
+      → CallStep from c (answer r 0 []) (stateKept (keeps ns′ cx cy cz t′)) × OfJob ns′
+  step-keptNumbers ns′ t′ zero X =
       let N′ : OfJob ns′ = record { job = X .job; numbers = X .numbers ∙ stored _ (X .job) } in
-      (subst (λ j. Step from c (answer 0 0 []) (stateOf j cx cy cz t′)) (sym (told-job N′ Stage.Enrol)) (from-told _ _ (X .step)), N′)
-  step-kept ns′ t′ (suc n) X =
-      let S : Step from c (answer (suc n) 0 []) (stateOf (X .job) cx cy cz t′) = from-told _ _ (X .step) in
+      (subst (λ j. CallStep from c (answer 0 0 []) (stateOf j cx cy cz t′)) (sym (told-job N′ Stage.Enrol)) (from-told _ _ (X .step)), N′)
+  step-keptNumbers ns′ t′ (suc n) X =
+      let S : CallStep from c (answer (suc n) 0 []) (stateOf (X .job) cx cy cz t′) = from-told _ _ (X .step) in
       let d : stateOf (X .job) cx cy cz t′ ≡ from = refused-answer _ _ c n 0 [] S .1 in
-      let e : ns′ ≡ ns = X .numbers ∙ sym (kept-old (suc n) ns (X .job) (not-zero n)) in
+      let e : ns′ ≡ ns = X .numbers ∙ sym (keptNumbers-old (suc n) ns (X .job) (not-zero n)) in
       let g : stateKept (keeps ns′ cx cy cz t′) ≡ from = ap₂ (λ (l : List ℕ) (u : Tables). stateOf (jobIn l Stage.Enrol) cx cy cz u) e (ap (λ (s : State). s .tables) d) in
-      (subst (Step from c (answer (suc n) 0 [])) (d ∙ sym g) S, record { job = N .job; numbers = e ∙ N .numbers })
+      (subst (CallStep from c (answer (suc n) 0 [])) (d ∙ sym g) S, record { job = N .job; numbers = e ∙ N .numbers })
 
   -- a reading, by its answer
-  reading-kept : (a : Answer) → Step (stateOf (jobIn ns other) cx cy cz t) c a (stateOf (jobIn ns other) cx cy cz t) → (b : Answer) → a ≡ b
-      → Step from c b from
-  reading-kept a S b e =
-      subst (λ (x : Answer). Step from c x from) e (subst (λ j. Step (stateOf j cx cy cz t) c a (stateOf j cx cy cz t)) (told-same N other) S)
+  reading-keptNumbers : (a : Answer) → CallStep (stateOf (jobIn ns other) cx cy cz t) c a (stateOf (jobIn ns other) cx cy cz t) → (b : Answer) → a ≡ b
+      → CallStep from c b from
+  reading-keptNumbers a S b e =
+      subst (λ (x : Answer). CallStep from c x from) e (subst (λ j. CallStep (stateOf j cx cy cz t) c a (stateOf j cx cy cz t)) (told-same N other) S)
 
 -- the answer of a lookup is the number stored
-number-kept : (ns cx cy cz : List ℕ) (other : Stage) (t : Tables) (c : Call) (r v v′ : ℕ) (X : ExportedLookup ns other cx cy cz t c r v v′)
+number-keptNumbers : (ns cx cy cz : List ℕ) (other : Stage) (t : Tables) (c : Call) (r v v′ : ℕ) (X : ExportedLookup ns other cx cy cz t c r v v′)
     → answer r (X .found) [] ≡ lookAnswer r v′
-number-kept ns cx cy cz other t c zero v v′ X = ap (λ (x : ℕ). answer 0 x []) (sym (X .number))
-number-kept ns cx cy cz other t c (suc n) v v′ X = rw (ne-eqb (suc n) 0 (not-zero n)) (refused-answer _ _ c n (X .found) [] (X .step) .0)
+number-keptNumbers ns cx cy cz other t c zero v v′ X = ap (λ (x : ℕ). answer 0 x []) (sym (X .number))
+number-keptNumbers ns cx cy cz other t c (suc n) v v′ X = rw (ne-eqb (suc n) 0 (not-zero n)) (refused-answer _ _ c n (X .found) [] (X .step) .0)
 
 -- the answer of a row reading is the front of the row stored
-row-kept : (j : Job) (cx cy cz : List ℕ) (t : Tables) (κ : Kind) (n r : ℕ) (row row′ : List ℕ) (X : ExportedRow j cx cy cz t κ n r row row′)
+row-keptNumbers : (j : Job) (cx cy cz : List ℕ) (t : Tables) (κ : Kind) (n r : ℕ) (row row′ : List ℕ) (X : ExportedRow j cx cy cz t κ n r row row′)
     → answer r 0 (X .part) ≡ rowAnswer κ r row′
-row-kept j cx cy cz t κ n zero row row′ X =
+row-keptNumbers j cx cy cz t κ n zero row row′ X =
     let acc = sym (X .step .told) in
     let p = ap (λ (a : Answer). a .part) (X .step .accepted acc .0) in
     let w = ap length p ∙ row-wide (stateOf j cx cy cz t) κ n acc in
     ap (answer 0 0) (sym (ap (take (width κ)) (X .places) ∙ six-front κ (X .part) w))
-row-kept j cx cy cz t κ n (suc r) row row′ X = rw (ne-eqb (suc r) 0 (not-zero r)) (refused-answer _ _ (reading κ n) r 0 (X .part) (X .step) .0)
+row-keptNumbers j cx cy cz t κ n (suc r) row row′ X = rw (ne-eqb (suc r) 0 (not-zero r)) (refused-answer _ _ (reading κ n) r 0 (X .part) (X .step) .0)
 
 -- An exported call is a step of the joiner, and the numbers stay those of a job.
 abbrev pub numbersKept : Kept → List ℕ
 numbersKept (keeps ns cx cy cz t) = ns
 
-pub exported-step : {k l : Kept} {c : Call} {a : Answer} → ExportedCall k c a l → OfJob (numbersKept k) → Step (stateKept k) c a (stateKept l) × OfJob (numbersKept l)
-exported-step (stepped X) N = step-kept _ _ _ _ _ N _ _ _ _ _ X
-exported-step (looked X) N = (reading-kept _ _ _ _ _ N _ _ _ (X .step) _ (number-kept _ _ _ _ _ _ _ _ _ _ X), N)
-exported-step (read other X) N = (reading-kept _ _ _ _ _ N _ _ _ (X .step) _ (row-kept _ _ _ _ _ _ _ _ _ _ X), N)
+pub exported-step : {k l : Kept} {c : Call} {a : Answer} → ExportedCall k c a l → OfJob (numbersKept k) → CallStep (stateKept k) c a (stateKept l) × OfJob (numbersKept l)
+exported-step (stepped X) N = step-keptNumbers _ _ _ _ _ N _ _ _ _ _ X
+exported-step (looked X) N = (reading-keptNumbers _ _ _ _ _ N _ _ _ (X .step) _ (number-keptNumbers _ _ _ _ _ _ _ _ _ _ X), N)
+exported-step (read other X) N = (reading-keptNumbers _ _ _ _ _ N _ _ _ (X .step) _ (row-keptNumbers _ _ _ _ _ _ _ _ _ _ X), N)
 
 -- ---- a list of calls
 
@@ -113,7 +113,7 @@ pub exports3 : (o : Told) (lent left : Tables) (ns ns′ : List ℕ) (own : ℕ 
     → ((b : ℕ) → b < blocks (o .cutting) → Labelling (blockExtents (o .cutting) b) (own b))
     → ExportedCalls (keeps ns′ (o .cutting .cx) (o .cutting .cy) (o .cutting .cz) left) es
     → Fair own es
-    → Measured (begun o) es
+    → Measured own (begun o) es
 exports3 o lent left ns ns′ own es X labelled calls fair =
     let N : OfJob ns′ = record { job = X .job; numbers = X .stored ∙ stored _ (X .job) } in
     let O : Opened o lent (stateOf (X .job) (o .cutting .cx) (o .cutting .cy) (o .cutting .cz) left) = X .opening .opened (sym (X .opening .told)) in
