@@ -9,7 +9,7 @@ use native.Mathlib.Nat.{add-zero}
 use native.Mathlib.Omega.{arith}
 use lib.Dec.{eqb, leb, ltb}
 use lib.ListN.{getD, length, set}
-use borrow.Author.Tests.{eqb-true, leb-true, ltb-false, le-ltb, not-true, not-false}
+use borrow.Author.Tests.{eqb-true, ltb-false, le-ltb, not-true, not-false}
 use Rattle.lists.specs.Lists.{overlay}
 use Rattle.lists.proofs.Cases.{and-first, and-second, neither}
 use Rattle.lists.proofs.Overlay.{length-overlay, overlay-same}
@@ -22,7 +22,7 @@ use Rattle.joiner.specs.Job.{Kind, Face, Curve, Point, Tables, State, tray, tic
 use Rattle.joiner.specs.Job as joiner
 use Rattle.joiner.specs.Stages.{enrolStep}
 use Rattle.joiner.specs.Calls.{enrol, answer, full, overfull}
-use Rattle.joiner.specs.Declines.{talliesFit, tallyFits, filled, stray, adds, refusal}
+use Rattle.joiner.specs.Declines.{talliesFit, filled, stray, adds, refusal}
 use Rattle.joiner.specs.Entries.{enrolledRow, EnrolDone, blockEntry, CallStep}
 use Rattle.blocks.specs.Blocks.{cutOf, anyExtents, sizeOf, Tells}
 use Rattle.blocks.specs.declared.Block.{Block}
@@ -31,6 +31,7 @@ use Rattle.blocks.proofs.CodeLaws.{blocks-are}
 use Rattle.enrolment.specs.Enrolment.{Lies, keyIn, Firsts}
 use Rattle.enrolment.proofs.KeyLaws.{lies-told, enrolled-keys, stored-firsts}
 use Rattle.enrolment.proofs.RowLaws.{enrolled-faces, enrolled-curves}
+use Rattle.model.proofs.Facts.{tally-fits}
 use Rattle.job.specs.declared.Job.{Job}
 use Rattle.job.specs.Jobs.{byKind, anyCuts, toldOf, jobOf, tablesOf, stateOf}
 use Rattle.job.proofs.JobLaws.{fits-append}
@@ -71,11 +72,7 @@ module _ (j : Job) (f : Bool) (faces curves : ℕ) (t : Bool) (e : anyCuts (λ c
 
   module _ (q : not t ≡ false) where
     pub late-points : j .points ≤ j .«point_entries»
-    unfolding talliesFit tallyFits
-    late-points =
-        let k = jobOf j [] [] [] in
-        let a = and-second (tallyFits k Curve) (tallyFits k Point) (and-second (tallyFits k Face) (tallyFits k Curve && tallyFits k Point) (sym (e [] [] []) ∙ not-false t q)) in
-        leb-true _ _ (and-first (leb (j .points) (j .«point_entries»)) (leb (j .«numbered_points») (j .points)) a)
+    late-points = tally-fits (jobOf j [] [] []) (sym (e [] [] []) ∙ not-false t q) Point
 
     pub late-filled : not f ≡ true → Late 8
     unfolding lateOf

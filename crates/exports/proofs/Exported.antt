@@ -57,12 +57,12 @@ module _ (ns cx cy cz : List ℕ) (other : Stage) (N : OfJob ns) (t : Tables) (c
   from-told : (a : Answer) (to : State) → CallStep (stateOf (jobIn ns other) cx cy cz t) c a to → CallStep from c a to
   from-told a to S = subst (λ j. CallStep (stateOf j cx cy cz t) c a to) (told-same N other) S
 
-  step-keptNumbers : (ns′ : List ℕ) (t′ : Tables) (r : ℕ) → ExportedStep ns ns′ other cx cy cz t t′ c r
+  step-kept : (ns′ : List ℕ) (t′ : Tables) (r : ℕ) → ExportedStep ns ns′ other cx cy cz t t′ c r
       → CallStep from c (answer r 0 []) (stateKept (keeps ns′ cx cy cz t′)) × OfJob ns′
-  step-keptNumbers ns′ t′ zero X =
+  step-kept ns′ t′ zero X =
       let N′ : OfJob ns′ = record { job = X .job; numbers = X .numbers ∙ stored _ (X .job) } in
       (subst (λ j. CallStep from c (answer 0 0 []) (stateOf j cx cy cz t′)) (sym (told-job N′ Stage.Enrol)) (from-told _ _ (X .step)), N′)
-  step-keptNumbers ns′ t′ (suc n) X =
+  step-kept ns′ t′ (suc n) X =
       let S : CallStep from c (answer (suc n) 0 []) (stateOf (X .job) cx cy cz t′) = from-told _ _ (X .step) in
       let d : stateOf (X .job) cx cy cz t′ ≡ from = refused-answer _ _ c n 0 [] S .1 in
       let e : ns′ ≡ ns = X .numbers ∙ sym (keptNumbers-old (suc n) ns (X .job) (not-zero n)) in
@@ -70,35 +70,35 @@ module _ (ns cx cy cz : List ℕ) (other : Stage) (N : OfJob ns) (t : Tables) (c
       (subst (CallStep from c (answer (suc n) 0 [])) (d ∙ sym g) S, record { job = N .job; numbers = e ∙ N .numbers })
 
   -- a reading, by its answer
-  reading-keptNumbers : (a : Answer) → CallStep (stateOf (jobIn ns other) cx cy cz t) c a (stateOf (jobIn ns other) cx cy cz t) → (b : Answer) → a ≡ b
+  reading-kept : (a : Answer) → CallStep (stateOf (jobIn ns other) cx cy cz t) c a (stateOf (jobIn ns other) cx cy cz t) → (b : Answer) → a ≡ b
       → CallStep from c b from
-  reading-keptNumbers a S b e =
+  reading-kept a S b e =
       subst (λ (x : Answer). CallStep from c x from) e (subst (λ j. CallStep (stateOf j cx cy cz t) c a (stateOf j cx cy cz t)) (told-same N other) S)
 
 -- the answer of a lookup is the number stored
-number-keptNumbers : (ns cx cy cz : List ℕ) (other : Stage) (t : Tables) (c : Call) (r v v′ : ℕ) (X : ExportedLookup ns other cx cy cz t c r v v′)
+number-kept : (ns cx cy cz : List ℕ) (other : Stage) (t : Tables) (c : Call) (r v v′ : ℕ) (X : ExportedLookup ns other cx cy cz t c r v v′)
     → answer r (X .found) [] ≡ lookAnswer r v′
-number-keptNumbers ns cx cy cz other t c zero v v′ X = ap (λ (x : ℕ). answer 0 x []) (sym (X .number))
-number-keptNumbers ns cx cy cz other t c (suc n) v v′ X = rw (ne-eqb (suc n) 0 (not-zero n)) (refused-answer _ _ c n (X .found) [] (X .step) .0)
+number-kept ns cx cy cz other t c zero v v′ X = ap (λ (x : ℕ). answer 0 x []) (sym (X .number))
+number-kept ns cx cy cz other t c (suc n) v v′ X = rw (ne-eqb (suc n) 0 (not-zero n)) (refused-answer _ _ c n (X .found) [] (X .step) .0)
 
 -- the answer of a row reading is the front of the row stored
-row-keptNumbers : (j : Job) (cx cy cz : List ℕ) (t : Tables) (κ : Kind) (n r : ℕ) (row row′ : List ℕ) (X : ExportedRow j cx cy cz t κ n r row row′)
+row-kept : (j : Job) (cx cy cz : List ℕ) (t : Tables) (κ : Kind) (n r : ℕ) (row row′ : List ℕ) (X : ExportedRow j cx cy cz t κ n r row row′)
     → answer r 0 (X .part) ≡ rowAnswer κ r row′
-row-keptNumbers j cx cy cz t κ n zero row row′ X =
+row-kept j cx cy cz t κ n zero row row′ X =
     let acc = sym (X .step .told) in
     let p = ap (λ (a : Answer). a .part) (X .step .accepted acc .0) in
     let w = ap length p ∙ row-wide (stateOf j cx cy cz t) κ n acc in
     ap (answer 0 0) (sym (ap (take (width κ)) (X .places) ∙ six-front κ (X .part) w))
-row-keptNumbers j cx cy cz t κ n (suc r) row row′ X = rw (ne-eqb (suc r) 0 (not-zero r)) (refused-answer _ _ (reading κ n) r 0 (X .part) (X .step) .0)
+row-kept j cx cy cz t κ n (suc r) row row′ X = rw (ne-eqb (suc r) 0 (not-zero r)) (refused-answer _ _ (reading κ n) r 0 (X .part) (X .step) .0)
 
 -- An exported call is a step of the joiner, and the numbers stay those of a job.
 abbrev pub numbersKept : Kept → List ℕ
 numbersKept (keeps ns cx cy cz t) = ns
 
 pub exported-step : {k l : Kept} {c : Call} {a : Answer} → ExportedCall k c a l → OfJob (numbersKept k) → CallStep (stateKept k) c a (stateKept l) × OfJob (numbersKept l)
-exported-step (stepped X) N = step-keptNumbers _ _ _ _ _ N _ _ _ _ _ X
-exported-step (looked X) N = (reading-keptNumbers _ _ _ _ _ N _ _ _ (X .step) _ (number-keptNumbers _ _ _ _ _ _ _ _ _ _ X), N)
-exported-step (read other X) N = (reading-keptNumbers _ _ _ _ _ N _ _ _ (X .step) _ (row-keptNumbers _ _ _ _ _ _ _ _ _ _ X), N)
+exported-step (stepped X) N = step-kept _ _ _ _ _ N _ _ _ _ _ X
+exported-step (looked X) N = (reading-kept _ _ _ _ _ N _ _ _ (X .step) _ (number-kept _ _ _ _ _ _ _ _ _ _ X), N)
+exported-step (read other X) N = (reading-kept _ _ _ _ _ N _ _ _ (X .step) _ (row-kept _ _ _ _ _ _ _ _ _ _ X), N)
 
 -- ---- a list of calls
 
