@@ -17,7 +17,7 @@ use Rattle.job.specs.declared.Job.{Job}
 use Rattle.job.specs.declared.Stage.{Stage}
 use Rattle.job.specs.Jobs.{stateOf}
 use Rattle.job_numbers.specs.Numbers.{jobIn, numbersOf, keptNumbers}
-use Rattle.job_numbers.proofs.NumberLaws.{job-back, keptNumbers-new, keptNumbers-old}
+use Rattle.job_numbers.proofs.NumberLaws.{job-back, kept-new, kept-old}
 use Rattle.exports.specs.Exports.{ExportedOpening, ExportedStep, ExportedLookup, ExportedRow}
 use Rattle.exports.specs.Calls.{Kept, keeps, stateKept, lookAnswer, rowAnswer, ExportedCall, stepped, looked, read, ExportedCalls, none, next}
 use Rattle.exports.proofs.Rows.{row-wide, six-front}
@@ -36,7 +36,7 @@ told-same N other = told-job N other ∙ sym (told-job N Stage.Enrol)
 
 -- the job of an accepted call is stored
 stored : (ns : List ℕ) (j : Job) → keptNumbers 0 ns j ≡ numbersOf j
-stored ns j = sym (keptNumbers-new 0 ns j refl (numbersOf j) refl)
+stored ns j = sym (kept-new 0 ns j refl (numbersOf j) refl)
 
 -- ---- a call
 
@@ -65,7 +65,7 @@ module _ (ns cx cy cz : List ℕ) (other : Stage) (N : OfJob ns) (t : Tables) (c
   step-kept ns′ t′ (suc n) X =
       let S : CallStep from c (answer (suc n) 0 []) (stateOf (X .job) cx cy cz t′) = from-told _ _ (X .step) in
       let d : stateOf (X .job) cx cy cz t′ ≡ from = refused-answer _ _ c n 0 [] S .1 in
-      let e : ns′ ≡ ns = X .numbers ∙ sym (keptNumbers-old (suc n) ns (X .job) (not-zero n)) in
+      let e : ns′ ≡ ns = X .numbers ∙ sym (kept-old (suc n) ns (X .job) (not-zero n)) in
       let g : stateKept (keeps ns′ cx cy cz t′) ≡ from = ap₂ (λ (l : List ℕ) (u : Tables). stateOf (jobIn l Stage.Enrol) cx cy cz u) e (ap (λ (s : State). s .tables) d) in
       (subst (CallStep from c (answer (suc n) 0 [])) (d ∙ sym g) S, record { job = N .job; numbers = e ∙ N .numbers })
 
