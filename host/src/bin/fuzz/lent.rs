@@ -150,7 +150,7 @@ impl Lent {
     }
 
     /// What differs from an outcome; nothing if it is this one.
-    pub fn differs(&self, told: &[u32], right: &Outcome) -> Option<&'static str> {
+    pub fn differs(&self, before: &Lent, told: &[u32], right: &Outcome) -> Option<&'static str> {
         let (w, l) = (|i: usize| inner(&self.words[i]), |i: usize| inner(&self.longs[i]));
         let same = [
             ("stage", self.job[0] == right.stage),
@@ -159,6 +159,7 @@ impl Lent {
             ("ticks", w(0) == right.ticks),
             ("blocks", w(1) == right.blocks),
             ("links", (0..2).all(|k| roots(w(2 + k)) == right.roots[k])),
+            ("links longer than their place", (2..4).all(|k| (0..).zip(inner(&before.words[k]).iter().zip(w(k))).all(|(x, (old, new))| *old > x || *new <= x))),
             ("keys", (0..3).all(|k| l(k) == right.keys[k])),
             ("rows", (0..3).all(|k| w(4 + k) == right.rows[k])),
             ("numbers", (0..3).all(|k| w(7 + k) == right.numbers[k])),

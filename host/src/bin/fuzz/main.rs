@@ -113,7 +113,7 @@ impl Fuzz {
             if self.spoiled("left") {
                 after.job[7] ^= 1;
             }
-            let differs = after.differs(&asked.job[1..7], &asked.outcome());
+            let differs = after.differs(&before, &asked.job[1..7], &asked.outcome());
             self.expect("left", differs.is_none(), &|| format!("{name} {} left other {}: {}", what.name(), differs.unwrap_or_default(), short(asked)));
         }
         if expected != Answer::Done {
@@ -137,9 +137,9 @@ impl Fuzz {
         }
     }
 
-    /// Makes a call within its time: 50 ms, and 1 µs for each number lent. Where other programs hold it up it is made again.
+    /// Makes a call within its time: 50 ms, and 200 ns for each number lent. Where other programs hold it up it is made again.
     fn timely(&mut self, name: &str, asked: &Asked, before: &Lent) -> (Lent, u32) {
-        let bound = if self.spoiled("time") { Duration::ZERO } else { Duration::from_millis(50) + Duration::from_micros(asked.numbers() as u64) };
+        let bound = if self.spoiled("time") { Duration::ZERO } else { Duration::from_millis(50) + Duration::from_nanos(200 * asked.numbers() as u64) };
         let mut fastest = Duration::MAX;
         for _ in 0..3 {
             let mut after = before.clone();
