@@ -5,6 +5,8 @@ ghost use mathlib.Core.List.{[]};
 ghost use Rattle.joiner.specs.Calls.{cross, answer};
 ghost use Rattle.joiner.specs.Entries.{CallStep};
 ghost use Rattle.job.specs.Jobs.{tablesOf, stateOf};
+ghost use Rattle.joiner.specs.Job.{Face, Curve, Point};
+ghost use Rattle.exports.specs.Exports.{anyTables};
 
 impl Joining {
     // Joins the curves of a block at its point cells; the last one numbers faces and curves.
@@ -19,34 +21,29 @@ impl Joining {
         curve_links: &mut [u32],
         face_keys: &[u64],
         curve_keys: &[u64],
-        point_keys: &[u64],
         face_rows: &[u32],
         curve_rows: &[u32],
-        point_rows: &[u32],
         face_numbers: &mut [u32],
         curve_numbers: &mut [u32],
-        point_numbers: &[u32],
         face_firsts: &mut [u64],
         curve_firsts: &mut [u64],
-        point_firsts: &[u64],
         face_listed: &mut [u32],
         curve_listed: &mut [u32],
-        point_listed: &[u32],
         block: u32,
         m: &[u32],
     ) -> Stepped
-        ensures { λ r. ⌜ CallStep
+        ensures { λ r. ⌜ anyTables (λ t. CallStep
             (stateOf (self .job) (now (cx .entry)) (now (cy .entry)) (now (cz .entry))
             (tablesOf (now (ticks .entry)) (now (blocks .entry)) (now («face_links» .entry)) (now («curve_links» .entry))
-            (now («face_keys» .entry)) (now («curve_keys» .entry)) (now («point_keys» .entry)) (now («face_rows» .entry)) (now («curve_rows» .entry)) (now («point_rows» .entry))
-            (now («face_numbers» .entry)) (now («curve_numbers» .entry)) (now («point_numbers» .entry)) (now («face_firsts» .entry)) (now («curve_firsts» .entry)) (now («point_firsts» .entry))
-            (now («face_listed» .entry)) (now («curve_listed» .entry)) (now («point_listed» .entry))))
+            (now («face_keys» .entry)) (now («curve_keys» .entry)) (t .keys Point) (now («face_rows» .entry)) (now («curve_rows» .entry)) (t .rows Point)
+            (now («face_numbers» .entry)) (now («curve_numbers» .entry)) (t .numbers Point) (now («face_firsts» .entry)) (now («curve_firsts» .entry)) (t .firsts Point)
+            (now («face_listed» .entry)) (now («curve_listed» .entry)) (t .listed Point)))
             (cross block (now (m .entry))) (answer (r .refusal) 0 [])
             (stateOf (r .joining .job) (now (cx .entry)) (now (cy .entry)) (now (cz .entry))
             (tablesOf (now (ticks .exit)) (now (blocks .entry)) (now («face_links» .exit)) (now («curve_links» .exit))
-            (now («face_keys» .entry)) (now («curve_keys» .entry)) (now («point_keys» .entry)) (now («face_rows» .entry)) (now («curve_rows» .entry)) (now («point_rows» .entry))
-            (now («face_numbers» .exit)) (now («curve_numbers» .exit)) (now («point_numbers» .entry)) (now («face_firsts» .exit)) (now («curve_firsts» .exit)) (now («point_firsts» .entry))
-            (now («face_listed» .exit)) (now («curve_listed» .exit)) (now («point_listed» .entry)))) ⌝ }
+            (now («face_keys» .entry)) (now («curve_keys» .entry)) (t .keys Point) (now («face_rows» .entry)) (now («curve_rows» .entry)) (t .rows Point)
+            (now («face_numbers» .exit)) (now («curve_numbers» .exit)) (t .numbers Point) (now («face_firsts» .exit)) (now («curve_firsts» .exit)) (t .firsts Point)
+            (now («face_listed» .exit)) (now («curve_listed» .exit)) (t .listed Point)))) ⌝ }
     {
         let r = crossing(
             self.job,

@@ -5,6 +5,8 @@ ghost use mathlib.Core.List.{[]};
 ghost use Rattle.joiner.specs.Calls.{enrol, answer};
 ghost use Rattle.joiner.specs.Entries.{CallStep};
 ghost use Rattle.job.specs.Jobs.{tablesOf, stateOf};
+ghost use Rattle.joiner.specs.Job.{Face, Curve, Point};
+ghost use Rattle.exports.specs.Exports.{anyTables};
 
 impl Joining {
     // Enrols a block with its map.
@@ -19,34 +21,23 @@ impl Joining {
         curve_links: &mut [u32],
         face_keys: &mut [u64],
         curve_keys: &mut [u64],
-        point_keys: &[u64],
         face_rows: &mut [u32],
         curve_rows: &mut [u32],
-        point_rows: &[u32],
-        face_numbers: &[u32],
-        curve_numbers: &[u32],
-        point_numbers: &[u32],
-        face_firsts: &[u64],
-        curve_firsts: &[u64],
-        point_firsts: &[u64],
-        face_listed: &[u32],
-        curve_listed: &[u32],
-        point_listed: &[u32],
         block: u32,
         m: &[u32],
     ) -> Stepped
-        ensures { λ r. ⌜ CallStep
+        ensures { λ r. ⌜ anyTables (λ t. CallStep
             (stateOf (self .job) (now (cx .entry)) (now (cy .entry)) (now (cz .entry))
             (tablesOf (now (ticks .entry)) (now (blocks .entry)) (now («face_links» .entry)) (now («curve_links» .entry))
-            (now («face_keys» .entry)) (now («curve_keys» .entry)) (now («point_keys» .entry)) (now («face_rows» .entry)) (now («curve_rows» .entry)) (now («point_rows» .entry))
-            (now («face_numbers» .entry)) (now («curve_numbers» .entry)) (now («point_numbers» .entry)) (now («face_firsts» .entry)) (now («curve_firsts» .entry)) (now («point_firsts» .entry))
-            (now («face_listed» .entry)) (now («curve_listed» .entry)) (now («point_listed» .entry))))
+            (now («face_keys» .entry)) (now («curve_keys» .entry)) (t .keys Point) (now («face_rows» .entry)) (now («curve_rows» .entry)) (t .rows Point)
+            (t .numbers Face) (t .numbers Curve) (t .numbers Point) (t .firsts Face) (t .firsts Curve) (t .firsts Point)
+            (t .listed Face) (t .listed Curve) (t .listed Point)))
             (enrol block (now (m .entry))) (answer (r .refusal) 0 [])
             (stateOf (r .joining .job) (now (cx .entry)) (now (cy .entry)) (now (cz .entry))
             (tablesOf (now (ticks .exit)) (now (blocks .exit)) (now («face_links» .exit)) (now («curve_links» .exit))
-            (now («face_keys» .exit)) (now («curve_keys» .exit)) (now («point_keys» .entry)) (now («face_rows» .exit)) (now («curve_rows» .exit)) (now («point_rows» .entry))
-            (now («face_numbers» .entry)) (now («curve_numbers» .entry)) (now («point_numbers» .entry)) (now («face_firsts» .entry)) (now («curve_firsts» .entry)) (now («point_firsts» .entry))
-            (now («face_listed» .entry)) (now («curve_listed» .entry)) (now («point_listed» .entry)))) ⌝ }
+            (now («face_keys» .exit)) (now («curve_keys» .exit)) (t .keys Point) (now («face_rows» .exit)) (now («curve_rows» .exit)) (t .rows Point)
+            (t .numbers Face) (t .numbers Curve) (t .numbers Point) (t .firsts Face) (t .firsts Curve) (t .firsts Point)
+            (t .listed Face) (t .listed Curve) (t .listed Point)))) ⌝ }
     {
         let r = enrol(
             self.job,

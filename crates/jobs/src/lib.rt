@@ -1,5 +1,5 @@
-// The methods of a job: each is lent the cut lists and all nineteen tables, and hands on to its entry what that is lent. Each has a file
-// of its own.
+// The methods of a job: each is lent what its entry is lent, and its contract is a step of all nineteen tables, whatever the others hold. The
+// exports call them. Each has a file of its own.
 mod cross;
 mod enrol;
 mod look;

@@ -6,6 +6,8 @@ ghost use Rattle.cells.specs.Box.{triple};
 ghost use Rattle.joiner.specs.Calls.{look, answer};
 ghost use Rattle.joiner.specs.Entries.{CallStep};
 ghost use Rattle.job.specs.Jobs.{tablesOf, stateOf};
+ghost use Rattle.joiner.specs.Job.{Face, Curve, Point};
+ghost use Rattle.exports.specs.Exports.{anyTables};
 
 impl Joining {
     // The number of a cell of a closed job.
@@ -16,41 +18,27 @@ impl Joining {
         cz: &[u32],
         ticks: &[u32],
         blocks: &[u32],
-        face_links: &[u32],
-        curve_links: &[u32],
-        face_keys: &[u64],
-        curve_keys: &[u64],
-        point_keys: &[u64],
-        face_rows: &[u32],
-        curve_rows: &[u32],
-        point_rows: &[u32],
         face_numbers: &[u32],
         curve_numbers: &[u32],
-        point_numbers: &[u32],
-        face_firsts: &[u64],
-        curve_firsts: &[u64],
         point_firsts: &[u64],
-        face_listed: &[u32],
-        curve_listed: &[u32],
-        point_listed: &[u32],
         block: u32,
         m: &[u32],
         x: u32,
         y: u32,
         z: u32,
     ) -> Found
-        ensures { λ r. ⌜ CallStep
+        ensures { λ r. ⌜ anyTables (λ t. CallStep
             (stateOf (self .job) (now (cx .entry)) (now (cy .entry)) (now (cz .entry))
-            (tablesOf (now (ticks .entry)) (now (blocks .entry)) (now («face_links» .entry)) (now («curve_links» .entry))
-            (now («face_keys» .entry)) (now («curve_keys» .entry)) (now («point_keys» .entry)) (now («face_rows» .entry)) (now («curve_rows» .entry)) (now («point_rows» .entry))
-            (now («face_numbers» .entry)) (now («curve_numbers» .entry)) (now («point_numbers» .entry)) (now («face_firsts» .entry)) (now («curve_firsts» .entry)) (now («point_firsts» .entry))
-            (now («face_listed» .entry)) (now («curve_listed» .entry)) (now («point_listed» .entry))))
+            (tablesOf (now (ticks .entry)) (now (blocks .entry)) (t .links Face) (t .links Curve)
+            (t .keys Face) (t .keys Curve) (t .keys Point) (t .rows Face) (t .rows Curve) (t .rows Point)
+            (now («face_numbers» .entry)) (now («curve_numbers» .entry)) (t .numbers Point) (t .firsts Face) (t .firsts Curve) (now («point_firsts» .entry))
+            (t .listed Face) (t .listed Curve) (t .listed Point)))
             (look block (now (m .entry)) (triple x y z)) (answer (r .refusal) (r .number) [])
             (stateOf (self .job) (now (cx .entry)) (now (cy .entry)) (now (cz .entry))
-            (tablesOf (now (ticks .entry)) (now (blocks .entry)) (now («face_links» .entry)) (now («curve_links» .entry))
-            (now («face_keys» .entry)) (now («curve_keys» .entry)) (now («point_keys» .entry)) (now («face_rows» .entry)) (now («curve_rows» .entry)) (now («point_rows» .entry))
-            (now («face_numbers» .entry)) (now («curve_numbers» .entry)) (now («point_numbers» .entry)) (now («face_firsts» .entry)) (now («curve_firsts» .entry)) (now («point_firsts» .entry))
-            (now («face_listed» .entry)) (now («curve_listed» .entry)) (now («point_listed» .entry)))) ⌝ }
+            (tablesOf (now (ticks .entry)) (now (blocks .entry)) (t .links Face) (t .links Curve)
+            (t .keys Face) (t .keys Curve) (t .keys Point) (t .rows Face) (t .rows Curve) (t .rows Point)
+            (now («face_numbers» .entry)) (now («curve_numbers» .entry)) (t .numbers Point) (t .firsts Face) (t .firsts Curve) (now («point_firsts» .entry))
+            (t .listed Face) (t .listed Curve) (t .listed Point)))) ⌝ }
     {
         lookup(
             self.job,

@@ -5,6 +5,8 @@ ghost use mathlib.Core.List.{[]};
 ghost use Rattle.joiner.specs.Calls.{point, answer};
 ghost use Rattle.joiner.specs.Entries.{CallStep};
 ghost use Rattle.job.specs.Jobs.{tablesOf, stateOf};
+ghost use Rattle.joiner.specs.Job.{Face, Curve, Point};
+ghost use Rattle.exports.specs.Exports.{anyTables};
 
 impl Joining {
     // Finds the points of a block; the last one numbers them and closes the job.
@@ -15,38 +17,27 @@ impl Joining {
         cz: &[u32],
         ticks: &mut [u32],
         blocks: &[u32],
-        face_links: &[u32],
-        curve_links: &[u32],
-        face_keys: &[u64],
-        curve_keys: &[u64],
         point_keys: &mut [u64],
-        face_rows: &[u32],
-        curve_rows: &[u32],
         point_rows: &mut [u32],
-        face_numbers: &[u32],
         curve_numbers: &[u32],
         point_numbers: &mut [u32],
-        face_firsts: &[u64],
-        curve_firsts: &[u64],
         point_firsts: &mut [u64],
-        face_listed: &[u32],
-        curve_listed: &[u32],
         point_listed: &mut [u32],
         block: u32,
         m: &[u32],
     ) -> Stepped
-        ensures { λ r. ⌜ CallStep
+        ensures { λ r. ⌜ anyTables (λ t. CallStep
             (stateOf (self .job) (now (cx .entry)) (now (cy .entry)) (now (cz .entry))
-            (tablesOf (now (ticks .entry)) (now (blocks .entry)) (now («face_links» .entry)) (now («curve_links» .entry))
-            (now («face_keys» .entry)) (now («curve_keys» .entry)) (now («point_keys» .entry)) (now («face_rows» .entry)) (now («curve_rows» .entry)) (now («point_rows» .entry))
-            (now («face_numbers» .entry)) (now («curve_numbers» .entry)) (now («point_numbers» .entry)) (now («face_firsts» .entry)) (now («curve_firsts» .entry)) (now («point_firsts» .entry))
-            (now («face_listed» .entry)) (now («curve_listed» .entry)) (now («point_listed» .entry))))
+            (tablesOf (now (ticks .entry)) (now (blocks .entry)) (t .links Face) (t .links Curve)
+            (t .keys Face) (t .keys Curve) (now («point_keys» .entry)) (t .rows Face) (t .rows Curve) (now («point_rows» .entry))
+            (t .numbers Face) (now («curve_numbers» .entry)) (now («point_numbers» .entry)) (t .firsts Face) (t .firsts Curve) (now («point_firsts» .entry))
+            (t .listed Face) (t .listed Curve) (now («point_listed» .entry))))
             (point block (now (m .entry))) (answer (r .refusal) 0 [])
             (stateOf (r .joining .job) (now (cx .entry)) (now (cy .entry)) (now (cz .entry))
-            (tablesOf (now (ticks .exit)) (now (blocks .entry)) (now («face_links» .entry)) (now («curve_links» .entry))
-            (now («face_keys» .entry)) (now («curve_keys» .entry)) (now («point_keys» .exit)) (now («face_rows» .entry)) (now («curve_rows» .entry)) (now («point_rows» .exit))
-            (now («face_numbers» .entry)) (now («curve_numbers» .entry)) (now («point_numbers» .exit)) (now («face_firsts» .entry)) (now («curve_firsts» .entry)) (now («point_firsts» .exit))
-            (now («face_listed» .entry)) (now («curve_listed» .entry)) (now («point_listed» .exit)))) ⌝ }
+            (tablesOf (now (ticks .exit)) (now (blocks .entry)) (t .links Face) (t .links Curve)
+            (t .keys Face) (t .keys Curve) (now («point_keys» .exit)) (t .rows Face) (t .rows Curve) (now («point_rows» .exit))
+            (t .numbers Face) (now («curve_numbers» .entry)) (now («point_numbers» .exit)) (t .firsts Face) (t .firsts Curve) (now («point_firsts» .exit))
+            (t .listed Face) (t .listed Curve) (now («point_listed» .exit))))) ⌝ }
     {
         let r = point(
             self.job,

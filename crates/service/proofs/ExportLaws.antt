@@ -13,17 +13,14 @@ use Rattle.reader.specs.Reading.{Outcome as Reading·Outcome, outcome as Readin
 use Rattle.labeller.specs.declared.Labelled.{Labelled}
 use Rattle.labeller.specs.Labelling.{Outcome, outcome}
 use Rattle.service.specs.Exports.{exported, export, exportedWriting, exportWriting, exportedReading, exportReading}
-use Rattle.joiner.specs.Job.{Kind, Tables}
+use Rattle.joiner.specs.Job.{Kind, Face, Curve, Point, Tables}
 use Rattle.joiner.specs.Calls.{Call, reading, answer}
 use Rattle.joiner.specs.Entries.{CallStep}
 use Rattle.job.specs.declared.Job.{Job}
 use Rattle.job.specs.declared.Stage.{Stage}
-use Rattle.job.specs.Jobs.{anyCuts, stateOf}
+use Rattle.job.specs.Jobs.{anyCuts, stateOf, tablesOf}
 use Rattle.job_numbers.specs.Numbers.{jobIn, keptNumbers}
-use Rattle.row_reading.specs.Inner.{lent}
-use Rattle.tie.specs.Contracts.{read}
-use Rattle.tie.proofs.Service.{called-step}
-use Rattle.exports.specs.Exports.{ExportedStep, ExportedLookup, RowExported, sixOf}
+use Rattle.exports.specs.Exports.{ExportedStep, ExportedLookup, RowExported, anyTables, sixOf}
 
 module _ (r : Labelled) (m w c : List ℕ) (o : Outcome) (promise : outcome r m w ≡ o) where
   pub export-stored : r .refusal ≡ 0 → exported (r .refusal) m w (set (set (set c 0 (r .faces)) 1 (r .curves)) 2 (r .points)) ≡ export o c
@@ -70,13 +67,19 @@ module _ (ns : List ℕ) (other : Stage) (cx cy cz : List ℕ) (t : Tables) (c :
   pub lookup-refused : r ≢ 0 → ExportedLookup ns other cx cy cz t c r v v
   lookup-refused n = record { found = found; step = looked-up; number = rw (ne-eqb r 0 n) }
 
+-- all tables, the closed rows being these
+abbrev around : Tables → List ℕ → List ℕ → List ℕ → Tables
+around t fs cs ps =
+    tablesOf (t .ticks) (t .blocks) (t .links Face) (t .links Curve) (t .keys Face) (t .keys Curve) (t .keys Point) (t .rows Face) (t .rows Curve) (t .rows Point)
+    (t .numbers Face) (t .numbers Curve) (t .numbers Point) (t .firsts Face) (t .firsts Curve) (t .firsts Point) fs cs ps
+
 module _ (j : Job) (κ : Kind) (n : ℕ) (fs cs ps : List ℕ) (r : ℕ) (part : List ℕ)
-    (s : anyCuts (λ cx cy cz. CallStep (stateOf j cx cy cz (lent fs cs ps)) (reading κ n) (answer r 0 part) (stateOf j cx cy cz (lent fs cs ps)))) where
+    (s : anyCuts (λ cx cy cz. anyTables (λ t. CallStep (stateOf j cx cy cz (around t fs cs ps)) (reading κ n) (answer r 0 part) (stateOf j cx cy cz (around t fs cs ps))))) where
   pub row-stored : r ≡ 0 → (row row′ : List ℕ) → row′ ≡ sixOf part → RowExported j κ n fs cs ps r row row′
-  row-stored z row row′ e cx cy cz t = record { part = part; step = called-step (read {j = j} {cx = cx} {cy = cy} {cz = cz} s); places = rw (eq-eqb r 0 z) e }
+  row-stored z row row′ e cx cy cz t = record { part = part; step = s cx cy cz t; places = rw (eq-eqb r 0 z) e }
 
   pub row-refused : r ≢ 0 → (row : List ℕ) → RowExported j κ n fs cs ps r row row
-  row-refused m row cx cy cz t = record { part = part; step = called-step (read {j = j} {cx = cx} {cy = cy} {cz = cz} s); places = rw (ne-eqb r 0 m) }
+  row-refused m row cx cy cz t = record { part = part; step = s cx cy cz t; places = rw (ne-eqb r 0 m) }
 
 -- a row of the job that the numbers tell
 pub row-exported : (ns : List ℕ) (other : Stage) (κ : Kind) (n : ℕ) (fs cs ps : List ℕ) (r : ℕ) (row row′ : List ℕ) (j : Job) → j ≡ jobIn ns other

@@ -1,18 +1,12 @@
 // The entries, exported for programs in C and Rust. A slice goes in as a pointer and a length, an array as a pointer.
-use crossing::crossing;
-use enrolling::enrol;
 use job::Job;
 use job::Stage;
 use job_numbers::job_in;
 use job_numbers::keep;
+use jobs::Joining;
 use labeller::label;
-use lookup::lookup;
-use opening::open;
-use pointing::point;
 use reader::read_record;
 use row_reading::Kind;
-use row_reading::row;
-use seaming::seam;
 use steps::at;
 use writer::write_record;
 ghost use mathlib.Core.Path.{_≡_};
@@ -137,7 +131,7 @@ pub extern "C" fn tugrelis_open(
         (now («face_numbers» .entry)) (now («curve_numbers» .entry)) (now («point_numbers» .entry)) (now («face_firsts» .entry)) (now («curve_firsts» .entry)) (now («point_firsts» .entry))
         (now («face_listed» .entry)) (now («curve_listed» .entry)) (now («point_listed» .entry))) r ⌝ }
 {
-    let r = open(
+    let r = Joining::open(
         nx,
         ny,
         nz,
@@ -167,7 +161,8 @@ pub extern "C" fn tugrelis_open(
         curve_listed,
         point_listed,
     );
-    keep(job, r.refusal, r.job);
+    let next = r.joining;
+    keep(job, r.refusal, next.job);
     r.refusal
 }
 
@@ -200,8 +195,10 @@ pub extern "C" fn tugrelis_enrol(
         (t .listed Face) (t .listed Curve) (t .listed Point))
         (enrol block (now (map .entry))) r) ⌝ }
 {
-    let r = enrol(
-        job_in(job, Stage::Closed),
+    let joining = Joining {
+        job: job_in(job, Stage::Closed),
+    };
+    let r = joining.enrol(
         cx,
         cy,
         cz,
@@ -216,7 +213,8 @@ pub extern "C" fn tugrelis_enrol(
         block,
         map,
     );
-    keep(job, r.refusal, r.job);
+    let next = r.joining;
+    keep(job, r.refusal, next.job);
     r.refusal
 }
 
@@ -247,8 +245,10 @@ pub extern "C" fn tugrelis_seam(
         (t .listed Face) (t .listed Curve) (t .listed Point))
         (join lower upper (now («lower_map» .entry)) (now («upper_map» .entry))) r) ⌝ }
 {
-    let r = seam(
-        job_in(job, Stage::Closed),
+    let joining = Joining {
+        job: job_in(job, Stage::Closed),
+    };
+    let r = joining.seam(
         cx,
         cy,
         cz,
@@ -261,7 +261,8 @@ pub extern "C" fn tugrelis_seam(
         lower_map,
         upper_map,
     );
-    keep(job, r.refusal, r.job);
+    let next = r.joining;
+    keep(job, r.refusal, next.job);
     r.refusal
 }
 
@@ -300,8 +301,10 @@ pub extern "C" fn tugrelis_crossing(
         (now («face_listed» .exit)) (now («curve_listed» .exit)) (t .listed Point))
         (cross block (now (map .entry))) r) ⌝ }
 {
-    let r = crossing(
-        job_in(job, Stage::Closed),
+    let joining = Joining {
+        job: job_in(job, Stage::Closed),
+    };
+    let r = joining.crossing(
         cx,
         cy,
         cz,
@@ -322,7 +325,8 @@ pub extern "C" fn tugrelis_crossing(
         block,
         map,
     );
-    keep(job, r.refusal, r.job);
+    let next = r.joining;
+    keep(job, r.refusal, next.job);
     r.refusal
 }
 
@@ -355,23 +359,26 @@ pub extern "C" fn tugrelis_point(
         (t .listed Face) (t .listed Curve) (now («point_listed» .exit)))
         (point block (now (map .entry))) r) ⌝ }
 {
-    let r = point(
-        job_in(job, Stage::Closed),
+    let joining = Joining {
+        job: job_in(job, Stage::Closed),
+    };
+    let r = joining.point(
         cx,
         cy,
         cz,
         ticks,
         blocks,
-        curve_numbers,
         point_keys,
         point_rows,
+        curve_numbers,
         point_numbers,
         point_firsts,
         point_listed,
         block,
         map,
     );
-    keep(job, r.refusal, r.job);
+    let next = r.joining;
+    keep(job, r.refusal, next.job);
     r.refusal
 }
 
@@ -401,8 +408,10 @@ pub extern "C" fn tugrelis_lookup(
         (t .listed Face) (t .listed Curve) (t .listed Point))
         (look block (now (map .entry)) (triple x y z)) r (now (number .entry)) (now (number .exit))) ⌝ }
 {
-    let r = lookup(
-        job_in(job, Stage::Enrol),
+    let joining = Joining {
+        job: job_in(job, Stage::Enrol),
+    };
+    let r = joining.lookup(
         cx,
         cy,
         cz,
@@ -451,13 +460,13 @@ fn read_row<'a>(
         (now («face_listed» .entry)) (now («curve_listed» .entry)) (now («point_listed» .entry)) r (now (places .entry)) (now (places .exit)) ⌝ }
 {
     let mut refusal: u32 = 0;
-    let part = row(
-        job,
-        kind,
-        number,
+    let joining = Joining { job: job };
+    let part = joining.row(
         face_listed,
         curve_listed,
         point_listed,
+        kind,
+        number,
         &mut refusal,
     );
     if refusal == 0 {

@@ -1,7 +1,5 @@
 -- `service::tugrelis_crossing` meets its contract.
 use borrow.Author.Needs.{needs}
-use Rattle.tie.specs.Contracts.{crossed}
-use Rattle.tie.proofs.Service.{called-step}
 use Rattle.service.proofs.ExportLaws.{step-exported}
 use Rattle.service.proofs.tugrelis_crossing.Statement.{statement}
 use Rattle.service.proofs.tugrelis_crossing.Tie as tie
@@ -44,13 +42,8 @@ same-length-9 c = search needs
 
 returns : tie.Need-returns
 returns c t =
-    step-exported _ _ _ _ _ _ _ _ _ _ _ _ (c .before .before .before .before .before .before .before .before .before .before .before .before .before .before .before .before .before .before .before .before .before .before .before .before .before .before .before .before .before .before .job-in .ensures)
-    (called-step
-    (crossed
-    {j = c .before .before .before .before .before .before .before .before .before .before .before .before .before .before .before .before .before .before .before .before .before .before .before .before .before .before .before .before .before .before .job-in .result}
-    {j′ = c .before .before .before .before .before .before .before .before .before .before .before .before .before .before .before .before .before .before .before .before .crossing .result .job}
-    (c .before .before .before .before .before .before .before .before .before .before .before .before .before .before .before .before .before .before .before .before .crossing .ensures)))
-    (c .keep .ensures)
+    step-exported _ _ _ _ _ _ _ _ _ _ _ _ (c .before .before .before .before .before .before .before .before .before .before .before .before .before .before .before .before .before .before .before .before .before .before .before .before .before .before .before .before .before .before .before .job-in .ensures)
+    (c .before .before .before .before .before .before .before .before .before .before .before .before .before .before .before .before .before .before .before .before .before .crossing .ensures t) (c .keep .ensures)
 
 pub tugrelis-crossing-spec : {M : Type 1} → statement M
 tugrelis-crossing-spec =

@@ -1,7 +1,5 @@
 -- `service::tugrelis_enrol` meets its contract.
 use borrow.Author.Needs.{needs}
-use Rattle.tie.specs.Contracts.{enrolled}
-use Rattle.tie.proofs.Service.{called-step}
 use Rattle.service.proofs.ExportLaws.{step-exported}
 use Rattle.service.proofs.tugrelis_enrol.Statement.{statement}
 use Rattle.service.proofs.tugrelis_enrol.Tie as tie
@@ -41,13 +39,8 @@ same-length-8 c = search needs
 
 returns : tie.Need-returns
 returns c t =
-    step-exported _ _ _ _ _ _ _ _ _ _ _ _ (c .before .before .before .before .before .before .before .before .before .before .before .before .before .before .before .before .before .before .before .before .before .before .before .before .before .before .before .job-in .ensures)
-    (called-step
-    (enrolled
-    {j = c .before .before .before .before .before .before .before .before .before .before .before .before .before .before .before .before .before .before .before .before .before .before .before .before .before .before .before .job-in .result}
-    {j′ = c .before .before .before .before .before .before .before .before .before .before .before .before .before .before .before .before .before .before .enrol .result .job}
-    (c .before .before .before .before .before .before .before .before .before .before .before .before .before .before .before .before .before .before .enrol .ensures)))
-    (c .keep .ensures)
+    step-exported _ _ _ _ _ _ _ _ _ _ _ _ (c .before .before .before .before .before .before .before .before .before .before .before .before .before .before .before .before .before .before .before .before .before .before .before .before .before .before .before .before .job-in .ensures)
+    (c .before .before .before .before .before .before .before .before .before .before .before .before .before .before .before .before .before .before .before .enrol .ensures t) (c .keep .ensures)
 
 pub tugrelis-enrol-spec : {M : Type 1} → statement M
 tugrelis-enrol-spec =

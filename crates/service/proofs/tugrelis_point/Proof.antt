@@ -1,7 +1,5 @@
 -- `service::tugrelis_point` meets its contract.
 use borrow.Author.Needs.{needs}
-use Rattle.tie.specs.Contracts.{pointed}
-use Rattle.tie.proofs.Service.{called-step}
 use Rattle.service.proofs.ExportLaws.{step-exported}
 use Rattle.service.proofs.tugrelis_point.Statement.{statement}
 use Rattle.service.proofs.tugrelis_point.Tie as tie
@@ -35,13 +33,8 @@ same-length-6 c = search needs
 
 returns : tie.Need-returns
 returns c t =
-    step-exported _ _ _ _ _ _ _ _ _ _ _ _ (c .before .before .before .before .before .before .before .before .before .before .before .before .before .before .before .before .before .before .before .before .before .job-in .ensures)
-    (called-step
-    (pointed
-    {j = c .before .before .before .before .before .before .before .before .before .before .before .before .before .before .before .before .before .before .before .before .before .job-in .result}
-    {j′ = c .before .before .before .before .before .before .before .before .before .before .before .before .before .before .point .result .job}
-    (c .before .before .before .before .before .before .before .before .before .before .before .before .before .before .point .ensures)))
-    (c .keep .ensures)
+    step-exported _ _ _ _ _ _ _ _ _ _ _ _ (c .before .before .before .before .before .before .before .before .before .before .before .before .before .before .before .before .before .before .before .before .before .before .job-in .ensures)
+    (c .before .before .before .before .before .before .before .before .before .before .before .before .before .before .before .point .ensures t) (c .keep .ensures)
 
 pub tugrelis-point-spec : {M : Type 1} → statement M
 tugrelis-point-spec =

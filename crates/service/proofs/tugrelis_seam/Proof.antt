@@ -1,7 +1,5 @@
 -- `service::tugrelis_seam` meets its contract.
 use borrow.Author.Needs.{needs}
-use Rattle.tie.specs.Contracts.{joined}
-use Rattle.tie.proofs.Service.{called-step}
 use Rattle.service.proofs.ExportLaws.{step-exported}
 use Rattle.service.proofs.tugrelis_seam.Statement.{statement}
 use Rattle.service.proofs.tugrelis_seam.Tie as tie
@@ -26,13 +24,8 @@ same-length-3 c = search needs
 
 returns : tie.Need-returns
 returns c t =
-    step-exported _ _ _ _ _ _ _ _ _ _ _ _ (c .before .before .before .before .before .before .before .before .before .before .before .before .job-in .ensures)
-    (called-step
-    (joined
-    {j = c .before .before .before .before .before .before .before .before .before .before .before .before .job-in .result}
-    {j′ = c .before .before .before .before .before .before .before .before .seam .result .job}
-    (c .before .before .before .before .before .before .before .before .seam .ensures)))
-    (c .keep .ensures)
+    step-exported _ _ _ _ _ _ _ _ _ _ _ _ (c .before .before .before .before .before .before .before .before .before .before .before .before .before .job-in .ensures)
+    (c .before .before .before .before .before .before .before .before .before .seam .ensures t) (c .keep .ensures)
 
 pub tugrelis-seam-spec : {M : Type 1} → statement M
 tugrelis-seam-spec =

@@ -36,7 +36,7 @@ same-length-9 : tie.Need-same-length-9
 same-length-9 c = search needs
 
 returns : tie.Need-returns
-returns c = called-step (crossed {j = c .before .before .before .before .before .before .before .before .before .before .before .before .before .before .before .before .before .before .before .before .before .before .before .before .before .before .before .before .before .before .before .before .before .before .before .before .before .before .before .before .before .before .before .before .before .before .before .before .before .before .before .before .args .self .job} {j′ = c .before .before .before .before .before .before .before .before .before .before .before .before .before .before .before .before .before .before .before .crossing .result .job} (c .before .before .before .before .before .before .before .before .before .before .before .before .before .before .before .before .before .before .before .crossing .ensures))
+returns c = λ t. called-step (crossed {j = c .before .before .before .before .before .before .before .before .before .before .before .before .before .before .before .before .before .before .before .before .before .before .before .before .before .before .before .before .before .before .before .before .before .before .before .before .before .before .before .before .before .before .before .before .before .before .before .args .self .job} {j′ = c .before .before .before .before .before .before .before .before .before .before .before .before .before .before .before .before .before .before .before .crossing .result .job} (c .before .before .before .before .before .before .before .before .before .before .before .before .before .before .before .before .before .before .before .crossing .ensures))
 
 pub crossing-spec : {M : Type 1} → statement M
 crossing-spec = tie.close (tie.spec crossing-requires same-length same-length-2 same-length-3 same-length-4 same-length-5 same-length-6 same-length-7 same-length-8 same-length-9 returns)

@@ -33,7 +33,7 @@ same-length-8 : tie.Need-same-length-8
 same-length-8 c = search needs
 
 returns : tie.Need-returns
-returns c = called-step (enrolled {j = c .before .before .before .before .before .before .before .before .before .before .before .before .before .before .before .before .before .before .before .before .before .before .before .before .before .before .before .before .before .before .before .before .before .before .before .before .before .before .before .before .before .before .before .before .before .before .before .before .before .args .self .job} {j′ = c .before .before .before .before .before .before .before .before .before .before .before .before .before .before .before .before .before .enrol .result .job} (c .before .before .before .before .before .before .before .before .before .before .before .before .before .before .before .before .before .enrol .ensures))
+returns c = λ t. called-step (enrolled {j = c .before .before .before .before .before .before .before .before .before .before .before .before .before .before .before .before .before .before .before .before .before .before .before .before .before .before .before .before .before .before .before .before .before .before .before .before .before .before .args .self .job} {j′ = c .before .before .before .before .before .before .before .before .before .before .before .before .before .before .before .before .before .enrol .result .job} (c .before .before .before .before .before .before .before .before .before .before .before .before .before .before .before .before .before .enrol .ensures))
 
 pub enrol-spec : {M : Type 1} → statement M
 enrol-spec = tie.close (tie.spec enrol-requires same-length same-length-2 same-length-3 same-length-4 same-length-5 same-length-6 same-length-7 same-length-8 returns)

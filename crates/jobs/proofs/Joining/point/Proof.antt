@@ -27,7 +27,7 @@ same-length-6 : tie.Need-same-length-6
 same-length-6 c = search needs
 
 returns : tie.Need-returns
-returns c = called-step (pointed {j = c .before .before .before .before .before .before .before .before .before .before .before .before .before .before .before .before .before .before .before .before .before .before .before .before .before .before .before .before .before .before .before .before .before .before .before .before .before .before .before .before .before .before .before .args .self .job} {j′ = c .before .before .before .before .before .before .before .before .before .before .before .before .before .point .result .job} (c .before .before .before .before .before .before .before .before .before .before .before .before .before .point .ensures))
+returns c = λ t. called-step (pointed {j = c .before .before .before .before .before .before .before .before .before .before .before .before .before .before .before .before .before .before .before .before .before .before .before .before .before .before .before .before .before .before .before .before .args .self .job} {j′ = c .before .before .before .before .before .before .before .before .before .before .before .before .before .point .result .job} (c .before .before .before .before .before .before .before .before .before .before .before .before .before .point .ensures))
 
 pub point-spec : {M : Type 1} → statement M
 point-spec = tie.close (tie.spec point-requires same-length same-length-2 same-length-3 same-length-4 same-length-5 same-length-6 returns)

@@ -9,7 +9,7 @@ row-requires : tie.Need-row-requires
 row-requires c κs = search needs
 
 returns : tie.Need-returns
-returns c = called-step (read {j = c .before .before .before .before .before .before .before .before .before .before .before .before .before .before .before .before .before .before .before .before .before .before .before .before .args .self .job} (c .row .ensures))
+returns c = λ cx cy cz t. called-step (read {j = c .before .before .before .before .before .args .self .job} (c .row .ensures))
 
 pub row-spec : {M : Type 1} → statement M
 row-spec = tie.close (tie.spec row-requires returns)

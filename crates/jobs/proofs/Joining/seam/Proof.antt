@@ -18,7 +18,7 @@ same-length-3 : tie.Need-same-length-3
 same-length-3 c = search needs
 
 returns : tie.Need-returns
-returns c = called-step (joined {j = c .before .before .before .before .before .before .before .before .before .before .before .before .before .before .before .before .before .before .before .before .before .before .before .before .before .before .before .before .before .before .before .before .before .before .before .args .self .job} {j′ = c .before .before .before .before .before .before .before .seam .result .job} (c .before .before .before .before .before .before .before .seam .ensures))
+returns c = λ t. called-step (joined {j = c .before .before .before .before .before .before .before .before .before .before .before .before .before .before .before .before .before .before .before .before .args .self .job} {j′ = c .before .before .before .before .before .before .before .seam .result .job} (c .before .before .before .before .before .before .before .seam .ensures))
 
 pub seam-spec : {M : Type 1} → statement M
 seam-spec = tie.close (tie.spec seam-requires same-length same-length-2 same-length-3 returns)
