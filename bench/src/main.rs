@@ -85,6 +85,17 @@ fn labelling(name: &str, codes: &[u32], map: &mut [u32]) {
     println!("{:<22} {:>8.1} {:>10.1} {:>8.2} {:>12.1} {:>8.2}", name, a, b, a / b, c, a / c);
 }
 
+/// A volume labelled so many times, for the count of instructions. Prints its name.
+fn labelled(volume: usize, times: usize) {
+    let (name, codes) = volumes().swap_remove(volume);
+    let cells = plain::cells([SIDE; 3]);
+    let (mut map, mut work) = (vec![3; cells], vec![5; cells]);
+    for _ in 0..times {
+        proved(&codes, [SIDE; 3], &mut map, &mut work);
+    }
+    println!("{name}");
+}
+
 fn records(name: &str, map: &[u32]) {
     let (extents, origin) = ([SIDE as u16; 3], [1, 2, 3]);
     let room = 12 + map.len().div_ceil(8) + 4 * map.len();
@@ -117,6 +128,10 @@ fn main() {
     let words: Vec<String> = std::env::args().skip(1).collect();
     if let [k, stage] = &words[..] {
         return volume::counted(k.parse().expect("a number"), stage.parse().expect("a number"));
+    }
+    if let [word, volume, times] = &words[..] {
+        assert_eq!(word, "label");
+        return labelled(volume.parse().expect("a number"), times.parse().expect("a number"));
     }
     let cells = plain::cells([SIDE; 3]);
     println!("one block of 64x64x64, {} cells, medians of {} rounds, milliseconds", cells, ROUNDS);

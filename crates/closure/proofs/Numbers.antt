@@ -4,7 +4,7 @@ use Prim.Native.Nat.{ℕ, zero, suc, _-_, _≤_, _<_}
 use native.Mathlib.Nat.{le-refl}
 use native.Mathlib.Decide.{le-ind}
 use native.Mathlib.Omega.{arith}
-use mathlib.Core.Bool.{Bool, true, false}
+use mathlib.Core.Bool.{Bool, true, false, true≢false}
 use mathlib.Core.List.{List, List·Memᴰ}
 use mathlib.Core.Path.{_≡_, refl, sym, ap, _∙_}
 use lib.Dec.{eqb, leb, ltb}
@@ -112,6 +112,14 @@ path-act es act h stay = refl
 path-act es act h (along {e = e} i) = h e i .0 ∙ sym (h e i .1)
 path-act es act h (back p) = sym (path-act es act h p)
 path-act es act h (via p q) = path-act es act h p ∙ path-act es act h q
+
+-- An id that is not active is alone.
+pub path-alone : (es : List Edge) (act : ℕ → Bool) → ((e : Edge) → List·Memᴰ e es → (act (e .from) ≡ true) × (act (e .to) ≡ true))
+    → {x y : ℕ} → Linked es x y → act x ≡ false → x ≡ y
+path-alone es act h stay a = refl
+path-alone es act h (along {e = e} i) a = absurd (true≢false (sym (h e i .0) ∙ a))
+path-alone es act h (back p) a = sym (path-alone es act h p (path-act es act h p ∙ a))
+path-alone es act h (via p q) a = path-alone es act h p a ∙ path-alone es act h q (sym (path-act es act h p) ∙ a)
 
 -- The least ids of active ids are active.
 pub record Leaders (f : ℕ → ℕ) (act : ℕ → Bool) : Type 0 where

@@ -10,6 +10,7 @@ use job::block_trays;
 use job::found_trays;
 use job::link_trays;
 use job::tallies_fit;
+use lists::write_zeros;
 use refusals::STRAY_LABEL;
 use refusals::TABLE_FULL;
 use refusals::WRONG_TRAY;
@@ -195,18 +196,6 @@ fn judge(
 }
 
 // ---- what is stored
-
-// Writes 0 at each of the places.
-fn write_zeros(links: &mut [u32], from: usize, count: usize)
-    requires { ⌜ from + count ≤ length (now links) ⌝ }
-    ensures { λ _. ⌜ now (links .exit) ≡ overlay (now (links .entry)) from (λ i. 0) count ⌝ }
-{
-    let mut i: usize = 0;
-    while i < count {
-        links[from + i] = 0;
-        i += 1;
-    }
-}
 
 // Writes the five numbers of block b: its largest ones, and the places of its first face and first curve.
 fn put_block(blocks: &mut [u32], b: usize, plan: Plan, face: u32, curve: u32)

@@ -5,7 +5,6 @@ use mathlib.Core.Bool.{Bool, true, cond}
 use mathlib.Core.Logic.{_≢_}
 use mathlib.Core.List.{List, [], _∷_, _++_, List·Memᴰ, List·Memᴰ·head, List·Memᴰ·tail}
 use Prim.Native.Nat.{ℕ, zero, suc, _+_, _-_, _*_, _/_, _%_, _≤_, _<_}
-use native.Mathlib.Numerals.{add-one}
 use native.Mathlib.Omega.{arith}
 use lib.Dec.{eqb}
 use lib.ListN.{getD, length, set}
@@ -36,18 +35,6 @@ use Rattle.enrolment.specs.Enrolment.{Lies, Along, positionIn, firstIn, 
 use Rattle.enrolment.proofs.PlaceLaws.{position-line, position-high}
 
 -- ---- overlays
-
--- no place, one more, all
-pub overlay-none : (xs : List ℕ) (from : ℕ) (f : ℕ → ℕ) → xs ≡ overlay xs from f 0
-unfolding overlay
-overlay-none xs from f = refl
-
-pub overlay-end : (xs : List ℕ) (from : ℕ) (f : ℕ → ℕ) (i n : ℕ) (ys : List ℕ) → i ≤ n → n ≤ i → ys ≡ overlay xs from f i → ys ≡ overlay xs from f n
-overlay-end xs from f i n ys h k e = let s : i ≡ n = omega arith in e ∙ ap (overlay xs from f) s
-
-pub overlay-next : (xs : List ℕ) (from : ℕ) (f : ℕ → ℕ) (n v : ℕ) (ys : List ℕ) → ys ≡ overlay xs from f n → v ≡ f n → set ys (from + n) v ≡ overlay xs from f (n + 1)
-unfolding overlay
-overlay-next xs from f n v ys e i = rw (add-one n, e, i)
 
 -- a place written again
 overlay-again : (xs : List ℕ) (from : ℕ) (f : ℕ → ℕ) (v n k : ℕ) → k < n → set (overlay xs from f n) (from + k) v ≡ overlay xs from (λ i. cond (eqb i k) v (f i)) n

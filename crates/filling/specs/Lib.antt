@@ -1,2 +1,3 @@
--- What the contracts cite.
-pub mod Written
+-- What the contracts cite, and the words of the request.
+pub mod CodeOn
+pub mod Filled

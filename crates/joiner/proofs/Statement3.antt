@@ -3,12 +3,13 @@
 use mathlib.Core.Bool.{false, not, true}
 use mathlib.Core.List.{List, List·Memᴰ·not-nil}
 use mathlib.Core.Path.{_∙_, _≡_, ap, refl}
-use Prim.Native.Nat.{_<_, suc, zero, ℕ}
+use Prim.Native.Nat.{_<_, ℕ}
 use native.Mathlib.Omega.{arith}
 use lib.Dec.{eqb}
-use lib.ListN.{getD, length, length-replicate}
+use lib.ListN.{getD, length}
 use borrow.Author.Tests.{not-false}
-use Rattle.lists.specs.Lists.{isIn, zeros}
+use Rattle.lists.specs.Lists.{isIn}
+use Rattle.lists.proofs.Lists.{length-zeros, zeros-at}
 use Rattle.refusals.specs.Refusals.{Refusal, bad-cut, number, off-size, standsIn, wrong-tray}
 use Rattle.cells.specs.Extents.{offSize}
 use Rattle.labels.specs.Number.{numbered}
@@ -22,16 +23,6 @@ use Rattle.joiner.proofs.Inv.{Inv, Kept}
 use Rattle.joiner.proofs.Progress.{progress-start}
 use Rattle.joiner.proofs.Simulation.{Sim, measured}
 use Rattle.joiner.proofs.Sizes.{Sizes, sizes-of}
-
-zeros-long : (n : ℕ) → length (zeros n) ≡ n
-unfolding zeros
-zeros-long n = length-replicate n 0
-
-zeros-at : (n i : ℕ) → getD (zeros n) i 0 ≡ 0
-unfolding zeros
-zeros-at zero i = refl
-zeros-at (suc n) zero = refl
-zeros-at (suc n) (suc i) = zeros-at n i
 
 -- what an accepted opening passed
 pub opened-passed : (o : Told) (lent : Tables) → openRefusal o lent ≡ 0 → (offSize 1024 (o .cutting .extents) ≡ false) × (goodCut (o .cutting) ≡ true) × (lengthsFit (allTrays o lent) ≡ true)
@@ -47,7 +38,7 @@ module _ (o : Told) (lent : Tables) (s : State) (own : ℕ → List ℕ) (P : Op
       let z : Sizes o lent = sizes-of o lent (opened-passed o lent (P .accepted) .2) in
       let C = P .tables in
       record {
-        ticks-long = ap length (C .ticks) ∙ zeros-long (length (lent .ticks)) ∙ z .ticks-long;
+        ticks-long = ap length (C .ticks) ∙ length-zeros (length (lent .ticks)) ∙ z .ticks-long;
         blocks-long = ap length (C .blocks) ∙ z .blocks-long;
         face-links = ap length (C .links Face) ∙ z .face-links;
         curve-links = ap length (C .links Curve) ∙ z .curve-links;

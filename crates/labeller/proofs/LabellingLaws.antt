@@ -3,21 +3,15 @@
 use mathlib.Core.Path.{_≡_, refl, sym, ap, _∙_}
 use mathlib.Core.Bool.{Bool, true, false, cond, _&&_}
 use mathlib.Core.List.{List, [], _∷_}
-use Prim.Native.Nat.{ℕ, _+_, _-_, _≤_, _<_}
-use native.Mathlib.Numerals.{add-one}
+use Prim.Native.Nat.{ℕ}
 use native.Mathlib.Omega.{arith}
 use lib.Dec.{eqb}
-use lib.ListN.{length, getD, drop, length-replicate, drop-of-length-le}
-use lib.Seq.{drop-cons}
+use lib.ListN.{length}
 use borrow.Author.Tests.{eqb-true, eq-eqb, ne-eqb, not-false}
 use Rattle.lists.specs.Lists.{tabulate, zeros}
 use Rattle.lists.proofs.Cases.{and-first, and-second}
 use Rattle.refusals.specs.Refusals.{off-size, wrong-tray, number, table, first, givenBy, listedNumbers, standsIn}
 use Rattle.refusals.proofs.RefusalLaws.{given-none}
-use Rattle.closure.specs.Joined.{Edge, joins, rep}
-use Rattle.closure.proofs.Rooted.{joins-ext}
-use Rattle.union_find.specs.Links.{root, Rooted}
-use Rattle.union_find.proofs.LinkLaws.{zeros-alone}
 use Rattle.cells.specs.Box.{Triple, volume}
 use Rattle.cells.specs.Grid.{cells}
 use Rattle.cells.specs.Codes.{blank}
@@ -108,16 +102,7 @@ module _ (e : Triple) (codes m₀ m₁ m₂ m₃ w : List ℕ) (f c p : ℕ)
   unfolding accepted
   block-labelled = rw (face-count, curve-count, point-count, down-3, cleared)
 
--- ---- one order
-
-pub length-zeros : (n : ℕ) → length (zeros n) ≡ n
-unfolding zeros
-length-zeros n = length-replicate n 0
-
--- Links that were all zeros, with the edges joined: the roots are the least cells.
-pub joined-rep : (n : ℕ) {ls ms : List ℕ} (es : List Edge) → ls ≡ zeros n → Rooted ls ms (joins (root ls) es) → (x : ℕ) → root ms x ≡ rep es x
-unfolding rep
-joined-rep n es z R x = R .roots x ∙ joins-ext es _ _ (λ y. rw z (zeros-alone n y)) x
+-- ---- the list of refusals
 
 -- The numbers that `label` lists, in the order of the table.
 pub label-listed : (e : Triple) (codes : List ℕ) (n m : ℕ) → listedNumbers (declines e codes n m) ≡ 1 ∷ 6 ∷ 7 ∷ []

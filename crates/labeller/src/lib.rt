@@ -11,6 +11,7 @@ use union_find::clear;
 ghost use mathlib.Core.Path.{_≡_};
 ghost use Prim.Native.Nat.{_≤_};
 ghost use lib.ListN.{length};
+ghost use Rattle.lists.specs.Lists.{zeros};
 ghost use Rattle.cells.specs.Box.{triple};
 ghost use Rattle.cells.specs.Extents.{Sized};
 ghost use Rattle.cells.specs.Grid.{cells};
@@ -57,7 +58,7 @@ fn refusal(codes: &[u32], nx: usize, ny: usize, nz: usize, map: usize, work: usi
     0
 }
 
-// Numbers the components of order j over the map of the orders above, and answers how many there are.
+// Numbers the components of order j over the map of the orders above, and answers how many there are. The links are zeros before and after.
 fn number_order(
     map: &mut [u32],
     nx: usize,
@@ -66,11 +67,11 @@ fn number_order(
     j: usize,
     links: &mut [u32],
 ) -> u32
-    requires { ⌜ Sized 64 (triple nx ny nz) × (length (now map) ≡ cells (triple nx ny nz)) × (length (now links) ≡ cells (triple nx ny nz)) × (j ≤ 2) ⌝ }
+    requires { ⌜ Sized 64 (triple nx ny nz) × (length (now map) ≡ cells (triple nx ny nz)) × (now links ≡ zeros (cells (triple nx ny nz))) × (j ≤ 2) ⌝ }
     ensures numbers { λ r. ⌜ now (map .exit) ≡ numbered (triple nx ny nz) j (now (map .entry)) ⌝ }
     ensures total { λ r. ⌜ r ≡ largest (triple nx ny nz) (numbered (triple nx ny nz) j (now (map .entry))) j ⌝ }
+    ensures cleared { λ r. ⌜ now (links .exit) ≡ zeros (cells (triple nx ny nz)) ⌝ }
 {
-    clear(links);
     join_cells(map, nx, ny, nz, j, links);
     number_cells(map, nx, ny, nz, j, links)
 }
@@ -88,10 +89,11 @@ fn label_block(
     ensures { λ r. ⌜ outcome r (now (map .exit)) (now (work .exit)) ≡ accepted (triple nx ny nz) (now (codes .entry)) ⌝ }
 {
     fill(codes, nx, ny, nz, map);
+    clear(work);
     let faces = number_order(map, nx, ny, nz, 2, work);
     let curves = number_order(map, nx, ny, nz, 1, work);
-    let points = number_order(map, nx, ny, nz, 0, work);
-    clear(work);
+    // Point cells never meet: there is nothing to join.
+    let points = number_cells(map, nx, ny, nz, 0, work);
     Labelled {
         refusal: 0,
         faces: faces,

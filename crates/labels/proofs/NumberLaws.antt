@@ -14,7 +14,7 @@ use Rattle.lists.proofs.Cases.{by-test, and-first, and-second, and-both}
 use Rattle.lists.proofs.Lists.{keep-in, keep-out, consecutive-in, consecutive-out}
 use Rattle.closure.specs.Joined.{Edge, edge, Linked, stay, along, back, via, rep}
 use Rattle.closure.proofs.Classes.{rep-low, rep-idem, rep-path, path-rep, path-to-rep}
-use Rattle.closure.proofs.Numbers.{path-act, Leaders, label-off, label-is, label-same, label-inj, label-earlier}
+use Rattle.closure.proofs.Numbers.{path-act, path-alone, Leaders, label-off, label-is, label-same, label-inj, label-earlier}
 use Rattle.cells.specs.Box.{Triple}
 use Rattle.cells.specs.Grid.{cells, order, upperNeighbours}
 use Rattle.cells.specs.Row.{row, active, occupied, sameRow}
@@ -141,6 +141,10 @@ rep-leaders e m j = record {
 -- a component is active as a whole
 pub rep-active : (e : Triple) (m : List ℕ) (j x : ℕ) → activeOf e m j (rep (edges e m j) x) ≡ activeOf e m j x
 rep-active e m j x = sym (path-act (edges e m j) (activeOf e m j) (edge-active e m j) (path-to-rep (edges e m j) x))
+
+-- any other cell is alone
+pub rep-inactive : (e : Triple) (m : List ℕ) (j x : ℕ) → activeOf e m j x ≡ false → rep (edges e m j) x ≡ x
+rep-inactive e m j x a = sym (path-alone (edges e m j) (activeOf e m j) (edge-active e m j) (path-to-rep (edges e m j) x) a)
 
 -- ---- joined cells are those that edges connect
 

@@ -9,10 +9,10 @@ use native.Mathlib.Nat.{le-refl, suc-add, add-suc, add-zero, zero-add}
 use native.Mathlib.Numerals.{add-one}
 use native.Mathlib.Omega.{arith}
 use lib.Dec.{eqb}
-use lib.ListN.{length, getD, set, drop, drop-of-length-le, List·getD-append}
+use lib.ListN.{length, getD, set, drop, length-replicate, drop-of-length-le, List·getD-append}
 use lib.Seq.{set-at, drop-cons, getD-append-add, getD-drop}
 use borrow.Author.Tests.{eqb-true, eqb-false}
-use Rattle.lists.specs.Lists.{consecutive, tabulate, keep}
+use Rattle.lists.specs.Lists.{consecutive, tabulate, keep, zeros}
 use Rattle.lists.proofs.Cases.{by-test, picked}
 
 -- ---- keep
@@ -109,6 +109,23 @@ tabulate-snoc n f = map-consecutive-snoc f 0 n ∙ rw (zero-add n)
 pub tabulate-cons : (n : ℕ) (f : ℕ → ℕ) → tabulate (suc n) f ≡ f 0 ∷ tabulate n (λ k. f (suc k))
 unfolding tabulate consecutive
 tabulate-cons n f = ap (λ l. f 0 ∷ l) (map-consecutive-suc f 0 n)
+
+-- ---- zeros
+
+pub length-zeros : (n : ℕ) → length (zeros n) ≡ n
+unfolding zeros
+length-zeros n = length-replicate n 0
+
+pub zeros-at : (n i : ℕ) → getD (zeros n) i 0 ≡ 0
+unfolding zeros
+zeros-at zero i = refl
+zeros-at (suc n) zero = refl
+zeros-at (suc n) (suc i) = zeros-at n i
+
+pub tabulate-zeros : (n : ℕ) → tabulate n (λ _. 0) ≡ zeros n
+unfolding tabulate consecutive zeros
+tabulate-zeros zero = refl
+tabulate-zeros (suc n) = tabulate-cons n (λ _. 0) ∙ ap (λ l. 0 ∷ l) (tabulate-zeros n)
 
 -- ---- n values written over the front of d: nothing yet, one more, all
 

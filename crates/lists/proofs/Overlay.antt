@@ -2,17 +2,30 @@
 -- Assumes nothing.
 use mathlib.Core.Path.{_≡_, refl, sym, ap, ap₂, _∙_}
 use mathlib.Core.Logic.{_≢_}
-use mathlib.Core.List.{List}
+use mathlib.Core.List.{List, _++_}
 use Prim.Native.Nat.{ℕ, zero, suc, _+_, _≤_, _<_}
+use native.Mathlib.Nat.{add-zero}
 use native.Mathlib.Numerals.{add-one}
 use native.Mathlib.Omega.{arith}
 use lib.Dec.{eqb}
-use lib.ListN.{getD, length, set, take, length-set}
+use lib.ListN.{getD, length, set, take, drop, length-set}
 use lib.Seq.{getD-set-same, getD-set-other, getD-take}
 use borrow.Author.Tests.{eqb-true, eqb-false}
 use Rattle.lists.specs.Lists.{tabulate, overlay}
 use Rattle.lists.proofs.Cases.{by-test}
-use Rattle.lists.proofs.Lists.{getD-tabulate}
+use Rattle.lists.proofs.Lists.{getD-tabulate, front-more}
+
+-- no place, one more, all
+pub overlay-none : (xs : List ℕ) (from : ℕ) (f : ℕ → ℕ) → xs ≡ overlay xs from f 0
+unfolding overlay
+overlay-none xs from f = refl
+
+pub overlay-end : (xs : List ℕ) (from : ℕ) (f : ℕ → ℕ) (i n : ℕ) (ys : List ℕ) → i ≤ n → n ≤ i → ys ≡ overlay xs from f i → ys ≡ overlay xs from f n
+overlay-end xs from f i n ys h k e = let s : i ≡ n = omega arith in e ∙ ap (overlay xs from f) s
+
+pub overlay-next : (xs : List ℕ) (from : ℕ) (f : ℕ → ℕ) (n v : ℕ) (ys : List ℕ) → ys ≡ overlay xs from f n → v ≡ f n → set ys (from + n) v ≡ overlay xs from f (n + 1)
+unfolding overlay
+overlay-next xs from f n v ys e i = rw (add-one n, e, i)
 
 module _ (xs : List ℕ) (from : ℕ) (f : ℕ → ℕ) where
   pub length-overlay : (n : ℕ) → length (overlay xs from f n) ≡ length xs
@@ -49,6 +62,14 @@ module _ (xs : List ℕ) (from : ℕ) (f : ℕ → ℕ) where
 -- an entry of a front that is tabled
 pub front-at : (xs : List ℕ) (n : ℕ) (f : ℕ → ℕ) → take n xs ≡ tabulate n f → (i : ℕ) → i < n → getD xs i 0 ≡ f i
 front-at xs n f e i h = sym (getD-take n xs i 0 h) ∙ ap (λ (l : List ℕ). getD l i 0) e ∙ getD-tabulate n f i h
+
+-- n more values written over the front of xs
+pub front-overlay : (xs : List ℕ) (f : ℕ → ℕ) (p n : ℕ) → p + n ≤ length xs → overlay (tabulate p f ++ drop p xs) p (λ i. f (p + i)) n ≡ tabulate (p + n) f ++ drop (p + n) xs
+unfolding overlay
+front-overlay xs f p zero h = rw (add-zero p)
+front-overlay xs f p (suc n) h =
+    let next : p + n + 1 ≡ p + suc n = omega arith in
+    ap (λ (l : List ℕ). set l (p + n) (f (p + n))) (front-overlay xs f p n (omega arith)) ∙ front-more (p + n) xs f (omega arith) ∙ rw next
 
 -- writing the same is the same
 pub overlay-same : (xs : List ℕ) (from : ℕ) (f g : ℕ → ℕ) (n : ℕ) → ((i : ℕ) → i < n → f i ≡ g i) → overlay xs from f n ≡ overlay xs from g n

@@ -1,25 +1,26 @@
-// The numbering pass of the labeller: the cells of one order get their numbers in the order of their positions.
+// The numbering pass of the labeller: the cells of one order get their numbers in the order of their positions. A cell's link is needed no longer once
+// the cell has its number, so the pass leaves zeros in the table of links: the next order finds a cleared one.
 use lines::first_stride;
 use lines::first_x;
 use lines::last_stride;
 use lines::row_near;
 use union_find::parent;
 ghost use mathlib.Core.Path.{_≡_};
-ghost use Prim.Native.Nat.{ℕ, _*_, _-_, _<_, _≤_};
+ghost use Prim.Native.Nat.{_*_, _-_, _<_, _≤_};
 ghost use lib.Dec.{eqb};
 ghost use lib.ListN.{length};
-ghost use Rattle.lists.specs.Lists.{consecutive, keep};
+ghost use Rattle.lists.specs.Lists.{consecutive, keep, zeros};
 ghost use Rattle.closure.specs.Joined.{rep};
 ghost use Rattle.closure.specs.Numbered.{countBelow, leader};
-ghost use Rattle.union_find.specs.Links.{root};
 ghost use Rattle.cells.specs.Box.{triple};
 ghost use Rattle.cells.specs.Extents.{Sized};
 ghost use Rattle.cells.specs.Grid.{cells, order};
 ghost use Rattle.labels.specs.Number.{edges, activeOf, numbered};
 ghost use Rattle.lines.specs.Lines.{lineCount, Strided};
 ghost use Rattle.numbering.specs.Scan.{scanned, scanAt, scan};
+ghost use Rattle.numbering.specs.Spanning.{Spanning};
 
-// Numbers cell p, which has n odd axes, by its strides. The total is how many components are numbered so far.
+// Numbers cell p, which has n odd axes, by its strides. Where it takes its parent's number, its link is cleared. The total is how many components are numbered so far.
 fn number_at(
     map: &mut [u32],
     nx: usize,
@@ -30,11 +31,11 @@ fn number_at(
     a: usize,
     w: usize,
     b: usize,
-    links: &[u32],
+    links: &mut [u32],
     total: u32,
 ) -> u32
-    requires { ⌜ (length (now map) ≡ cells (triple nx ny nz)) × (p < cells (triple nx ny nz)) × (p < 4294967295) × (total ≤ p) × Strided (triple nx ny nz) p n a w b ⌝ }
-    ensures { λ r. ⌜ scanned (now (map .exit)) r ≡ scanAt (triple nx ny nz) (now (links .entry)) p (scanned (now (map .entry)) total) ⌝ }
+    requires { ⌜ (length (now map) ≡ cells (triple nx ny nz)) × (length (now links) ≡ cells (triple nx ny nz)) × (p < cells (triple nx ny nz)) × (p < 4294967295) × (total ≤ p) × Strided (triple nx ny nz) p n a w b ⌝ }
+    ensures { λ r. ⌜ scanned (now (map .exit)) (now (links .exit)) r ≡ scanAt (triple nx ny nz) p (scanned (now (map .entry)) (now (links .entry)) total) ⌝ }
 {
     let r = row_near(map, nx, ny, nz, n, p, a, w, b);
     if r[0] == 0 {
@@ -47,6 +48,7 @@ fn number_at(
         return total + 1;
     }
     map[p] = map[q];
+    links[p] = 0;
     total
 }
 
@@ -58,12 +60,12 @@ fn number_line(
     nz: usize,
     j: usize,
     l: usize,
-    links: &[u32],
+    links: &mut [u32],
     total: u32,
 ) -> u32
-    requires { ⌜ Sized 64 (triple nx ny nz) × (length (now map) ≡ cells (triple nx ny nz)) × (j ≤ 2) × (l < lineCount (triple nx ny nz)) × (total ≤ l * (2 * nx - 1)) ⌝ }
-    ensures { λ r. ⌜ scanned (now (map .exit)) r
-        ≡ scan (triple nx ny nz) (now (links .entry)) (keep (λ p. eqb (order (triple nx ny nz) p) j) (consecutive (l * (2 * nx - 1)) (2 * nx - 1))) (scanned (now (map .entry)) total) ⌝ }
+    requires { ⌜ Sized 64 (triple nx ny nz) × (length (now map) ≡ cells (triple nx ny nz)) × (length (now links) ≡ cells (triple nx ny nz)) × (j ≤ 2) × (l < lineCount (triple nx ny nz)) × (total ≤ l * (2 * nx - 1)) ⌝ }
+    ensures { λ r. ⌜ scanned (now (map .exit)) (now (links .exit)) r
+        ≡ scan (triple nx ny nz) (keep (λ p. eqb (order (triple nx ny nz) p) j) (consecutive (l * (2 * nx - 1)) (2 * nx - 1))) (scanned (now (map .entry)) (now (links .entry)) total) ⌝ }
 {
     let w = 2 * nx - 1;
     let h = 2 * ny - 1;
@@ -83,18 +85,20 @@ fn number_line(
     t
 }
 
-// Numbers the cells of order j over links that join the cells of each component, and answers how many components there are. Not an entry.
+// Numbers the cells of order j over links that join the cells of each component, and answers how many components there are. The links are left with
+// zeros. Not an entry.
 pub fn number_cells(
     map: &mut [u32],
     nx: usize,
     ny: usize,
     nz: usize,
     j: usize,
-    links: &[u32],
+    links: &mut [u32],
 ) -> u32
-    requires { ⌜ Sized 64 (triple nx ny nz) × (length (now map) ≡ cells (triple nx ny nz)) × (j ≤ 2) × ((y : ℕ) → root (now links) y ≡ rep (edges (triple nx ny nz) (now map) j) y) ⌝ }
+    requires { ⌜ Sized 64 (triple nx ny nz) × (length (now map) ≡ cells (triple nx ny nz)) × (j ≤ 2) × Spanning (triple nx ny nz) (now map) j (now links) ⌝ }
     ensures numbers { λ r. ⌜ now (map .exit) ≡ numbered (triple nx ny nz) j (now (map .entry)) ⌝ }
     ensures total { λ r. ⌜ r ≡ countBelow (leader (rep (edges (triple nx ny nz) (now (map .entry)) j)) (activeOf (triple nx ny nz) (now (map .entry)) j)) (cells (triple nx ny nz)) ⌝ }
+    ensures cleared { λ r. ⌜ now (links .exit) ≡ zeros (cells (triple nx ny nz)) ⌝ }
 {
     let lines = (2 * ny - 1) * (2 * nz - 1);
     let mut total: u32 = 0;

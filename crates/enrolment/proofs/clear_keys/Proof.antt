@@ -5,7 +5,7 @@ use native.Mathlib.Omega.{arith}
 use lib.ListN.{length}
 use borrow.Author.Needs.{needs}
 use Rattle.lists.specs.Lists.{overlay}
-use Rattle.enrolment.proofs.KeyLaws.{overlay-none, overlay-next, overlay-end}
+use Rattle.lists.proofs.Overlay.{overlay-none, overlay-next, overlay-end}
 use Rattle.enrolment.proofs.clear_keys.Statement.{statement}
 use Rattle.enrolment.proofs.clear_keys.Tie as tie
 

@@ -6,7 +6,7 @@ use lib.ListN.{length, getD}
 use borrow.Author.Needs.{needs}
 use Rattle.lists.specs.Lists.{overlay}
 use Rattle.enrolment.specs.Enrolment.{shiftBy}
-use Rattle.enrolment.proofs.KeyLaws.{overlay-none, overlay-next, overlay-end}
+use Rattle.lists.proofs.Overlay.{overlay-none, overlay-next, overlay-end}
 use Rattle.enrolment.proofs.put_row.Statement.{statement}
 use Rattle.enrolment.proofs.put_row.Tie as tie
 

@@ -48,16 +48,22 @@ add-result c = search needs
 same-length-2 : tie.Need-same-length-2
 same-length-2 c = search needs
 
+same-length-3 : tie.Need-same-length-3
+same-length-3 c = search needs
+
 returns-2 : tie.Need-returns-2
 returns-2 c =
-    at-root _ _ _ _ _ _ (c .before .before .before .row-near .ensures) (c .before .before .if1 .left) _ (c .before .parent .ensures) (c .if2 .taken)
+    let known = c .before .before .before in
+    at-root _ _ _ _ _ _ (known .before .row-near .ensures) (known .if1 .left) _ (c .before .parent .ensures) (c .if2 .taken)
 
 mul-map-3 : tie.Need-mul-map-3
 mul-map-3 c = search needs
 
 slice-read-map : tie.Need-slice-read-map
 slice-read-map c =
-    let st = c .before .before .before .before .before .before .before .before in
+    let known = c .before .before .before .before in
+    let read = known .before in
+    let st = read .before .before .before .before in
     omega (arith, parent-low (st .args .links .now) (st .args .p))
 
 mul-map-4 : tie.Need-mul-map-4
@@ -66,8 +72,17 @@ mul-map-4 c = search needs
 slice-write-map-3 : tie.Need-slice-write-map-3
 slice-write-map-3 c = search needs
 
-same-length-3 : tie.Need-same-length-3
-same-length-3 c = search needs
+mul-links : tie.Need-mul-links
+mul-links c = search needs
+
+slice-write-links : tie.Need-slice-write-links
+slice-write-links c = search needs
+
+same-length-4 : tie.Need-same-length-4
+same-length-4 c = search needs
+
+same-length-5 : tie.Need-same-length-5
+same-length-5 c = search needs
 
 returns-3 : tie.Need-returns-3
 returns-3 c = search at-child
@@ -90,10 +105,14 @@ number-at-spec =
     slice-write-map-2
     add-result
     same-length-2
+    same-length-3
     returns-2
     mul-map-3
     slice-read-map
     mul-map-4
     slice-write-map-3
-    same-length-3
+    mul-links
+    slice-write-links
+    same-length-4
+    same-length-5
     returns-3)

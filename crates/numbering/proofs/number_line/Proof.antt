@@ -16,16 +16,16 @@ use Rattle.numbering.proofs.number_line.Statement.{statement}
 use Rattle.numbering.proofs.number_line.Tie as tie
 
 abbrev Inv-loop : tie.InvT-loop
-Inv-loop map₀ nx ny nz j l links total w h y z n start a b base t₀ x₀ map t x =
-    (start ≤ x) × (x % 2 ≡ start % 2) × (length map ≡ length map₀) × Ahead (triple nx ny nz) links (λ p. eqb (order (triple nx ny nz) p) j) base w (scanned map₀ total) x (scanned map t)
+Inv-loop map₀ nx ny nz j l links₀ total w h y z n start a b base t₀ x₀ map links t x =
+    (start ≤ x) × (x % 2 ≡ start % 2) × (length map ≡ length map₀) × (length links ≡ length links₀) × Ahead (triple nx ny nz) (λ p. eqb (order (triple nx ny nz) p) j) base w (scanned map₀ links₀ total) x (scanned map links t)
 
 abbrev μ-loop : tie.MeasureT-loop
-μ-loop map₀ nx ny nz j l links total w h y z n start a b base t₀ x₀ map t x = w - x
+μ-loop map₀ nx ny nz j l links₀ total w h y z n start a b base t₀ x₀ map links t x = w - x
 
 -- the cell at x lies in the grid
-inside : (c : tie.In-loop Inv-loop μ-loop) → let a = c .before .before .before .before .before .before .before .args in a .l * (2 * a .nx - 1) + c .before .loop .x < cells (triple (a .nx) (a .ny) (a .nz))
+inside : (c : tie.In-loop Inv-loop μ-loop) → let strides = c .before .before .before .before in let a = strides .before .before .before .args in a .l * (2 * a .nx - 1) + c .before .loop .x < cells (triple (a .nx) (a .ny) (a .nz))
 unfolding sides
-inside c = line-inside _ _ _ (omega arith) (c .before .before .before .before .before .before .before .pre .3)
+inside c = let strides = c .before .before .before .before in line-inside _ _ _ (omega arith) (strides .before .before .before .pre .4)
 
 mul-w : tie.Need-mul-w Inv-loop μ-loop
 mul-w c = search needs
@@ -68,11 +68,11 @@ last-stride-requires c κs = search needs
 
 mul-base : tie.Need-mul-base Inv-loop μ-loop
 unfolding sides
-mul-base c = let st = c .before .before .before .before .before in omega (arith, line-inside _ _ 0 (omega (arith, st .pre .0)) (st .pre .3))
+mul-base c = let strides = c .before .before in let st = strides .before .before .before in omega (arith, line-inside _ _ 0 (omega (arith, st .pre .0)) (st .pre .4))
 
 loop-holds : tie.Need-loop-holds Inv-loop μ-loop
 unfolding lineY lineZ sides
-loop-holds c = (omega arith, refl, refl, rw (c .before .before .first-x .ensures) (ahead-all (order-tests _ _ _ (omega arith)) (omega arith)))
+loop-holds c = (omega arith, refl, refl, refl, rw (c .before .before .first-x .ensures) (ahead-all (order-tests _ _ _ (omega arith)) (omega arith)))
 
 add-number-at : tie.Need-add-number-at Inv-loop μ-loop
 add-number-at c = omega (arith, inside (c .before))
@@ -80,14 +80,18 @@ add-number-at c = omega (arith, inside (c .before))
 number-at-requires : tie.Need-number-at-requires Inv-loop μ-loop
 unfolding lineY lineZ stride sides
 number-at-requires c κs =
-    let st = c .before .before .before .before .before .before .before .before in
-    let i = c .before .before .loop .inv in
-    let k = line-odd _ _ _ (c .before .before .before .before .before .first-x .ensures) (i .0) (i .1) (omega arith) in (
+    let at = c .before .before in
+    let turn = at .before in
+    let strides = turn .before .before .before in
+    let st = strides .before .before .before in
+    let i = turn .loop .inv in
+    let k = line-odd _ _ _ (strides .first-x .ensures) (i .0) (i .1) (omega arith) in (
       i .2 ∙ st .pre .1,
-      inside (c .before),
-      omega (arith, inside (c .before), cells-high (st .pre .0)),
-      i .3 .low,
-      rw (c .before .before .before .last-stride .ensures, c .before .before .before .before .first-stride .ensures, k .0) (line-strides _ _ _ _ (omega arith) (omega arith) (k .1)),
+      i .3 ∙ st .pre .2,
+      inside at,
+      omega (arith, inside at, cells-high (st .pre .0)),
+      i .4 .low,
+      rw (turn .before .last-stride .ensures, turn .before .before .first-stride .ensures, k .0) (line-strides _ _ _ _ (omega arith) (omega arith) (k .1)),
     )
 
 add-x : tie.Need-add-x Inv-loop μ-loop
@@ -99,16 +103,21 @@ loop-less c = search needs
 loop-again : tie.Need-loop-again Inv-loop μ-loop
 unfolding lineY lineZ sides
 loop-again c =
-    let i = c .before .before .before .before .before .loop .inv in
-    let k = line-odd _ _ _ (c .before .before .before .before .before .before .before .before .first-x .ensures) (i .0) (i .1) (omega arith) in
-    (omega arith, omega arith, omega arith, ahead-next (order-tests _ _ _ (omega arith)) (omega arith) (k .1) (i .3) (c .before .before .number-at .ensures))
+    let called = c .before .before .before .before in
+    let turn = called .before .before .before .before in
+    let i = turn .loop .inv in
+    let k = line-odd _ _ _ (turn .before .before .before .first-x .ensures) (i .0) (i .1) (omega arith) in
+    (omega arith, omega arith, omega arith, omega arith, ahead-next (order-tests _ _ _ (omega arith)) (omega arith) (k .1) (i .4) (called .number-at .ensures))
 
 same-length : tie.Need-same-length Inv-loop μ-loop
 same-length c = search needs
 
+same-length-2 : tie.Need-same-length-2 Inv-loop μ-loop
+same-length-2 c = search needs
+
 returns : tie.Need-returns Inv-loop μ-loop
 unfolding sides
-returns c = ahead-none (order-tests _ _ _ (omega arith)) (omega arith) (c .before .loop .inv .3)
+returns c = ahead-none (order-tests _ _ _ (omega arith)) (omega arith) (c .before .loop .inv .4)
 
 pub number-line-spec : {M : Type 1} → statement M
 number-line-spec =
@@ -137,4 +146,5 @@ number-line-spec =
     loop-less
     loop-again
     same-length
+    same-length-2
     returns)

@@ -1,31 +1,31 @@
--- `enrolling::write_zeros` meets its contract. The loop's invariant: the first i places are written.
+-- `lists::write_zeros` meets its contract. The loop's invariant: the first i places are written.
 use Prim.Native.Nat.{_-_, _≤_}
 use mathlib.Core.Path.{_≡_, refl}
 use native.Mathlib.Omega.{arith}
 use lib.ListN.{length}
 use borrow.Author.Needs.{needs}
 use Rattle.lists.specs.Lists.{overlay}
-use Rattle.enrolment.proofs.KeyLaws.{overlay-none, overlay-next, overlay-end}
-use Rattle.enrolling.proofs.write_zeros.Statement.{statement}
-use Rattle.enrolling.proofs.write_zeros.Tie as tie
+use Rattle.lists.proofs.Overlay.{overlay-none, overlay-next, overlay-end}
+use Rattle.lists.proofs.write_zeros.Statement.{statement}
+use Rattle.lists.proofs.write_zeros.Tie as tie
 
 abbrev Inv-loop : tie.InvT-loop
-Inv-loop links₀ from count i₀ links i = (i ≤ count) × (length links ≡ length links₀) × (links ≡ overlay links₀ from (λ _. 0) i)
+Inv-loop xs₀ from n i₀ xs i = (i ≤ n) × (length xs ≡ length xs₀) × (xs ≡ overlay xs₀ from (λ _. 0) i)
 
 abbrev μ-loop : tie.MeasureT-loop
-μ-loop links₀ from count i₀ links i = count - i
+μ-loop xs₀ from n i₀ xs i = n - i
 
 loop-holds : tie.Need-loop-holds Inv-loop μ-loop
 loop-holds c = (omega arith, refl, overlay-none _ _ _)
 
-add-links : tie.Need-add-links Inv-loop μ-loop
-add-links c = search needs
+add-at : tie.Need-add-at Inv-loop μ-loop
+add-at c = search needs
 
-mul-links : tie.Need-mul-links Inv-loop μ-loop
-mul-links c = search needs
+mul-xs : tie.Need-mul-xs Inv-loop μ-loop
+mul-xs c = search needs
 
-slice-write-links : tie.Need-slice-write-links Inv-loop μ-loop
-slice-write-links c = search needs
+slice-write-xs : tie.Need-slice-write-xs Inv-loop μ-loop
+slice-write-xs c = search needs
 
 add-i : tie.Need-add-i Inv-loop μ-loop
 add-i c = search needs
@@ -49,9 +49,9 @@ write-zeros-spec =
     Inv-loop
     μ-loop
     loop-holds
-    add-links
-    mul-links
-    slice-write-links
+    add-at
+    mul-xs
+    slice-write-xs
     add-i
     loop-less
     loop-again
