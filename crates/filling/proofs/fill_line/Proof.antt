@@ -31,33 +31,33 @@ div-z : tie.Need-div-z
 div-z c = search needs
 
 mul-base : tie.Need-mul-base
-mul-base c = let r = at-start (c .before .before) in omega (arith, r .codes-end, r .codes-few, r .area, r .line, r .whole)
+mul-base c = omega (arith, at-start (c .before .before))
 
 add-if1 : tie.Need-add-if1
 add-if1 c = search needs
 
 mul-v : tie.Need-mul-v
-mul-v c = let r = at-start (c .before .before .before) in omega (arith, r .codes-end, r .codes-few, r .area, r .line, r .whole)
+mul-v c = omega (arith, at-start (c .before .before .before))
 
 mul-v-2 : tie.Need-mul-v-2
-mul-v-2 c = let r = at-start (c .before .before .before) in omega (arith, r .codes-end, r .codes-few, r .area, r .line, r .whole)
+mul-v-2 c = omega (arith, at-start (c .before .before .before))
 
 mul-v-3 : tie.Need-mul-v-3
-mul-v-3 c = let r = at-start (c .before .before .before) in omega (arith, r .codes-end, r .codes-few, r .area, r .line, r .whole)
+mul-v-3 c = omega (arith, at-start (c .before .before .before))
 
 add-v : tie.Need-add-v
-add-v c = let r = at-start (c .before .before .before) in omega (arith, r .codes-end, r .codes-few, r .area, r .line, r .whole)
+add-v c = omega (arith, at-start (c .before .before .before))
 
 lay-codes-requires : tie.Need-lay-codes-requires
 lay-codes-requires c κs =
     let st = c .before .before .before .before in
     let r = at-start st in
-    (omega (arith, st .pre .0), omega (arith, r .codes-end, st .pre .1), omega (arith, r .line, st .pre .2))
+    (omega (arith, st .pre .0), omega (arith, r, st .pre .1), omega (arith, r, st .pre .2))
 
 write-zeros-requires : tie.Need-write-zeros-requires
 write-zeros-requires c κs =
     let st = c .before .before .before .before in
-    omega (arith, at-start st .line, st .pre .2)
+    omega (arith, at-start st, st .pre .2)
 
 same-length : tie.Need-same-length
 same-length c = search needs
