@@ -128,7 +128,7 @@ module _ (e : Triple) (j : ℕ) (m links : List ℕ) where
       linked : p < length links
       linked = omega (arith, S .size)
 
-      -- The least cell of a component has no link, and no cell has one that is not an active cell of order j: nothing is to be cleared there.
+      -- The least cell of a component has no link, nor has an inactive cell or one of another order: nothing is to be cleared there.
       cleared-least : f p ≡ p → clearedTo p ≡ clearedTo (suc p)
       cleared-least z =
           let none : getD links p 0 ≡ 0 = root-linkless links p (S .roots p ∙ z) (S .sound p) in
