@@ -19,7 +19,8 @@ use Rattle.closure.specs.Joined.{rep}
 use Rattle.closure.specs.Numbered.{countBelow, leader, label}
 use Rattle.closure.proofs.Numbers.{count-hit, count-miss, Leaders, label-off, label-leader, label-same}
 use Rattle.union_find.specs.Links.{parent}
-use Rattle.union_find.proofs.LinkLaws.{parent-low, root-own, own-root, root-up, root-linkless}
+use Rattle.union_find.proofs.LinkLaws.{parent-low, root-own, own-root, root-up}
+use Rattle.union_find.proofs.SoundLaws.{root-linkless}
 use Rattle.cells.specs.Box.{Triple}
 use Rattle.cells.specs.Grid.{sides, cells, order}
 use Rattle.cells.specs.Row.{row, active, occupied}

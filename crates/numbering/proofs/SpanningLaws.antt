@@ -12,7 +12,8 @@ use Rattle.closure.specs.Joined.{joins, rep}
 use Rattle.closure.proofs.Classes.{path-to-rep}
 use Rattle.closure.proofs.Rooted.{joins-ext}
 use Rattle.union_find.specs.Links.{root, Rooted}
-use Rattle.union_find.proofs.LinkLaws.{zeros-alone, zeros-sound}
+use Rattle.union_find.proofs.LinkLaws.{zeros-alone}
+use Rattle.union_find.proofs.SoundLaws.{zeros-sound}
 use Rattle.cells.specs.Box.{Triple}
 use Rattle.cells.specs.Grid.{cells, order}
 use Rattle.labels.specs.Number.{edges, activeOf}

@@ -10,14 +10,14 @@ use mathlib.Core.Path.{_≡_, refl, sym, ap, _∙_}
 use lib.ListN.{length, getD, List·getD-eq-default}
 use lib.Dec.{eqb, leb}
 use borrow.Author.Tests.{leb-true, le-leb, lt-leb, eq-eqb, ne-eqb}
-use Rattle.lists.specs.Lists.{consecutive, allOf}
+use Rattle.lists.specs.Lists.{consecutive, allOf, zeros}
 use Rattle.lists.proofs.Cases.{by-test, and-first, and-second, and-both, or-right}
-use Rattle.lists.proofs.Lists.{consecutive-in, consecutive-out}
+use Rattle.lists.proofs.Lists.{consecutive-in, consecutive-out, zeros-at}
 use Rattle.lists.proofs.Tests.{all-in, all-out}
 use Rattle.closure.specs.Trees.{ancestor}
 use Rattle.closure.proofs.Rooted.{same?}
-use Rattle.union_find.specs.Links.{parent, soundAt, soundWay, soundFrom, soundBelow, soundRange, stepsWithin, depth, depths, soundWays, Walked}
-use Rattle.union_find.proofs.LinkLaws.{parent-low}
+use Rattle.union_find.specs.Links.{parent, root, soundAt, soundWay, soundFrom, soundBelow, soundRange, stepsWithin, depth, depths, soundWays, Walked}
+use Rattle.union_find.proofs.LinkLaws.{parent-low, own-root}
 
 -- ---- one link
 
@@ -54,6 +54,14 @@ module _ (ls : List ℕ) (x : ℕ) where
   -- .. and one that is not cut short is sound.
   pub link-whole : parent ls x + getD ls x 0 ≡ x → soundAt ls x ≡ true
   link-whole e = sound-at (omega arith)
+
+  -- A root whose link is sound has none.
+  pub root-linkless : root ls x ≡ x → soundAt ls x ≡ true → getD ls x 0 ≡ 0
+  root-linkless r e = omega (arith, own-root ls x r, whole-link e)
+
+-- In a table of zeros every link is sound.
+pub zeros-sound : (n x : ℕ) → soundAt (zeros n) x ≡ true
+zeros-sound n x = sound-at (zeros n) x (rw (zeros-at n x) (omega arith))
 
 -- ---- one step of a way
 
