@@ -41,6 +41,15 @@ static void expect(const char *what, uint32_t answer, uint32_t right) {
     }
 }
 
+/* The most components that a block of 2×2×1 voxels can have. */
+static void most(void) {
+    uint32_t counts[3] = {7, 7, 7};
+    expect("most of an extent 0", tugrelis_most_components(2, 2, 0, counts), TUGRELIS_OFF_SIZE);
+    expect("numbers of a refused call", counts[0] == 7 && counts[1] == 7 && counts[2] == 7, 1);
+    expect("most", tugrelis_most_components(2, 2, 1, counts), 0);
+    printf("a block of 2 2 1: at most faces %" PRIu32 " curves %" PRIu32 " points %" PRIu32 "\n", counts[0], counts[1], counts[2]);
+}
+
 static uint32_t open_job(struct job *j) {
     return tugrelis_open(
         j->numbers, 3, 2, 1, FACES, CURVES, 0, CUTS, SLICE(j->ticks), SLICE(j->blocks), SLICE(j->face_links), SLICE(j->curve_links), SLICE(j->face_keys), SLICE(j->curve_keys), NONE,
@@ -113,6 +122,7 @@ int main(void) {
     static struct job job, before;
     uint32_t maps[2][CELLS], row[6] = {0}, number = 7, b, refusal;
 
+    most();
     for (b = 0; b < BLOCKS; b++) {
         label(b, codes[b], maps[b], maps_right[b]);
     }

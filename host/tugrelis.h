@@ -65,6 +65,10 @@ uint32_t tugrelis_label(
     uint32_t *work, size_t work_len,
     uint32_t counts[3]);
 
+/* The most faces, curves and points that a block of these extents can have: extents, places for the three numbers. No labelled block has more, and one with
+   all codes different has as many. */
+uint32_t tugrelis_most_components(uint16_t nx, uint16_t ny, uint16_t nz, uint32_t counts[3]);
+
 /* Writes the record of a block: extents, origin, map, record tray, a place for the length. */
 uint32_t tugrelis_write_record(
     uint16_t nx, uint16_t ny, uint16_t nz, uint16_t ox, uint16_t oy, uint16_t oz,

@@ -1,4 +1,4 @@
-//! One block: its labelling and its record.
+//! One block: its labelling, how many components it can have, and its record.
 use crate::raw;
 use crate::refusal::Refusal;
 
@@ -23,6 +23,21 @@ pub struct Counts {
     pub points: u32,
 }
 
+impl Counts {
+    /// The most faces, curves and points that a block of these extents can have: as many as with all codes different.
+    pub fn most(extents: [u16; 3]) -> Result<Counts, Refusal> {
+        let ([nx, ny, nz], mut counts) = (extents, [0; 3]);
+        Refusal::check(raw::most_components(nx, ny, nz, &mut counts))?;
+        Ok(Counts::from(counts))
+    }
+}
+
+impl From<[u32; 3]> for Counts {
+    fn from([faces, curves, points]: [u32; 3]) -> Counts {
+        Counts { faces, curves, points }
+    }
+}
+
 impl Block {
     /// Labels the codes of a block, x fastest.
     pub fn label(extents: [u16; 3], codes: &[u32]) -> Result<(Block, Counts), Refusal> {
@@ -30,8 +45,7 @@ impl Block {
         let size = if extents.iter().all(|&n| (1..=64).contains(&n)) { cells(extents.map(usize::from)) } else { 0 };
         let (mut map, mut work, mut counts) = (vec![0; size], vec![0; size], [0; 3]);
         Refusal::check(raw::label(codes, nx, ny, nz, &mut map, &mut work, &mut counts))?;
-        let [faces, curves, points] = counts;
-        Ok((Block { extents, map }, Counts { faces, curves, points }))
+        Ok((Block { extents, map }, Counts::from(counts)))
     }
 
     /// The record of the block, whose first voxel stands at `origin` in the volume.

@@ -5,6 +5,7 @@
 mod exports {
     extern "C" {
         pub fn tugrelis_label(codes: *const u32, codes_len: usize, nx: u16, ny: u16, nz: u16, map: *mut u32, map_len: usize, work: *mut u32, work_len: usize, counts: *mut [u32; 3]) -> u32;
+        pub fn tugrelis_most_components(nx: u16, ny: u16, nz: u16, counts: *mut [u32; 3]) -> u32;
         pub fn tugrelis_write_record(nx: u16, ny: u16, nz: u16, ox: u16, oy: u16, oz: u16, map: *const u32, map_len: usize, tray: *mut u8, tray_len: usize, size: *mut usize) -> u32;
         pub fn tugrelis_read_record(bytes: *const u8, bytes_len: usize, map: *mut u32, map_len: usize, fields: *mut [u16; 6]) -> u32;
         pub fn tugrelis_open(job: *mut [u32; 13], nx: u32, ny: u32, nz: u32, face_entries: u32, curve_entries: u32, point_entries: u32, cx: *const u32, cx_len: usize, cy: *const u32, cy_len: usize, cz: *const u32, cz_len: usize, ticks: *mut u32, ticks_len: usize, blocks: *const u32, blocks_len: usize, face_links: *const u32, face_links_len: usize, curve_links: *const u32, curve_links_len: usize, face_keys: *const u64, face_keys_len: usize, curve_keys: *const u64, curve_keys_len: usize, point_keys: *const u64, point_keys_len: usize, face_rows: *const u32, face_rows_len: usize, curve_rows: *const u32, curve_rows_len: usize, point_rows: *const u32, point_rows_len: usize, face_numbers: *const u32, face_numbers_len: usize, curve_numbers: *const u32, curve_numbers_len: usize, point_numbers: *const u32, point_numbers_len: usize, face_firsts: *const u64, face_firsts_len: usize, curve_firsts: *const u64, curve_firsts_len: usize, point_firsts: *const u64, point_firsts_len: usize, face_listed: *const u32, face_listed_len: usize, curve_listed: *const u32, curve_listed_len: usize, point_listed: *const u32, point_listed_len: usize) -> u32;
@@ -23,6 +24,12 @@ mod exports {
 pub fn label(codes: &[u32], nx: u16, ny: u16, nz: u16, map: &mut [u32], work: &mut [u32], counts: &mut [u32; 3]) -> u32 {
     // Safe: every pointer comes from a slice or a reference, with its length.
     unsafe { exports::tugrelis_label(codes.as_ptr(), codes.len(), nx, ny, nz, map.as_mut_ptr(), map.len(), work.as_mut_ptr(), work.len(), counts) }
+}
+
+/// The most faces, curves and points that a block can have: extents, places for the three numbers.
+pub fn most_components(nx: u16, ny: u16, nz: u16, counts: &mut [u32; 3]) -> u32 {
+    // Safe: the pointer comes from a reference.
+    unsafe { exports::tugrelis_most_components(nx, ny, nz, counts) }
 }
 
 /// Writes the record of a block: extents, origin, map, record tray, a place for the length.

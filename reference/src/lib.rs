@@ -1,4 +1,4 @@
-//! A second implementation of document 01, by another method than the proved code: components are found by breadth-first search
+//! A second implementation of document 01 and of the requests that have landed, by another method than the proved code: components are found by breadth-first search
 //! over cells. Where the document leaves something open it goes by docs/DECISIONS.md. src/bin/compare.rs compares it with the proved code.
 pub mod book;
 pub mod codec;
@@ -6,6 +6,7 @@ pub mod cutting;
 pub mod grid;
 pub mod label;
 pub mod listing;
+pub mod maxima;
 pub mod outcome;
 pub mod random;
 pub mod samples;

@@ -13,6 +13,10 @@ pub cells-are : (e : Triple) → cells e ≡ (2 * e .x - 1) * (2 * e .y - 1) * (
 unfolding cells volume sides
 cells-are e = refl
 
+-- a product of three numbers up to a limit
+pub product-high : (limit a b c : ℕ) → a ≤ limit → b ≤ limit → c ≤ limit → a * b * c ≤ limit * limit * limit
+product-high limit a b c p q r = mul-le-mul (mul-le-mul p q) r
+
 module _ {limit : ℕ} {e : Triple} (s : Sized limit e) where
   pub layer-low : 0 < (2 * e .x - 1) * (2 * e .y - 1)
   layer-low = mul-pos (omega (arith, s .x-low)) (omega (arith, s .y-low))
@@ -28,4 +32,4 @@ module _ {limit : ℕ} {e : Triple} (s : Sized limit e) where
 
   pub volume-high : volume e ≤ limit * limit * limit
   unfolding volume
-  volume-high = mul-le-mul area-high (s .z-high)
+  volume-high = product-high limit (e .x) (e .y) (e .z) (s .x-high) (s .y-high) (s .z-high)

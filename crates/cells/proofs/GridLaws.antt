@@ -52,7 +52,7 @@ pub odd-at : (e c : Triple) → Inside (sides e) c → (a : Axis) → parity e (
 unfolding parity
 odd-at e c i a = rw (place-index (sides e) c (i X) (i Y) a)
 
-order-at : (e c : Triple) → Inside (sides e) c → order e (index (sides e) c) ≡ 3 - (c .x % 2 + c .y % 2 + c .z % 2)
+pub order-at : (e c : Triple) → Inside (sides e) c → order e (index (sides e) c) ≡ 3 - (c .x % 2 + c .y % 2 + c .z % 2)
 unfolding order
 order-at e c i = rw (odd-at e c i X, odd-at e c i Y, odd-at e c i Z)
 

@@ -1,16 +1,18 @@
 -- The laws of the numbering: a leader has one more than the leaders before it, and active ids have one number exactly when they are in one class.
 -- Assumes nothing.
-use Prim.Native.Nat.{ℕ, zero, suc, _-_, _≤_, _<_}
-use native.Mathlib.Nat.{le-refl}
+use Prim.Native.Nat.{ℕ, zero, suc, _+_, _-_, _≤_, _<_}
+use native.Mathlib.Nat.{le-refl, add-suc, add-zero}
 use native.Mathlib.Decide.{le-ind}
 use native.Mathlib.Omega.{arith}
 use mathlib.Core.Bool.{Bool, true, false, true≢false}
-use mathlib.Core.List.{List, List·Memᴰ}
+use mathlib.Core.List.{List, [], _∷_, List·Memᴰ}
 use mathlib.Core.Path.{_≡_, refl, sym, ap, _∙_}
 use lib.Dec.{eqb, leb, ltb}
+use lib.ListN.{getD, length}
 use borrow.Author.Tests.{eq-eqb, eqb-true, leb-true, leb-false, ltb-true, ltb-false}
 use Rattle.closure.specs.Joined.{Edge, Linked, stay, along, back, via}
 use Rattle.closure.specs.Numbered.{countBelow, leader, numberBy, label}
+use Rattle.lists.specs.Lists.{keep}
 use Rattle.lists.proofs.Cases.{by-test, and-first, and-second}
 
 -- ---- `count`
@@ -51,6 +53,46 @@ unfolding countBelow
 count-same p q zero h = refl
 count-same p q (suc n) h =
     rw (h n (le-refl (suc n)), count-same p q n (λ i l. h i (omega arith)))
+
+-- A count rises no faster than that of a weaker test.
+pub count-rise : (p q : ℕ → Bool) (n : ℕ) → (p n ≡ true → q n ≡ true) → countBelow p (suc n) + countBelow q n ≤ countBelow q (suc n) + countBelow p n
+count-rise p q n h = go (p n) refl (q n) refl
+  where
+    go : (a : Bool) → p n ≡ a → (b : Bool) → q n ≡ b → countBelow p (suc n) + countBelow q n ≤ countBelow q (suc n) + countBelow p n
+    go true a true b = omega (arith, count-hit p n a, count-hit q n b)
+    go true a false b = absurd (true≢false (sym (h a) ∙ b))
+    go false a true b = omega (arith, count-miss p n a, count-hit q n b)
+    go false a false b = omega (arith, count-miss p n a, count-miss q n b)
+
+pub count-le : (p q : ℕ → Bool) (n : ℕ) → ((i : ℕ) → i < n → p i ≡ true → q i ≡ true) → countBelow p n ≤ countBelow q n
+unfolding countBelow
+count-le p q zero h = le-refl 0
+count-le p q (suc n) h = omega (arith, count-rise p q n (h n (le-refl (suc n))), count-le p q n (λ i l. h i (omega arith)))
+
+-- The first a numbers, and the b after them.
+pub count-rest : (p : ℕ → Bool) (a b : ℕ) → countBelow p (a + b) ≡ countBelow p a + countBelow (λ k. p (a + k)) b
+unfolding countBelow
+count-rest p a zero = rw (add-zero a) (omega arith)
+count-rest p a (suc b) =
+    by-test (p (a + b))
+    (λ t. rw (add-suc a b, t) (omega (arith, count-rest p a b)))
+    (λ t. rw (add-suc a b, t) (count-rest p a b))
+
+count-front : (p : ℕ → Bool) (n : ℕ) → countBelow p (suc n) ≡ countBelow p 1 + countBelow (λ j. p (suc j)) n
+count-front p n =
+    let s : suc n ≡ 1 + n = omega arith in
+    let c : countBelow (λ j. p (1 + j)) n ≡ countBelow (λ j. p (suc j)) n = count-same (λ j. p (1 + j)) (λ j. p (suc j)) n (λ j _. ap p (omega arith)) in
+    ap (countBelow p) s ∙ count-rest p 1 n ∙ ap (λ (k : ℕ). countBelow p 1 + k) c
+
+-- How many entries of a list pass a test.
+pub keep-count : (p : ℕ → Bool) (l : List ℕ) → length (keep p l) ≡ countBelow (λ j. p (getD l j 0)) (length l)
+unfolding countBelow
+keep-count p [] = refl
+keep-count p (x ∷ l) =
+    let at : ℕ → Bool = λ j. p (getD (x ∷ l) j 0) in
+    by-test (p x)
+    (λ t. rw t (omega (arith, keep-count p l, count-front at (length l), count-hit at 0 t)))
+    (λ t. rw t (omega (arith, keep-count p l, count-front at (length l), count-miss at 0 t)))
 
 -- ---- `numberBy`
 

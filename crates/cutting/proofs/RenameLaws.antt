@@ -2,19 +2,21 @@
 -- Assumes nothing.
 use mathlib.Core.Path.{_≡_, refl, sym, ap, ap₂, _∙_}
 use mathlib.Core.Bool.{Bool, true, false, not}
-use mathlib.Core.List.{List, [], _∷_, map, List·Memᴰ, List·Memᴰ·head, List·Memᴰ·tail, head-eq-of-cons-eq, tail-eq-of-cons-eq}
+use mathlib.Core.List.{List, [], _∷_, map, List·Memᴰ, head-eq-of-cons-eq, tail-eq-of-cons-eq}
 use Prim.Native.Nat.{ℕ, zero, suc, _≤_, _<_, min, max}
 use native.Mathlib.Nat.{min-comm, max-comm}
 use native.Mathlib.Omega.{arith}
 use lib.Dec.{eqb, leb}
 use lib.ListN.{length}
-use borrow.Author.Tests.{eqb-true, eqb-false, eq-eqb, ne-eqb, leb-true, leb-false}
+use borrow.Author.Tests.{ne-eqb, leb-true, leb-false}
 use mathlib.Core.Bool.{cond}
-use Rattle.cells.specs.Row.{occurrences, once, insertAscending, sortAscending, padTo, rowOf, occupied}
-use Rattle.cells.proofs.RowLaws.{Positive, row-positive}
+use Rattle.cells.specs.Row.{once, insertAscending, sortAscending, padTo, rowOf, occupied}
+use Rattle.cells.proofs.RowLaws.{Positive, row-positive, length-sort}
+use Rattle.cells.proofs.RowFacts.{eqb-renamed, occurrences-renamed}
 use Rattle.lists.specs.Lists.{keep}
+use Rattle.lists.proofs.Lists.{length-keep}
 use Rattle.lists.proofs.Tests.{keep-same}
-use Rattle.lists.proofs.Cases.{by-test, picked}
+use Rattle.lists.proofs.Cases.{by-test}
 
 -- ---- sorting depends on the entries alone, and not on their order
 
@@ -63,18 +65,6 @@ sort-map g (x ∷ l) = sort-insert g x (sortAscending l) ∙ ap (insertAscending
 
 -- ---- six places hold a short list of numbers above 0 whole
 
-pub length-keep : (f : ℕ → Bool) (l : List ℕ) → length (keep f l) ≤ length l
-length-keep f [] = omega arith
-length-keep f (x ∷ l) = picked (λ (r : List ℕ). length r ≤ suc (length l)) (f x) (x ∷ keep f l) (keep f l) (λ t. omega (arith, length-keep f l)) (λ t. omega (arith, length-keep f l))
-
-length-insert : (x : ℕ) (l : List ℕ) → length (insertAscending x l) ≡ suc (length l)
-length-insert x [] = refl
-length-insert x (y ∷ l) = ap suc (length-insert (max x y) l)
-
-pub length-sort : (l : List ℕ) → length (sortAscending l) ≡ length l
-length-sort [] = refl
-length-sort (x ∷ l) = length-insert x (sortAscending l) ∙ ap suc (length-sort l)
-
 places-same : (n : ℕ) (a b : List ℕ) → length a ≤ n → length b ≤ n → Positive a → Positive b → padTo n a ≡ padTo n b → a ≡ b
 places-same n [] [] h k s t e = refl
 places-same zero [] (y ∷ b) h k s t e = absurd (omega arith)
@@ -100,18 +90,9 @@ pub record Tells (g : ℕ → ℕ) (xs : List ℕ) : Type 0 where
   pub zeros : (x : ℕ) → List·Memᴰ x xs → g x ≡ 0 → x ≡ 0
   pub apart : (x y : ℕ) → List·Memᴰ x xs → List·Memᴰ y xs → g x ≡ g y → x ≡ y
 
-same-test : (g : ℕ → ℕ) (x y : ℕ) → (g x ≡ g y → x ≡ y) → eqb (g x) (g y) ≡ eqb x y
-same-test g x y h =
-    by-test (eqb x y) (λ t. eq-eqb (g x) (g y) (ap g (eqb-true x y t)) ∙ sym t) (λ t. ne-eqb (g x) (g y) (λ q. eqb-false x y t (h q)) ∙ sym t)
-
-occurrences-renamed : (g : ℕ → ℕ) (x : ℕ) (l : List ℕ) → ((y : ℕ) → List·Memᴰ y l → g x ≡ g y → x ≡ y) → occurrences (g x) (map g l) ≡ occurrences x l
-occurrences-renamed g x [] h = refl
-occurrences-renamed g x (y ∷ l) h =
-    rw (same-test g y x (λ q. sym (h y (List·Memᴰ·head refl) (sym q))), occurrences-renamed g x l (λ z m. h z (List·Memᴰ·tail m)))
-
 once-renamed : (g : ℕ → ℕ) (xs : List ℕ) → Tells g xs → (x : ℕ) → List·Memᴰ x xs → once (map g xs) (g x) ≡ once xs x
 once-renamed g xs r x m =
-    ap₂ (λ (s t : Bool). cond s false t) (ap (eqb (g x)) (sym (r .nought)) ∙ same-test g x 0 (λ q. r .zeros x m (q ∙ r .nought)))
+    ap₂ (λ (s t : Bool). cond s false t) (ap (eqb (g x)) (sym (r .nought)) ∙ eqb-renamed g x 0 (λ q. r .zeros x m (q ∙ r .nought)))
     (ap (λ (n : ℕ). eqb n 1) (occurrences-renamed g x xs (λ y k. r .apart x y m k)))
 
 keep-map : (h : ℕ → Bool) (g : ℕ → ℕ) (l : List ℕ) → keep h (map g l) ≡ map g (keep (λ x. h (g x)) l)

@@ -6,10 +6,10 @@ use mathlib.Core.List.{List, [], _∷_, _++_, map-map}
 use Prim.Native.Nat.{ℕ, _+_, _-_, _*_, _%_, _≤_, _<_}
 use native.Mathlib.Omega.{arith}
 use lib.Dec.{eqb}
-use lib.ListN.{getD, length, length-append, length-map, List·getD-eq-default}
+use lib.ListN.{getD, length, length-append, List·getD-eq-default}
 use borrow.Author.Tests.{eq-eqb, ne-eqb}
 use Rattle.lists.specs.Lists.{consecutive, tabulate}
-use Rattle.lists.proofs.Lists.{keep-append, length-tabulate}
+use Rattle.lists.proofs.Lists.{keep-append, length-keep, length-consecutive}
 use Rattle.cells.specs.Box.{Triple, X, Y, Z, stride}
 use Rattle.cells.specs.Extents.{Sized}
 use Rattle.cells.specs.Grid.{sides, cells, order, upperNeighbours}
@@ -17,7 +17,6 @@ use Rattle.cells.specs.Row.{rowOf, occupied}
 use Rattle.cells.proofs.ExtentLaws.{cells-high}
 use Rattle.cells.proofs.GridLaws.{odd-lt}
 use Rattle.labels.specs.Components.{ofOrder}
-use Rattle.cutting.proofs.RenameLaws.{length-keep}
 use Rattle.lines.specs.Lines.{strideIf, odds, around, lineCount, lineY, lineZ, firstX}
 use Rattle.lines.proofs.LineLaws.{up-around, odds-are, Reads, reads, line-inside, line-order, line-start, line-next, line-end}
 use Rattle.surveys.specs.Surveys.{onLine}
@@ -175,7 +174,7 @@ module _ (e : Triple) (numbers : List ℕ) (from : ℕ) (m : List ℕ) where
   pub found-few : length (foundCells e numbers from m) ≤ cells e
   unfolding foundCells foundAmong ofOrder tabulate
   found-few =
-      let n : length (consecutive 0 (cells e)) ≡ cells e = sym (length-map (consecutive 0 (cells e)) (λ i. i)) ∙ length-tabulate (cells e) (λ i. i) in
+      let n = length-consecutive 0 (cells e) in
       omega (arith, length-keep (λ p. occupied (foundRow e numbers from m p)) (ofOrder e 0), length-keep (λ p. eqb (order e p) 0) (consecutive 0 (cells e)))
 
   module _ (l n : ℕ) (c : n + length (foundAmong e numbers from m (fromLine e 0 l)) ≡ length (foundCells e numbers from m)) where

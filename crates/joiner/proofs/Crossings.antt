@@ -4,7 +4,7 @@ use mathlib.Core.Bool.{cond, true}
 use mathlib.Core.List.{List, List·Memᴰ, List·Memᴰ·cases-cons, List·Memᴰ·head, List·Memᴰ·tail, Memᴰ·map, _∷_}
 use mathlib.Core.Logic.{_≢_, _⊎_, inl, inr}
 use mathlib.Core.Path.{_∙_, _≡_, ap, refl, subst, sym}
-use Prim.Native.Nat.{_*_, _<_, _≤_, suc, zero, ℕ}
+use Prim.Native.Nat.{_*_, _<_, _≤_, suc, ℕ}
 use native.Mathlib.Omega.{arith}
 use lib.Dec.{eqb}
 use lib.ListN.{getD, length, length-set}
@@ -23,21 +23,15 @@ use Rattle.joiner.specs.Entries.{AtCrossing, CrossingDone, KeptNumbers, 
 use Rattle.joiner.specs.Job.{Closed, Crossing, Curve, Face, Kind, Point, Points, Stage, State, Tables, Told, node, stageNumber}
 use Rattle.joiner.specs.Stages.{crossingStep, pointStep, seamStep, stepsOf}
 use Rattle.lists.proofs.Cases.{by-test}
-use Rattle.lists.proofs.Lists.{consecutive-in, map-same}
+use Rattle.lists.proofs.Lists.{consecutive-in, length-keep, length-consecutive, map-same}
 use Rattle.lists.proofs.Overlay.{length-overlay}
 use Rattle.lists.proofs.Table.{at, every}
-use Rattle.cutting.proofs.RenameLaws.{length-keep}
 use Rattle.joiner.proofs.Accepted.{Passed, stage-same}
 use Rattle.joiner.proofs.Inv.{CrossEdge, EdgeDone, In, Inv, SeamEdge}
 use Rattle.joiner.proofs.Later.{Later, after, cross-inside, edge-inside, inv-later, move-cross, move-seam, same-node, same-sofar, seam-there}
 use Rattle.joiner.proofs.Progress.{crossing-level, point-level, seam-level, stepStage}
 use Rattle.joiner.proofs.Roots.{Connected, connected-more, together-map}
 use Rattle.joiner.proofs.Sizes.{Sizes}
-
-length-consecutive : (i n : ℕ) → length (consecutive i n) ≡ n
-unfolding consecutive
-length-consecutive i zero = refl
-length-consecutive i (suc n) = ap suc (length-consecutive (suc i) n)
 
 pub heads-most : (t : Tables) (κ : Kind) (n : ℕ) → length (heads t κ n) ≤ n
 unfolding heads

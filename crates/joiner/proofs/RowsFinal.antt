@@ -21,14 +21,14 @@ use Rattle.joiner.specs.Declines.{finalOf}
 use Rattle.joiner.specs.Entries.{finalFace, rowAt, rowFinal, shifted}
 use Rattle.joiner.specs.Job.{Curve, Face, Kind, Tables, fromOf, node, orderOf}
 use Rattle.lists.proofs.Cases.{by-test, picked}
-use Rattle.lists.proofs.Lists.{consecutive-out, keep-out, map-same}
+use Rattle.lists.proofs.Lists.{consecutive-out, keep-out, length-keep, map-same}
 use Rattle.cells.proofs.GridLaws.{Upper, length-up, upper-neighbour}
 use Rattle.cells.proofs.RowFacts.{occurrences-sort}
-use Rattle.cells.proofs.RowLaws.{getD-pad, once-positive}
+use Rattle.cells.proofs.RowLaws.{getD-pad, once-positive, length-sort}
 use Rattle.labels.proofs.ComponentLaws.{component-in}
 use Rattle.labels.proofs.CountLaws.{Somewhere, every-number}
 use Rattle.cutting.proofs.BlockLaws.{carried, face-apart, row-through, zero-down, zero-up}
-use Rattle.cutting.proofs.RenameLaws.{Tells, length-keep, length-sort, once-list, sort-map}
+use Rattle.cutting.proofs.RenameLaws.{Tells, once-list, sort-map}
 use Rattle.joiner.proofs.Classes.{Layout, cell-sees, node-inside, order-small, vol, vol-node}
 
 -- the row of a component is that of its first cell

@@ -3,3 +3,4 @@ pub mod ComponentLaws
 pub mod NumberLaws
 pub mod LabelLaws
 pub mod CountLaws
+pub mod OrderCounts

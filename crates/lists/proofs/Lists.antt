@@ -9,7 +9,7 @@ use native.Mathlib.Nat.{le-refl, suc-add, add-suc, add-zero, zero-add}
 use native.Mathlib.Numerals.{add-one}
 use native.Mathlib.Omega.{arith}
 use lib.Dec.{eqb}
-use lib.ListN.{length, getD, set, drop, length-replicate, drop-of-length-le, List·getD-append}
+use lib.ListN.{length, getD, set, drop, length-replicate, length-map, drop-of-length-le, List·getD-append, List·getD-map}
 use lib.Seq.{set-at, drop-cons, getD-append-add, getD-drop}
 use borrow.Author.Tests.{eqb-true, eqb-false}
 use Rattle.lists.specs.Lists.{consecutive, tabulate, keep, zeros}
@@ -40,6 +40,10 @@ module _ {A : Type 0} (f : A → Bool) where
   pub keep-append : (l k : List A) → keep f (l ++ k) ≡ keep f l ++ keep f k
   keep-append [] k = refl
   keep-append (x ∷ l) k = by-test (f x) (λ t. rw (t, keep-append l k)) (λ t. rw (t, keep-append l k))
+
+  pub length-keep : (l : List A) → length (keep f l) ≤ length l
+  length-keep [] = omega arith
+  length-keep (x ∷ l) = picked (λ (r : List A). length r ≤ suc (length l)) (f x) (x ∷ keep f l) (keep f l) (λ t. omega (arith, length-keep l)) (λ t. omega (arith, length-keep l))
 
 -- ---- range
 
@@ -80,6 +84,12 @@ unfolding consecutive
 getD-map-consecutive f i zero p d h = absurd (omega arith)
 getD-map-consecutive f i (suc n) zero d h = ap f (sym (add-zero i))
 getD-map-consecutive f i (suc n) (suc p) d h = getD-map-consecutive f (suc i) n p d (omega arith) ∙ ap f (suc-add i p ∙ sym (add-suc i p))
+
+pub length-consecutive : (i n : ℕ) → length (consecutive i n) ≡ n
+length-consecutive i n = sym (length-map (consecutive i n) (λ k. k)) ∙ length-map-consecutive (λ k. k) i n
+
+pub getD-consecutive : (i n p : ℕ) → p < n → getD (consecutive i n) p 0 ≡ i + p
+getD-consecutive i n p h = sym (List·getD-map (λ k. k) (consecutive i n) p 0) ∙ getD-map-consecutive (λ k. k) i n p 0 h
 
 map-consecutive-snoc : (f : ℕ → ℕ) (i n : ℕ) → map f (consecutive i (suc n)) ≡ map f (consecutive i n) ++ (f (i + n) ∷ [])
 unfolding consecutive

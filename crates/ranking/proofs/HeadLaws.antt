@@ -15,7 +15,7 @@ use Rattle.lists.specs.Lists.{consecutive, keep}
 use Rattle.lists.proofs.Cases.{by-test, picked, and-first, and-second}
 use Rattle.lists.proofs.Lists.{Ascends, ascends-consecutive, ascends-keep, consecutive-in, consecutive-out, getD-in, keep-in, keep-out}
 use Rattle.lists.proofs.Tests.{all-in, all-out, first-in, implied, implies, keep-same}
-use Rattle.closure.proofs.Numbers.{count-same}
+use Rattle.closure.proofs.Numbers.{count-same, keep-count}
 use Rattle.union_find.specs.Links.{root}
 use Rattle.union_find.proofs.LinkLaws.{root-low, root-idem, root-past}
 use Rattle.sorting.specs.Sorting.{rankIn, stable, keyAt, StandsByRank}
@@ -25,7 +25,7 @@ use Rattle.joiner.specs.Job.{Kind, Face, Curve, Point, Tables}
 use Rattle.joiner.specs.Entries.{notAfter, classOf, isOne, leads, heads, rank, headOf}
 use Rattle.ranking.specs.Ranking.{firstOf, firstsOf}
 use Rattle.ranking.proofs.FirstLaws.{first-below}
-use Rattle.ranking.proofs.Places.{place-in, ascends-at, keep-count}
+use Rattle.ranking.proofs.Places.{place-in, ascends-at}
 
 -- ---- classes
 

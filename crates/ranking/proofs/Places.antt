@@ -2,7 +2,6 @@
 -- Assumes nothing.
 use mathlib.Core.Path.{_≡_, refl, sym, ap, _∙_}
 use mathlib.Core.Logic.{_⊎_, inl, inr}
-use mathlib.Core.Bool.{Bool, cond}
 use mathlib.Core.List.{List, [], _∷_, _++_, List·Memᴰ, List·Memᴰ·cases-cons, List·Memᴰ·not-nil}
 use Prim.Native.Nat.{ℕ, zero, suc, _+_, _-_, _≤_, _<_}
 use native.Mathlib.Nat.{zero-add}
@@ -12,12 +11,10 @@ use lib.Dec.{ltb}
 use lib.ListN.{getD, length, set, take, drop, length-drop}
 use lib.Seq.{ext-getD, getD-take, getD-drop, length-take-le, take-at, drop-at}
 use borrow.Author.Tests.{ltb-true, ltb-false}
-use Rattle.lists.specs.Lists.{keep, overlay}
+use Rattle.lists.specs.Lists.{overlay}
 use Rattle.lists.proofs.Cases.{by-test}
 use Rattle.lists.proofs.Lists.{Ascends, ascends-le, getD-in}
 use Rattle.lists.proofs.Overlay.{length-overlay, overlay-at, overlay-behind}
-use Rattle.closure.specs.Numbered.{countBelow}
-use Rattle.closure.proofs.Numbers.{count-hit, count-miss}
 use Rattle.ranking.specs.Ranking.{part}
 
 -- ---- places in a list
@@ -37,24 +34,6 @@ ascends-at b [] a i j h k = absurd (omega arith)
 ascends-at b (x ∷ l) a i zero h k = absurd (omega arith)
 ascends-at b (x ∷ l) a zero (suc j) h k = ascends-le (suc x) l (a .1) (getD-in l j (omega arith))
 ascends-at b (x ∷ l) a (suc i) (suc j) h k = ascends-at (suc x) l (a .1) i j (omega arith) (omega arith)
-
--- A count that begins with the first number.
-count-front : (p : ℕ → Bool) (n : ℕ) → countBelow p (suc n) ≡ cond (p 0) 1 0 + countBelow (λ j. p (suc j)) n
-unfolding countBelow
-count-front p zero = by-test (p 0) (λ t. rw t) (λ t. rw t)
-count-front p (suc n) =
-    by-test (p (suc n))
-    (λ t. omega (arith, count-hit p (suc n) t, count-hit (λ j. p (suc j)) n t, count-front p n))
-    (λ t. omega (arith, count-miss p (suc n) t, count-miss (λ j. p (suc j)) n t, count-front p n))
-
--- How many entries pass a test, by their places.
-pub keep-count : (p : ℕ → Bool) (l : List ℕ) → length (keep p l) ≡ countBelow (λ j. p (getD l j 0)) (length l)
-unfolding countBelow
-keep-count p [] = refl
-keep-count p (x ∷ l) =
-    by-test (p x)
-    (λ t. rw t (omega (arith, count-front (λ j. p (getD (x ∷ l) j 0)) (length l), ap (λ (b : Bool). cond {A = ℕ} b 1 0) t, keep-count p l)))
-    (λ t. rw t (omega (arith, count-front (λ j. p (getD (x ∷ l) j 0)) (length l), ap (λ (b : Bool). cond {A = ℕ} b 1 0) t, keep-count p l)))
 
 -- ---- a table that is written
 

@@ -8,13 +8,12 @@ use native.Mathlib.Nat.{zero-add}
 use native.Mathlib.Numerals.{add-one}
 use native.Mathlib.Omega.{arith}
 use lib.Dec.{eqb}
-use lib.ListN.{getD, length, set, length-append, length-map, List·getD-append}
+use lib.ListN.{getD, length, set, length-append, List·getD-append}
 use lib.Seq.{getD-append-seam}
 use Rattle.lists.specs.Lists.{consecutive, keep, overlay, tabulate}
 use Rattle.lists.proofs.Cases.{by-test}
-use Rattle.lists.proofs.Lists.{consecutive-split, keep-append, length-tabulate}
+use Rattle.lists.proofs.Lists.{consecutive-split, keep-append, length-keep, length-consecutive}
 use Rattle.lists.proofs.Overlay.{length-overlay, overlay-before, overlay-same}
-use Rattle.cutting.proofs.RenameLaws.{length-keep}
 use Rattle.ranking.specs.Ranking.{stands, standing, Standing}
 
 -- ---- the list
@@ -42,7 +41,7 @@ standing-long {cs} {fs} {gs} {n} {x} {h} S = ap length (S .listed) ∙ length-ov
 pub standing-most : {cs fs gs : List ℕ} {n x h : ℕ} → Standing cs n x h fs gs → h ≤ x
 unfolding standing tabulate
 standing-most {cs} {fs} {gs} {n} {x} {h} S =
-    omega (arith, S .total, length-keep (stands cs fs) (consecutive 0 x), length-map (consecutive 0 x) (λ i. i), length-tabulate x (λ i. i))
+    omega (arith, S .total, length-keep (stands cs fs) (consecutive 0 x), length-consecutive 0 x)
 
 module _ (cs fs gs : List ℕ) (n x h : ℕ) (S : Standing cs n x h fs gs) (l : getD cs x 0 < n) where
   stands-same : stands cs gs x ≡ stands cs fs x

@@ -12,7 +12,8 @@ use Rattle.reader.specs.declared.Head.{Head}
 use Rattle.reader.specs.Reading.{Outcome as Reading·Outcome, outcome as Reading·outcome}
 use Rattle.labeller.specs.declared.Labelled.{Labelled}
 use Rattle.labeller.specs.Labelling.{Outcome, outcome}
-use Rattle.service.specs.Exports.{exported, export, exportedWriting, exportWriting, exportedReading, exportReading}
+use Rattle.maxima.specs.declared.Most.{Most}
+use Rattle.service.specs.Exports.{storedCounts, exported, export, exportedMost, exportMost, exportedWriting, exportWriting, exportedReading, exportReading}
 use Rattle.joiner.specs.Job.{Kind, Face, Curve, Point, Tables}
 use Rattle.joiner.specs.Calls.{Call, reading, answer}
 use Rattle.joiner.specs.Entries.{CallStep}
@@ -22,14 +23,24 @@ use Rattle.job.specs.Jobs.{anyCuts, stateOf, tablesOf}
 use Rattle.job_numbers.specs.Numbers.{jobIn, keptNumbers}
 use Rattle.exports.specs.Exports.{ExportedStep, ExportedLookup, RowExported, anyTables, sixOf}
 
-module _ (r : Labelled) (m w c : List ℕ) (o : Outcome) (promise : outcome r m w ≡ o) where
-  pub export-stored : r .refusal ≡ 0 → exported (r .refusal) m w (set (set (set c 0 (r .faces)) 1 (r .curves)) 2 (r .points)) ≡ export o c
-  unfolding export
-  export-stored z = rw (← promise, eq-eqb (r .refusal) 0 z)
+module _ (n f k p : ℕ) (c : List ℕ) where
+  pub counts-stored : n ≡ 0 → set (set (set c 0 f) 1 k) 2 p ≡ storedCounts n f k p c
+  unfolding storedCounts
+  counts-stored z = rw (eq-eqb n 0 z)
 
-  pub export-refused : r .refusal ≢ 0 → exported (r .refusal) m w c ≡ export o c
-  unfolding export
-  export-refused n = rw (← promise, ne-eqb (r .refusal) 0 n)
+  pub counts-kept : n ≢ 0 → c ≡ storedCounts n f k p c
+  unfolding storedCounts
+  counts-kept d = rw (ne-eqb n 0 d)
+
+pub label-exported : (r : Labelled) (m w c c′ : List ℕ) (o : Outcome) → outcome r m w ≡ o → c′ ≡ storedCounts (r .refusal) (r .faces) (r .curves) (r .points) c
+    → exported (r .refusal) m w c′ ≡ export o c
+unfolding export
+label-exported r m w c c′ o promise s = rw (← promise, s)
+
+pub most-exported : (r : Most) (c c′ : List ℕ) (a : Most) → r ≡ a → c′ ≡ storedCounts (r .refusal) (r .faces) (r .curves) (r .points) c
+    → exportedMost (r .refusal) c′ ≡ exportMost a c
+unfolding exportMost
+most-exported r c c′ a promise s = rw (← promise, s)
 
 module _ (a : Written) (t : List ℕ) (l : ℕ) (o : Writing·Outcome) (promise : Writing·outcome a t ≡ o) where
   pub writing-stored : a .refusal ≡ 0 → exportedWriting (a .refusal) t (a .length) ≡ exportWriting o l

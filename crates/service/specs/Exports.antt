@@ -1,4 +1,4 @@
--- An entry's outcome where its answer goes out by a number and lent places: labelling, writing, reading. (For the joiner: crate `exports`.)
+-- An entry's outcome where its answer goes out by a number and lent places: labelling, the largest block, writing, reading. (For the joiner: crate `exports`.)
 -- Assumes nothing.
 use mathlib.Core.Bool.{cond}
 use mathlib.Core.List.{List}
@@ -6,8 +6,13 @@ use Prim.Native.Nat.{ℕ}
 use lib.Dec.{eqb}
 use lib.ListN.{set}
 use Rattle.labeller.specs.Labelling.{Outcome}
+use Rattle.maxima.specs.declared.Most.{Most}
 use Rattle.writer.specs.Writing.{Outcome as Writing·Outcome}
 use Rattle.reader.specs.Reading.{Outcome as Reading·Outcome}
+
+-- The numbers of faces, curves and points go to three places if the call is accepted, and these stay if it is refused.
+unfoldable pub storedCounts : ℕ → ℕ → ℕ → ℕ → List ℕ → List ℕ
+storedCounts refusal faces curves points c = cond (eqb refusal 0) (set (set (set c 0 faces) 1 curves) 2 points) c
 
 -- Of a labelling: the number given back, and what the trays and the three counts hold.
 pub record Exported : Type 0 where
@@ -19,11 +24,21 @@ pub record Exported : Type 0 where
 abbrev pub exported : ℕ → List ℕ → List ℕ → List ℕ → Exported
 exported n m w c = record { refusal = n; map-tray = m; work-tray = w; counts = c }
 
--- The counts of faces, curves and points are stored at the three places if the labelling is accepted, and these stay if it is refused.
 unfoldable pub export : Outcome → List ℕ → Exported
 export o c =
-    exported (o .answer .refusal) (o .map-tray) (o .work-tray)
-    (cond (eqb (o .answer .refusal) 0) (set (set (set c 0 (o .answer .faces)) 1 (o .answer .curves)) 2 (o .answer .points)) c)
+    let a = o .answer in
+    exported (a .refusal) (o .map-tray) (o .work-tray) (storedCounts (a .refusal) (a .faces) (a .curves) (a .points) c)
+
+-- Of the largest block: the number given back, and what the three places hold.
+pub record ExportedMost : Type 0 where
+  pub refusal : ℕ
+  pub counts : List ℕ
+
+abbrev pub exportedMost : ℕ → List ℕ → ExportedMost
+exportedMost n c = record { refusal = n; counts = c }
+
+unfoldable pub exportMost : Most → List ℕ → ExportedMost
+exportMost a c = exportedMost (a .refusal) (storedCounts (a .refusal) (a .faces) (a .curves) (a .points) c)
 
 -- Of a writing: the number given back, what the tray holds, and the length.
 pub record ExportedWriting : Type 0 where

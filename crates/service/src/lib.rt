@@ -5,6 +5,7 @@ use job_numbers::job_in;
 use job_numbers::keep;
 use jobs::Joining;
 use labeller::label;
+use maxima::most_components;
 use reader::read_record;
 use row_reading::Kind;
 use steps::at;
@@ -18,10 +19,22 @@ ghost use Rattle.cells.specs.Box.{triple};
 ghost use Rattle.labeller.specs.Labelling.{labelling};
 ghost use Rattle.writer.specs.Writing.{writing};
 ghost use Rattle.reader.specs.Reading.{reading};
-ghost use Rattle.service.specs.Exports.{exported, export, exportedWriting, exportWriting, exportedReading, exportReading};
+ghost use Rattle.maxima.specs.Maxima.{mostComponents};
+ghost use Rattle.service.specs.Exports.{storedCounts, exported, export, exportedMost, exportMost, exportedWriting, exportWriting, exportedReading, exportReading};
 ghost use Rattle.job_numbers.specs.Numbers.{jobIn};
 ghost use Rattle.exports.specs.Exports.{anyTables, ExportedOpening, ExportedStep, ExportedLookup, RowExported, sixOf};
 ghost use Rattle.row_reading.specs.Inner.{kindOf};
+
+// Stores the numbers of faces, curves and points, unless the call is refused.
+fn store_counts(refusal: u32, faces: u32, curves: u32, points: u32, counts: &mut [u32; 3])
+    ensures { λ r. ⌜ now (counts .exit) ≡ storedCounts refusal faces curves points (now (counts .entry)) ⌝ }
+{
+    if refusal == 0 {
+        counts[0] = faces;
+        counts[1] = curves;
+        counts[2] = points;
+    }
+}
 
 // Labels a block; answers the refusal, 0 for none, and stores how many faces, curves and points there are.
 #[no_mangle]
@@ -38,11 +51,17 @@ pub extern "C" fn tugrelis_label(
         ≡ export (labelling (triple nx ny nz) (now (codes .entry)) (now (map .entry)) (now (work .entry))) (now (counts .entry)) ⌝ }
 {
     let r = label(codes, nx, ny, nz, map, work);
-    if r.refusal == 0 {
-        counts[0] = r.faces;
-        counts[1] = r.curves;
-        counts[2] = r.points;
-    }
+    store_counts(r.refusal, r.faces, r.curves, r.points, counts);
+    r.refusal
+}
+
+// Tells the most faces, curves and points that a block can have; answers the refusal, 0 for none, and stores the three numbers.
+#[no_mangle]
+pub extern "C" fn tugrelis_most_components(nx: u16, ny: u16, nz: u16, counts: &mut [u32; 3]) -> u32
+    ensures { λ r. ⌜ exportedMost r (now (counts .exit)) ≡ exportMost (mostComponents (triple nx ny nz)) (now (counts .entry)) ⌝ }
+{
+    let r = most_components(nx, ny, nz);
+    store_counts(r.refusal, r.faces, r.curves, r.points, counts);
     r.refusal
 }
 

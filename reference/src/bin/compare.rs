@@ -1,10 +1,12 @@
 //! Compares the proved code with the second implementation over seeded random blocks.
 //! Usage: compare SEED BLOCKS [--spoil WHAT]. With --spoil one answer of the proved code to WHAT is changed before it is
-//! compared, which must be reported. After 1,000 blocks or more comes one of 64×64×64. Exits 1 if anything differs, and
-//! prints the first difference.
+//! compared, which must be reported. After 1,000 blocks or more come one of 64×64×64, all extents up to 5 with the most
+//! components that a search finds, and 64×64×64 with all codes different. Exits 1 if anything differs, and prints the first
+//! difference.
 use reference::codec::{self, Head};
 use reference::grid::Grid;
 use reference::label;
+use reference::maxima::{different, most, search};
 use reference::random::{damage, volume, Random};
 use std::collections::BTreeMap;
 use std::fmt::{Debug, Write};
@@ -13,12 +15,13 @@ use std::slice::from_mut;
 
 extern "C" {
     fn tugrelis_label(codes: *const u32, codes_len: usize, nx: u16, ny: u16, nz: u16, map: *mut u32, map_len: usize, work: *mut u32, work_len: usize, counts: *mut [u32; 3]) -> u32;
+    fn tugrelis_most_components(nx: u16, ny: u16, nz: u16, counts: *mut [u32; 3]) -> u32;
     fn tugrelis_write_record(nx: u16, ny: u16, nz: u16, ox: u16, oy: u16, oz: u16, map: *const u32, map_len: usize, tray: *mut u8, tray_len: usize, size: *mut usize) -> u32;
     fn tugrelis_read_record(bytes: *const u8, bytes_len: usize, map: *mut u32, map_len: usize, fields: *mut [u16; 6]) -> u32;
 }
 
 /// What is compared, by the names that --spoil takes.
-const WHATS: [&str; 10] = ["label", "counts", "map", "work", "write", "length", "record", "read", "fields", "back"];
+const WHATS: [&str; 12] = ["label", "counts", "map", "work", "most", "maxima", "write", "length", "record", "read", "fields", "back"];
 
 /// Places before and behind every lent tray, which must stay as they are.
 const GUARD: usize = 5;
@@ -105,6 +108,16 @@ impl Comparison {
         answer.ok().map(|_| other_map[m].to_vec())
     }
 
+    /// The most components of a block, beside what was found for these extents.
+    fn most(&mut self, extents: [u16; 3], expected: Result<[u32; 3], u32>) {
+        let ([nx, ny, nz], mut maxima) = (extents, [77; 3]);
+        let input = || format!("extents {extents:?}");
+        // Safe: as above.
+        let refusal = unsafe { tugrelis_most_components(nx, ny, nz, &mut maxima) };
+        self.refusal("most", refusal, expected.err().unwrap_or(0), &input);
+        self.same("maxima", &mut maxima, &expected.unwrap_or([77; 3]), &input);
+    }
+
     fn write(&mut self, head: Head, map: &[u32], tray_length: usize) -> Option<Vec<u8>> {
         let [nx, ny, nz, ox, oy, oz] = head;
         let (mut tray, mut size) = (self.bytes(tray_length), 77);
@@ -170,6 +183,7 @@ impl Comparison {
         codes.resize(length, 1);
         let (m, w) = (self.length(grid.cells()), self.length(grid.cells()));
         let labelled = self.label(called, &codes, m, w);
+        self.most(called, most(called));
         let map = self.map(&grid, labelled);
         self.records(extents, &grid, map);
     }
@@ -184,6 +198,19 @@ impl Comparison {
                 self.read(&record, map.len());
             }
         }
+    }
+
+    /// All extents up to 5 beside a search over blocks; the largest extents, and the block of all different codes that reaches them.
+    fn maxima(&mut self) {
+        for n in 0..125 {
+            let extents = [n % 5, n / 5 % 5, n / 25].map(|k| 1 + k as u16);
+            let found = search(&mut self.random, extents);
+            self.most(extents, Ok(found));
+        }
+        let grid = Grid::new([64; 3]);
+        let codes = different(grid.voxels());
+        let map = self.label([64; 3], &codes, grid.cells(), grid.cells()).expect("extents of 64");
+        self.most([64; 3], Ok([2, 1, 0].map(|order| label::largest(&grid, &map, order))));
     }
 
     /// The labelled map, or one with numbers that no labelling gives.
@@ -265,6 +292,7 @@ fn main() {
     }
     if blocks >= 1000 {
         c.largest();
+        c.maxima();
     }
     let mut given = String::new();
     for ((what, refusal), times) in &c.given {

@@ -1,21 +1,14 @@
 -- `service::tugrelis_label` meets its contract.
-use Prim.Native.Nat.{_-_}
 use borrow.Author.Needs.{needs}
-use Rattle.service.proofs.ExportLaws.{export-stored, export-refused}
+use Rattle.service.proofs.ExportLaws.{label-exported}
 use Rattle.service.proofs.tugrelis_label.Statement.{statement}
 use Rattle.service.proofs.tugrelis_label.Tie as tie
 
 label-requires : tie.Need-label-requires
 label-requires c κs = search needs
 
-element-write-counts : tie.Need-element-write-counts
-element-write-counts c = search needs
-
-element-write-counts-2 : tie.Need-element-write-counts-2
-element-write-counts-2 c = search needs
-
-element-write-counts-3 : tie.Need-element-write-counts-3
-element-write-counts-3 c = search needs
+store-counts-requires : tie.Need-store-counts-requires
+store-counts-requires c κs = search needs
 
 same-length : tie.Need-same-length
 same-length c = search needs
@@ -25,31 +18,9 @@ same-length-2 c = search needs
 
 returns : tie.Need-returns
 returns c =
-    let l = c .before .before .before .before .before .before in
-    export-stored (l .label .result) _ _ _ _ (l .label .ensures) (c .if1 .taken)
-
-same-length-3 : tie.Need-same-length-3
-same-length-3 c = search needs
-
-same-length-4 : tie.Need-same-length-4
-same-length-4 c = search needs
-
-returns-2 : tie.Need-returns-2
-returns-2 c =
-    let l = c .before .before .before .before .before .before in
-    export-refused (l .label .result) _ _ _ _ (l .label .ensures) (c .if1 .left)
+    let lent = c .before .before .before in
+    let l = lent .before .before .before in
+    label-exported (l .label .result) _ _ _ _ _ (l .label .ensures) (c .store-counts .ensures)
 
 pub tugrelis-label-spec : {M : Type 1} → statement M
-tugrelis-label-spec =
-    tie.close
-    (tie.spec
-    label-requires
-    element-write-counts
-    element-write-counts-2
-    element-write-counts-3
-    same-length
-    same-length-2
-    returns
-    same-length-3
-    same-length-4
-    returns-2)
+tugrelis-label-spec = tie.close (tie.spec label-requires store-counts-requires same-length same-length-2 returns)

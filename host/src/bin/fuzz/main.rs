@@ -1,5 +1,5 @@
 //! Calls every entry with arbitrary numbers for jobs, cut lists, tables, maps and records: fuzz SEED ROUNDS [--untimed] [--spoil WHAT].
-//! A round is a block labelled, written and read, or some calls of a joiner's job that is honest but for numbers changed here and there. Compared
+//! A round is a block labelled, measured by the largest one, written and read, or some calls of a joiner's job that is honest but for numbers changed here and there. Compared
 //! with the second implementation are each call's refusal, the number or row of each accepted reading, and job and tables after each accepted step, as far
 //! as the rules tell them. Lent tables stand between guards; after a refusal or a reading every lent place must hold what it held, and the guards always. Every refusal of every entry must have come, and every reason for 8.
 //! No call may take longer than the numbers that it is lent can explain; long tables are made for that. --untimed leaves this out: for valgrind, which
@@ -21,7 +21,7 @@ use tugrelis::{cells, raw};
 const SPOILS: [&str; 7] = ["refusal", "number", "row", "left", "kept", "guards", "time"];
 
 /// What must come in a long run: the refusals of each entry, with the reasons for 8.
-const COME: [(&str, &str); 12] = [
+const COME: [(&str, &str); 13] = [
     ("open", "0,1,2,6"),
     ("enrol", "0,1,2,3,4,5,6,8 Tally,8 Map,10"),
     ("seam", "0,1,2,3,4,5,6,8 Tally,8 Map,8 Place,8 Way,8 Below,9"),
@@ -32,6 +32,7 @@ const COME: [(&str, &str); 12] = [
     ("curve row", "0,1,3,4,6,8 Tally"),
     ("point row", "0,1,3,4,6,8 Tally"),
     ("label", "0,1,6,7"),
+    ("most", "0,1"),
     ("write", "0,1,6,8"),
     ("read", "0,1,6,11"),
 ];
@@ -171,7 +172,7 @@ impl Fuzz {
         }
     }
 
-    /// A call of the labeller, the writer or the reader: nothing changes if it was refused, and no guard ever.
+    /// A call of the labeller, the largest block, the writer or the reader: nothing changes if it was refused, and no guard ever.
     fn judge(&mut self, what: &'static str, refusal: u32, kept: bool, guards: bool) {
         self.calls += 1;
         *self.given.entry((what, refusal.to_string())).or_default() += 1;
@@ -195,6 +196,10 @@ impl Fuzz {
         let before = (map.clone(), work.clone(), counts);
         let refusal = raw::label(&codes, nx, ny, nz, part(&mut map), part(&mut work), &mut counts);
         self.judge("label", refusal, before == (map.clone(), work.clone(), counts), holds(&map) && holds(&work));
+        let mut maxima = guarded(&counts);
+        let places: &mut [u32; 3] = part(&mut maxima).try_into().expect("three places");
+        let refusal = raw::most_components(nx, ny, nz, places);
+        self.judge("most", refusal, part(&mut maxima) == counts, holds(&maxima));
         let room = 12 + size.div_ceil(8) + 4 * size + self.random.below(5);
         let mut tray = guarded(&vec![9u8; room.saturating_sub(self.random.below(3) * 4)]);
         let mut length = 7;

@@ -1,0 +1,106 @@
+-- What `label` answers beside what `most_components` answers for the same extents. The premises are the promises of the two entries.
+-- Assumes nothing.
+use mathlib.Core.Path.{_≡_, refl, ap, _∙_}
+use mathlib.Core.Bool.{false}
+use mathlib.Core.List.{List, map}
+use Prim.Native.Nat.{ℕ, zero, suc, _≤_, _<_}
+use native.Mathlib.Omega.{arith}
+use lib.Dec.{eqb}
+use lib.ListN.{length, getD}
+use borrow.Author.Tests.{eqb-true, eqb-false, eq-eqb, ne-eqb}
+use Rattle.lists.proofs.Cases.{by-test}
+use Rattle.lists.specs.Lists.{consecutive, tabulate}
+use Rattle.lists.proofs.Lists.{length-tabulate, getD-tabulate}
+use Rattle.cells.specs.Box.{Triple, volume}
+use Rattle.cells.specs.Codes.{blank}
+use Rattle.cells.specs.Extents.{offSize}
+use Rattle.cells.specs.Grid.{cells}
+use Rattle.cells.proofs.ExtentLaws.{volume-high}
+use Rattle.extents.proofs.SizeLaws.{sized-of}
+use Rattle.labels.specs.Number.{labels}
+use Rattle.labels.specs.Components.{largest}
+use Rattle.labels.specs.OrderCounts.{cellsOfOrder}
+use Rattle.labeller.specs.declared.Labelled.{Labelled}
+use Rattle.labeller.specs.Labelling.{Outcome, outcome, labelling, wrongTray, refusalOf, refused}
+use Rattle.labeller.proofs.LabellingLaws.{refusal-is}
+use Rattle.labeller.proofs.OneBlock.{label-refusal, label-refused, label-map, label-counts}
+use Rattle.maxima.specs.declared.Most.{Most}
+use Rattle.maxima.specs.Maxima.{DifferentCodes, countedCodes, accepted, mostComponents}
+use Rattle.maxima.proofs.MaximaLaws.{most, reached, different-codes, most-accepted}
+
+module _ (e : Triple) (codes m w : List ℕ) (r : Labelled) (m′ w′ : List ℕ) (promise : outcome r m′ w′ ≡ labelling e codes m w)
+    (s : Most) (answered : s ≡ mostComponents e) where
+  module _ (fine : r .refusal ≡ 0) where
+    -- an accepted labelling has extents that are not off size
+    sized : offSize 64 e ≡ false
+    sized =
+        by-test (offSize 64 e)
+        (λ t.
+        let one : r .refusal ≡ 1 = label-refusal e codes m w r m′ w′ promise ∙ refusal-is e codes (length m) (length w) ∙ rw t in
+        absurd (omega arith))
+        (λ t. t)
+
+    told : s ≡ accepted e
+    told = answered ∙ most-accepted e sized
+
+    -- the counts of the labelling are those of the definition
+    counted : (j : ℕ) → largest e m′ j ≡ largest e (labels e codes) j
+    counted j = ap (λ (n : List ℕ). largest e n j) (label-map e codes m w r m′ w′ promise fine)
+
+    counts : (r .faces ≡ largest e m′ 2) × (r .curves ≡ largest e m′ 1) × (r .points ≡ largest e m′ 0)
+    counts = label-counts e codes m w r m′ w′ promise fine
+
+    tells : (s .faces ≡ cellsOfOrder e 2) × (s .curves ≡ cellsOfOrder e 1) × (s .points ≡ cellsOfOrder e 0)
+    unfolding accepted
+    tells = (ap (λ (a : Most). a .faces) told, ap (λ (a : Most). a .curves) told, ap (λ (a : Most). a .points) told)
+
+    accepted-most : (r .faces ≤ s .faces) × (r .curves ≤ s .curves) × (r .points ≤ s .points)
+    accepted-most = (
+      omega (arith, counts .0, counted 2, tells .0, most e codes 2 (omega arith)),
+      omega (arith, counts .1, counted 1, tells .1, most e codes 1 (omega arith)),
+      omega (arith, counts .2, counted 0, tells .2, most e codes 0 (omega arith)),
+    )
+
+    -- Accepted, with all codes different: as many as `most_components` answers.
+    pub label-reached : DifferentCodes e codes → (r .faces ≡ s .faces) × (r .curves ≡ s .curves) × (r .points ≡ s .points)
+    label-reached D =
+        let same : (j : ℕ) → j < 3 → largest e (labels e codes) j ≡ cellsOfOrder e j = reached e codes (different-codes e codes D) in (
+          omega (arith, counts .0, counted 2, tells .0, same 2 (omega arith)),
+          omega (arith, counts .1, counted 1, tells .1, same 1 (omega arith)),
+          omega (arith, counts .2, counted 0, tells .2, same 0 (omega arith)),
+        )
+
+  -- No call of `label`, refused or not, answers more faces, curves or points than `most_components`.
+  pub label-most : (r .faces ≤ s .faces) × (r .curves ≤ s .curves) × (r .points ≤ s .points)
+  unfolding refused
+  label-most =
+      by-test (eqb (r .refusal) 0)
+      (λ t. accepted-most (eqb-true (r .refusal) 0 t))
+      (λ t.
+      let n = label-refused e codes m w r m′ w′ promise (eqb-false (r .refusal) 0 t) in (
+        omega (arith, ap (λ (o : Outcome). o .answer .faces) n),
+        omega (arith, ap (λ (o : Outcome). o .answer .curves) n),
+        omega (arith, ap (λ (o : Outcome). o .answer .points) n),
+      ))
+
+-- ---- such a call there is, for every block: the codes 1, 2, 3, ..
+
+no-blank : (i n : ℕ) → blank (map suc (consecutive i n)) ≡ false
+unfolding blank consecutive
+no-blank i zero = refl
+no-blank i (suc n) = rw (ne-eqb (suc i) 0 (omega arith)) (no-blank (suc i) n)
+
+module _ (e : Triple) (fits : offSize 64 e ≡ false) where
+  -- "A voxel's code is 1 to 4,294,967,295."
+  pub counted-codes : (v : ℕ) → v < volume e → (1 ≤ getD (countedCodes e) v 0) × (getD (countedCodes e) v 0 ≤ 4294967295)
+  unfolding countedCodes
+  counted-codes v h =
+      let c = getD-tabulate (volume e) suc v h in
+      let n : volume e ≤ 262144 = volume-high (sized-of 64 e fits) in
+      (omega arith, omega arith)
+
+  pub counted-accepted : refusalOf e (countedCodes e) (cells e) (cells e) ≡ 0
+  unfolding countedCodes tabulate wrongTray
+  counted-accepted =
+      refusal-is e (countedCodes e) (cells e) (cells e)
+      ∙ rw (fits, eq-eqb (length (countedCodes e)) (volume e) (length-tabulate (volume e) suc), eq-eqb (cells e) (cells e) refl, no-blank 0 (volume e))
