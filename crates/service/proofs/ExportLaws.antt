@@ -6,6 +6,7 @@ use mathlib.Core.List.{List, []}
 use Prim.Native.Nat.{ℕ}
 use lib.ListN.{set}
 use borrow.Author.Tests.{eq-eqb, ne-eqb}
+use Rattle.counts.specs.Counts.{storedCounts}
 use Rattle.writer.specs.declared.Written.{Written}
 use Rattle.writer.specs.Writing.{Outcome as Writing·Outcome, outcome as Writing·outcome}
 use Rattle.reader.specs.declared.Head.{Head}
@@ -13,7 +14,7 @@ use Rattle.reader.specs.Reading.{Outcome as Reading·Outcome, outcome as Readin
 use Rattle.labeller.specs.declared.Labelled.{Labelled}
 use Rattle.labeller.specs.Labelling.{Outcome, outcome}
 use Rattle.maxima.specs.declared.Most.{Most}
-use Rattle.service.specs.Exports.{storedCounts, exported, export, exportedMost, exportMost, exportedWriting, exportWriting, exportedReading, exportReading}
+use Rattle.service.specs.Exports.{exported, export, exportedMost, exportMost, exportedWriting, exportWriting, exportedReading, exportReading}
 use Rattle.joiner.specs.Job.{Kind, Face, Curve, Point, Tables}
 use Rattle.joiner.specs.Calls.{Call, reading, answer}
 use Rattle.joiner.specs.Entries.{CallStep}
@@ -22,15 +23,6 @@ use Rattle.job.specs.declared.Stage.{Stage}
 use Rattle.job.specs.Jobs.{anyCuts, stateOf, tablesOf}
 use Rattle.job_numbers.specs.Numbers.{jobIn, keptNumbers}
 use Rattle.exports.specs.Exports.{ExportedStep, ExportedLookup, RowExported, anyTables, sixOf}
-
-module _ (n f k p : ℕ) (c : List ℕ) where
-  pub counts-stored : n ≡ 0 → set (set (set c 0 f) 1 k) 2 p ≡ storedCounts n f k p c
-  unfolding storedCounts
-  counts-stored z = rw (eq-eqb n 0 z)
-
-  pub counts-kept : n ≢ 0 → c ≡ storedCounts n f k p c
-  unfolding storedCounts
-  counts-kept d = rw (ne-eqb n 0 d)
 
 pub label-exported : (r : Labelled) (m w c c′ : List ℕ) (o : Outcome) → outcome r m w ≡ o → c′ ≡ storedCounts (r .refusal) (r .faces) (r .curves) (r .points) c
     → exported (r .refusal) m w c′ ≡ export o c

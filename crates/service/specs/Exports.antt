@@ -5,14 +5,11 @@ use mathlib.Core.List.{List}
 use Prim.Native.Nat.{ℕ}
 use lib.Dec.{eqb}
 use lib.ListN.{set}
+use Rattle.counts.specs.Counts.{storedCounts}
 use Rattle.labeller.specs.Labelling.{Outcome}
 use Rattle.maxima.specs.declared.Most.{Most}
 use Rattle.writer.specs.Writing.{Outcome as Writing·Outcome}
 use Rattle.reader.specs.Reading.{Outcome as Reading·Outcome}
-
--- The numbers of faces, curves and points go to three places if the call is accepted, and these stay if it is refused.
-unfoldable pub storedCounts : ℕ → ℕ → ℕ → ℕ → List ℕ → List ℕ
-storedCounts refusal faces curves points c = cond (eqb refusal 0) (set (set (set c 0 faces) 1 curves) 2 points) c
 
 -- Of a labelling: the number given back, and what the trays and the three counts hold.
 pub record Exported : Type 0 where
@@ -24,6 +21,7 @@ pub record Exported : Type 0 where
 abbrev pub exported : ℕ → List ℕ → List ℕ → List ℕ → Exported
 exported n m w c = record { refusal = n; map-tray = m; work-tray = w; counts = c }
 
+-- The counts of faces, curves and points are stored at the three places, which held c, if the labelling is accepted.
 unfoldable pub export : Outcome → List ℕ → Exported
 export o c =
     let a = o .answer in
@@ -37,6 +35,7 @@ pub record ExportedMost : Type 0 where
 abbrev pub exportedMost : ℕ → List ℕ → ExportedMost
 exportedMost n c = record { refusal = n; counts = c }
 
+-- The most faces, curves and points are stored at the three places, which held c, if the call is accepted.
 unfoldable pub exportMost : Most → List ℕ → ExportedMost
 exportMost a c = exportedMost (a .refusal) (storedCounts (a .refusal) (a .faces) (a .curves) (a .points) c)
 

@@ -1,4 +1,5 @@
 // The entries, exported for programs in C and Rust. A slice goes in as a pointer and a length, an array as a pointer.
+use counts::store_counts;
 use job::Job;
 use job::Stage;
 use job_numbers::job_in;
@@ -20,21 +21,10 @@ ghost use Rattle.labeller.specs.Labelling.{labelling};
 ghost use Rattle.writer.specs.Writing.{writing};
 ghost use Rattle.reader.specs.Reading.{reading};
 ghost use Rattle.maxima.specs.Maxima.{mostComponents};
-ghost use Rattle.service.specs.Exports.{storedCounts, exported, export, exportedMost, exportMost, exportedWriting, exportWriting, exportedReading, exportReading};
+ghost use Rattle.service.specs.Exports.{exported, export, exportedMost, exportMost, exportedWriting, exportWriting, exportedReading, exportReading};
 ghost use Rattle.job_numbers.specs.Numbers.{jobIn};
 ghost use Rattle.exports.specs.Exports.{anyTables, ExportedOpening, ExportedStep, ExportedLookup, RowExported, sixOf};
 ghost use Rattle.row_reading.specs.Inner.{kindOf};
-
-// Stores the numbers of faces, curves and points, unless the call is refused.
-fn store_counts(refusal: u32, faces: u32, curves: u32, points: u32, counts: &mut [u32; 3])
-    ensures { λ r. ⌜ now (counts .exit) ≡ storedCounts refusal faces curves points (now (counts .entry)) ⌝ }
-{
-    if refusal == 0 {
-        counts[0] = faces;
-        counts[1] = curves;
-        counts[2] = points;
-    }
-}
 
 // Labels a block; answers the refusal, 0 for none, and stores how many faces, curves and points there are.
 #[no_mangle]

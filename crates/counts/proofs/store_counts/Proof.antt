@@ -1,8 +1,8 @@
--- `service::store_counts` meets its contract.
+-- `counts::store_counts` meets its contract.
 use borrow.Author.Needs.{needs}
-use Rattle.service.proofs.ExportLaws.{counts-stored, counts-kept}
-use Rattle.service.proofs.store_counts.Statement.{statement}
-use Rattle.service.proofs.store_counts.Tie as tie
+use Rattle.counts.proofs.StoredLaws.{counts-stored, counts-kept}
+use Rattle.counts.proofs.store_counts.Statement.{statement}
+use Rattle.counts.proofs.store_counts.Tie as tie
 
 element-write-counts : tie.Need-element-write-counts
 element-write-counts c = search needs

@@ -1,0 +1,18 @@
+-- The ways of `store_counts`.
+-- Assumes nothing.
+use mathlib.Core.Path.{_≡_}
+use mathlib.Core.Logic.{_≢_}
+use mathlib.Core.List.{List}
+use Prim.Native.Nat.{ℕ}
+use lib.ListN.{set}
+use borrow.Author.Tests.{eq-eqb, ne-eqb}
+use Rattle.counts.specs.Counts.{storedCounts}
+
+module _ (n f k p : ℕ) (c : List ℕ) where
+  pub counts-stored : n ≡ 0 → set (set (set c 0 f) 1 k) 2 p ≡ storedCounts n f k p c
+  unfolding storedCounts
+  counts-stored z = rw (eq-eqb n 0 z)
+
+  pub counts-kept : n ≢ 0 → c ≡ storedCounts n f k p c
+  unfolding storedCounts
+  counts-kept d = rw (ne-eqb n 0 d)
