@@ -114,6 +114,19 @@ static void look(const struct job *j, uint32_t block, const uint32_t map[CELLS],
     printf("\n");
 }
 
+/* Opens the job and takes it through enrolments, seam and crossings. */
+static void join(struct job *j, uint32_t maps[BLOCKS][CELLS]) {
+    uint32_t b;
+    expect("open", open_job(j), 0);
+    for (b = 0; b < BLOCKS; b++) {
+        expect("enrol", enrol(j, b, maps[b]), 0);
+    }
+    expect("seam", seam(j, maps[0], maps[1]), 0);
+    for (b = 0; b < BLOCKS; b++) {
+        expect("crossing", crossing(j, b, maps[b]), 0);
+    }
+}
+
 int main(void) {
     static const uint32_t codes[2][4] = {{1, 2, 3, 4}, {2, 2, 4, 4}};
     static const uint32_t maps_right[2][CELLS] = {{1, 1, 2, 2, 1, 3, 3, 4, 4}, {2, 0, 2, 1, 0, 1, 4, 0, 4}};
@@ -126,14 +139,7 @@ int main(void) {
     for (b = 0; b < BLOCKS; b++) {
         label(b, codes[b], maps[b], maps_right[b]);
     }
-    expect("open", open_job(&job), 0);
-    for (b = 0; b < BLOCKS; b++) {
-        expect("enrol", enrol(&job, b, maps[b]), 0);
-    }
-    expect("seam", seam(&job, maps[0], maps[1]), 0);
-    for (b = 0; b < BLOCKS; b++) {
-        expect("crossing", crossing(&job, b, maps[b]), 0);
-    }
+    join(&job, maps);
 
     /* a refused call answers why, and changes nothing */
     before = job;

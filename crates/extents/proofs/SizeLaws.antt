@@ -4,7 +4,8 @@ use mathlib.Core.Path.{_≡_}
 use mathlib.Core.Bool.{true, false, _&&_}
 use Prim.Native.Nat.{ℕ, _≤_}
 use lib.Dec.{leb}
-use borrow.Author.Tests.{leb-true, not-false}
+use native.Mathlib.Omega.{arith}
+use borrow.Author.Tests.{leb-true, le-leb, not-false}
 use Rattle.lists.proofs.Cases.{and-first, and-second, neither}
 use Rattle.cells.specs.Box.{Triple}
 use Rattle.cells.specs.Extents.{Sized, isExtent, offSize, offPlace}
@@ -36,6 +37,19 @@ sized-of limit e t =
       y-high = extent-high limit (e .y) on-y;
       z-high = extent-high limit (e .z) on-z;
     }
+
+-- Extents within a limit are not off size for a limit that is as large or larger.
+pub size-fits : (limit most : ℕ) (e : Triple) → limit ≤ most → Sized limit e → offSize most e ≡ false
+unfolding offSize isExtent
+size-fits limit most e h s =
+    rw (
+      le-leb 1 (e .x) (s .x-low),
+      le-leb (e .x) most (omega (arith, s .x-high)),
+      le-leb 1 (e .y) (s .y-low),
+      le-leb (e .y) most (omega (arith, s .y-high)),
+      le-leb 1 (e .z) (s .z-low),
+      le-leb (e .z) most (omega (arith, s .z-high)),
+    )
 
 -- A block in its place is of a right size.
 pub sized-at : (e o : Triple) → offPlace e o ≡ false → Sized 64 e

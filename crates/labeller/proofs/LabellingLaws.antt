@@ -16,7 +16,7 @@ use Rattle.cells.specs.Box.{Triple, volume}
 use Rattle.cells.specs.Grid.{cells}
 use Rattle.cells.specs.Codes.{blank}
 use Rattle.cells.specs.Extents.{offSize}
-use Rattle.extents.proofs.SizeLaws.{sized-of}
+use Rattle.extents.proofs.SizeLaws.{sized-of, size-fits}
 use Rattle.labels.specs.Number.{numbered, codeAt, mapDown, labels}
 use Rattle.labels.specs.Components.{largest}
 use Rattle.labels.proofs.CountLaws.{count-down}
@@ -52,6 +52,13 @@ ready-of e codes n m h =
       map-is = eqb-true _ _ (and-first (eqb n (cells e)) (eqb m (cells e)) b);
       work-is = eqb-true _ _ (and-second (eqb n (cells e)) (eqb m (cells e)) b);
     }
+
+-- and nothing is refused where all that is right and no code is 0
+pub ready-accepted : (e : Triple) (codes : List ℕ) (n m : ℕ) → Ready e (length codes) n m → blank codes ≡ false → refusalOf e codes n m ≡ 0
+unfolding wrongTray
+ready-accepted e codes n m r b =
+    refusal-is e codes n m
+    ∙ rw (size-fits 64 64 e (omega arith) (r .sized), eq-eqb (length codes) (volume e) (r .codes-are), eq-eqb n (cells e) (r .map-is), eq-eqb m (cells e) (r .work-is), b)
 
 -- ---- the ways of `label`
 

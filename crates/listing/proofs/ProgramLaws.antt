@@ -7,14 +7,13 @@ use mathlib.Core.List.{List}
 use Prim.Native.Nat.{ℕ}
 use native.Mathlib.Omega.{arith}
 use lib.ListN.{length, take}
-use borrow.Author.Tests.{eq-eqb, ne-eqb, le-leb}
+use borrow.Author.Tests.{eq-eqb, ne-eqb}
 use Rattle.lists.specs.Lists.{zeros}
-use Rattle.refusals.specs.Refusals.{number, table, first, givenBy, standsIn}
 use Rattle.cells.specs.Box.{Triple, volume}
 use Rattle.cells.specs.Codes.{blank}
-use Rattle.cells.specs.Extents.{Sized, isExtent, offSize}
+use Rattle.cells.specs.Extents.{Sized}
 use Rattle.cells.specs.Grid.{cells}
-use Rattle.extents.proofs.SizeLaws.{sized-of}
+use Rattle.extents.proofs.SizeLaws.{sized-of, size-fits}
 use Rattle.labels.specs.Number.{labels}
 use Rattle.text.specs.Request.{textRefusal, askedExtents, askedCodes}
 use Rattle.text.specs.Listing.{refusedLine, printed}
@@ -23,28 +22,19 @@ use Rattle.parser.specs.Scanning.{state, begun, after}
 use Rattle.parser.specs.Reading.{Outcome, taskOf, finished}
 use Rattle.parser.proofs.TextLaws.{accepted-of, text-read}
 use Rattle.labeller.specs.Labelling as labeller
+use Rattle.labeller.proofs.LabellingLaws.{ready-accepted}
 use Rattle.printer.specs.Printing as printer
 use Rattle.printer.proofs.LabelledLaws.{labels-printed}
-
--- extents up to 8 are extents up to 64
-block-size : (e : Triple) → Sized 8 e → offSize 64 e ≡ false
-unfolding offSize isExtent
-block-size e s =
-    rw (
-      le-leb 1 (e .x) (s .x-low),
-      le-leb (e .x) 64 (omega (arith, s .x-high)),
-      le-leb 1 (e .y) (s .y-low),
-      le-leb (e .y) 64 (omega (arith, s .y-high)),
-      le-leb 1 (e .z) (s .z-low),
-      le-leb (e .z) 64 (omega (arith, s .z-high)),
-    )
 
 -- ---- the program
 
 labelled : (e : Triple) (codes m w : List ℕ) → Sized 8 e → length codes ≡ volume e → blank codes ≡ false → length m ≡ cells e → length w ≡ cells e
     → labeller.labelling e codes m w ≡ labeller.accepted e codes
-unfolding labeller.labelling labeller.refusalOf labeller.declines labeller.wrongTray givenBy first table number standsIn
-labelled e codes m w s k b i j = rw (block-size e s, eq-eqb _ _ k, eq-eqb _ _ i, eq-eqb _ _ j, b)
+unfolding labeller.labelling
+labelled e codes m w s k b i j =
+    let ready : labeller.Ready e (length codes) (length m) (length w) = record { sized = sized-of 64 e (size-fits 8 64 e (omega arith) s); codes-are = k; map-is = i; work-is = j } in
+    let z : labeller.refusalOf e codes (length m) (length w) ≡ 0 = ready-accepted e codes (length m) (length w) ready b in
+    rw z
 
 -- A text read in whole, in any chunks (`after-append`), into a tray of 512 places.
 module _ (text d : List ℕ) (room : length d ≡ 512) where

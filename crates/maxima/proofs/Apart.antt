@@ -1,5 +1,5 @@
--- One order over the one above: where the numbers of order j + 1 are pairwise different, every cell of order j below 3 is active, and two such cells with one
--- row are one cell. Not the rows' lists are compared but sums over them: of the places of their numbers, which give the sum of the upper neighbours.
+-- One order over the one above: where the numbers of order j + 1 all differ, every cell of order j below 3 is active, and two such cells with one row are one
+-- cell. Rows are compared by sums: a row gives the sum of the cell's upper neighbours, and that sum gives the cell.
 -- Assumes nothing.
 use mathlib.Core.Path.{_≡_, refl, sym, ap, _∙_}
 use mathlib.Core.Bool.{true}
@@ -18,9 +18,12 @@ use Rattle.cells.proofs.GridLaws.{Upper, upper-neighbour, length-up}
 use Rattle.cells.proofs.RowFacts.{occurs-first, occurs, occurrences-renamed}
 use Rattle.labels.specs.Components.{firstCell}
 use Rattle.labels.proofs.ComponentLaws.{Belongs, belongs-at}
-use Rattle.maxima.specs.Maxima.{DifferentNumbers}
 use Rattle.maxima.proofs.Sums.{sumOver, sum-told, sum-constant, StandsOnce, sum-row, row-occupied}
 use Rattle.maxima.proofs.UpperLaws.{up-once, sum-apart}
+
+-- The numbers that a map has at the cells of order i all differ. For order 3 these are the numbers at the voxels. One of them may be 0.
+pub record DifferentNumbers (e : Triple) (m : List ℕ) (i : ℕ) : Type 0 where
+  pub apart : (p q : ℕ) → p < cells e → q < cells e → order e p ≡ i → order e q ≡ i → getD m p 0 ≡ getD m q 0 → p ≡ q
 
 -- of two different entries, which f tells apart, one has another value than 0
 some-number : (f : ℕ → ℕ) (l : List ℕ) → 2 ≤ length l → ((v : ℕ) → occurrences v l ≤ 1) → ((x y : ℕ) → List·Memᴰ x l → List·Memᴰ y l → f x ≡ f y → x ≡ y)

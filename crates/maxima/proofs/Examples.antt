@@ -20,7 +20,8 @@ pub largest-extents : mostComponents (triple 64 64 64) ≡ record { refusal = 0;
 unfolding isExtent offSize givenBy first table number standsIn declines refusalOf cellsOfOrder accepted mostComponents
 largest-extents = refl
 
-pub refused-extents : map mostComponents (triple 0 1 1 ∷ triple 1 65 1 ∷ triple 64 64 65535 ∷ []) ≡ refused 1 ∷ refused 1 ∷ refused 1 ∷ []
+pub refused-extents : map mostComponents (triple 0 1 1 ∷ triple 1 65 1 ∷ triple 64 64 65535 ∷ [])
+    ≡ record { refusal = 1; faces = 0; curves = 0; points = 0 } ∷ record { refusal = 1; faces = 0; curves = 0; points = 0 } ∷ record { refusal = 1; faces = 0; curves = 0; points = 0 } ∷ []
 unfolding isExtent offSize givenBy first table number standsIn declines refusalOf refused mostComponents
 refused-extents = refl
 

@@ -7,22 +7,21 @@ use Prim.Native.Nat.{ℕ, zero, suc, _≤_, _<_}
 use native.Mathlib.Omega.{arith}
 use lib.Dec.{eqb}
 use lib.ListN.{length, getD}
-use borrow.Author.Tests.{eqb-true, eqb-false, eq-eqb, ne-eqb}
+use borrow.Author.Tests.{eqb-true, eqb-false, ne-eqb}
 use Rattle.lists.proofs.Cases.{by-test}
 use Rattle.lists.specs.Lists.{consecutive, tabulate}
 use Rattle.lists.proofs.Lists.{length-tabulate, getD-tabulate}
 use Rattle.cells.specs.Box.{Triple, volume}
 use Rattle.cells.specs.Codes.{blank}
-use Rattle.cells.specs.Extents.{offSize}
+use Rattle.cells.specs.Extents.{Sized, offSize}
 use Rattle.cells.specs.Grid.{cells}
 use Rattle.cells.proofs.ExtentLaws.{volume-high}
-use Rattle.extents.proofs.SizeLaws.{sized-of}
 use Rattle.labels.specs.Number.{labels}
 use Rattle.labels.specs.Components.{largest}
 use Rattle.labels.specs.OrderCounts.{cellsOfOrder}
 use Rattle.labeller.specs.declared.Labelled.{Labelled}
-use Rattle.labeller.specs.Labelling.{Outcome, outcome, labelling, wrongTray, refusalOf, refused}
-use Rattle.labeller.proofs.LabellingLaws.{refusal-is}
+use Rattle.labeller.specs.Labelling.{Outcome, outcome, labelling, refusalOf, refused, Ready}
+use Rattle.labeller.proofs.LabellingLaws.{refusal-is, ready-accepted}
 use Rattle.labeller.proofs.OneBlock.{label-refusal, label-refused, label-map, label-counts}
 use Rattle.maxima.specs.declared.Most.{Most}
 use Rattle.maxima.specs.Maxima.{DifferentCodes, countedCodes, accepted, mostComponents}
@@ -90,17 +89,17 @@ unfolding blank consecutive
 no-blank i zero = refl
 no-blank i (suc n) = rw (ne-eqb (suc i) 0 (omega arith)) (no-blank (suc i) n)
 
-module _ (e : Triple) (fits : offSize 64 e ≡ false) where
+module _ (e : Triple) (z : Sized 64 e) where
   -- "A voxel's code is 1 to 4,294,967,295."
   pub counted-codes : (v : ℕ) → v < volume e → (1 ≤ getD (countedCodes e) v 0) × (getD (countedCodes e) v 0 ≤ 4294967295)
   unfolding countedCodes
   counted-codes v h =
       let c = getD-tabulate (volume e) suc v h in
-      let n : volume e ≤ 262144 = volume-high (sized-of 64 e fits) in
+      let n : volume e ≤ 262144 = volume-high z in
       (omega arith, omega arith)
 
   pub counted-accepted : refusalOf e (countedCodes e) (cells e) (cells e) ≡ 0
-  unfolding countedCodes tabulate wrongTray
+  unfolding countedCodes tabulate
   counted-accepted =
-      refusal-is e (countedCodes e) (cells e) (cells e)
-      ∙ rw (fits, eq-eqb (length (countedCodes e)) (volume e) (length-tabulate (volume e) suc), eq-eqb (cells e) (cells e) refl, no-blank 0 (volume e))
+      let ready : Ready e (length (countedCodes e)) (cells e) (cells e) = record { sized = z; codes-are = length-tabulate (volume e) suc; map-is = refl; work-is = refl } in
+      ready-accepted e (countedCodes e) (cells e) (cells e) ready (no-blank 0 (volume e))

@@ -8,7 +8,7 @@ use native.Mathlib.Omega.{arith}
 use lib.Dec.{eqb}
 use lib.ListN.{getD}
 use borrow.Author.Tests.{eqb-true, eq-eqb}
-use Rattle.lists.proofs.Cases.{by-test, and-first, and-both}
+use Rattle.lists.proofs.Cases.{and-first, and-both}
 use Rattle.lists.proofs.Lists.{getD-tabulate}
 use Rattle.closure.specs.Joined.{rep}
 use Rattle.closure.specs.Numbered.{countBelow, leader}
@@ -16,10 +16,11 @@ use Rattle.closure.proofs.Classes.{rep-low}
 use Rattle.closure.proofs.Numbers.{count-le, label-root}
 use Rattle.refusals.specs.Refusals.{number, table, first, givenBy, standsIn, listedNumbers}
 use Rattle.cells.specs.Box.{Triple, volume}
-use Rattle.cells.specs.Extents.{offSize}
+use Rattle.cells.specs.Extents.{Sized, offSize}
 use Rattle.cells.specs.Grid.{cells, order, voxel, voxelCell}
 use Rattle.cells.specs.Row.{active, occupied}
 use Rattle.cells.proofs.GridLaws.{voxel-inside, cell-voxel}
+use Rattle.extents.proofs.SizeLaws.{size-fits}
 use Rattle.labels.specs.Components.{largest}
 use Rattle.labels.specs.OrderCounts.{cellsOfOrder}
 use Rattle.labels.specs.Number.{edges, activeOf, number as Number·number, mapDown, labels}
@@ -28,8 +29,8 @@ use Rattle.labels.proofs.LabelLaws.{labels-numbering, joined-row, label-at, row
 use Rattle.labels.proofs.CountLaws.{largest-leaders, count-down}
 use Rattle.labels.proofs.OrderCounts.{count-order, count-cells}
 use Rattle.maxima.specs.declared.Most.{Most}
-use Rattle.maxima.specs.Maxima.{DifferentCodes, DifferentNumbers, IsMost, countedCodes, declines, refusalOf, accepted, refused, mostComponents}
-use Rattle.maxima.proofs.Apart.{all-active, row-apart}
+use Rattle.maxima.specs.Maxima.{DifferentCodes, IsMost, countedCodes, declines, refusalOf, accepted, refused, mostComponents}
+use Rattle.maxima.proofs.Apart.{DifferentNumbers, all-active, row-apart}
 
 module _ (e : Triple) (codes : List ℕ) where
   -- the map that order j is numbered over
@@ -40,8 +41,9 @@ module _ (e : Triple) (codes : List ℕ) where
   abbrev leads : ℕ → ℕ → Bool
   leads j = leader (rep (edges e (over j) j)) (activeOf e (over j) j)
 
-  abbrev ofOne : ℕ → ℕ → Bool
-  ofOne j p = eqb (order e p) j
+  -- a cell has order j
+  abbrev hasOrder : ℕ → ℕ → Bool
+  hasOrder j p = eqb (order e p) j
 
   -- the largest number of an order is how many first cells it has
   count-leaders : (j : ℕ) → j < 3 → countBelow (leads j) (cells e) ≡ largest e (labels e codes) j
@@ -51,16 +53,16 @@ module _ (e : Triple) (codes : List ℕ) where
       subst (λ (i : ℕ). countBelow (leader (rep (edges e (over j) i)) (activeOf e (over j) i)) (cells e) ≡ largest e (labels e codes) i) twice
       (largest-leaders e (over j) (2 - (2 - j)) ∙ count-down e codes (2 - j) (omega arith))
 
-  count-formula : (j : ℕ) → countBelow (ofOne j) (cells e) ≡ cellsOfOrder e j
+  count-formula : (j : ℕ) → countBelow (hasOrder j) (cells e) ≡ cellsOfOrder e j
   count-formula j = count-cells e j ∙ count-order e j
 
   -- "No block of that size exceeds the three numbers."
   pub most : (j : ℕ) → j < 3 → largest e (labels e codes) j ≤ cellsOfOrder e j
   unfolding leader activeOf
   most j h =
-      let cell-of : (p : ℕ) → p < cells e → leads j p ≡ true → ofOne j p ≡ true
-      = λ p l t. and-first (ofOne j p) (active e (over j) p) (and-first (activeOf e (over j) j p) (eqb (rep (edges e (over j) j) p) p) t) in
-      omega (arith, count-leaders j h, count-formula j, count-le (leads j) (ofOne j) (cells e) cell-of)
+      let cell-of : (p : ℕ) → p < cells e → leads j p ≡ true → hasOrder j p ≡ true
+      = λ p l t. and-first (hasOrder j p) (active e (over j) p) (and-first (activeOf e (over j) j p) (eqb (rep (edges e (over j) j) p) p) t) in
+      omega (arith, count-leaders j h, count-formula j, count-le (leads j) (hasOrder j) (cells e) cell-of)
 
   -- ---- pairwise different numbers
 
@@ -98,9 +100,9 @@ module _ (e : Triple) (codes : List ℕ) where
   -- Numbers at the voxels that all differ reach the three numbers.
   pub reached : DifferentNumbers e (labels e codes) 3 → (j : ℕ) → j < 3 → largest e (labels e codes) j ≡ cellsOfOrder e j
   reached D j lj =
-      let first-of : (p : ℕ) → p < cells e → ofOne j p ≡ true → leads j p ≡ true
+      let first-of : (p : ℕ) → p < cells e → hasOrder j p ≡ true → leads j p ≡ true
       = λ p h t. let o = eqb-true (order e p) j t in subst (λ (i : ℕ). leads i p ≡ true) o (all-lead p h (omega arith) D) in
-      omega (arith, most j lj, count-leaders j lj, count-formula j, count-le (ofOne j) (leads j) (cells e) first-of)
+      omega (arith, most j lj, count-leaders j lj, count-formula j, count-le (hasOrder j) (leads j) (cells e) first-of)
 
   -- Codes that all differ are numbers at the voxels that all differ.
   pub different-codes : DifferentCodes e codes → DifferentNumbers e (labels e codes) 3
@@ -154,10 +156,8 @@ pub most-refused : (e : Triple) → offSize 64 e ≡ true → mostComponents e �
 unfolding mostComponents
 most-refused e t = let z : refusalOf e ≡ 1 = refusal-is e ∙ rw t in rw z
 
--- What `most_components` answers, from its promise: where nothing is refused, the most faces, curves and points.
-pub answer-most : (e : Triple) (s : Most) → s ≡ mostComponents e → s .refusal ≡ 0 → IsMost e 2 (s .faces) × IsMost e 1 (s .curves) × IsMost e 0 (s .points)
-unfolding accepted refused
-answer-most e s promise fine =
-    let taken : offSize 64 e ≡ false
-    = by-test (offSize 64 e) (λ t. absurd (omega (arith, ap (λ (a : Most). a .refusal) (promise ∙ most-refused e t)))) (λ t. t) in
-    rw (promise ∙ most-accepted e taken) (largest-block e 2 (omega arith), largest-block e 1 (omega arith), largest-block e 0 (omega arith))
+-- "For every extent from 1 to 64 .. the service answers with them": from the promise of `most_components`, what it answers is the most.
+pub answer-most : (e : Triple) → Sized 64 e → (s : Most) → s ≡ mostComponents e → (s .refusal ≡ 0) × IsMost e 2 (s .faces) × IsMost e 1 (s .curves) × IsMost e 0 (s .points)
+unfolding accepted
+answer-most e z s promise =
+    rw (promise ∙ most-accepted e (size-fits 64 64 e (omega arith) z)) (refl, largest-block e 2 (omega arith), largest-block e 1 (omega arith), largest-block e 0 (omega arith))

@@ -1,2 +1,2 @@
--- The definitions of the crate: codes that all differ, and what `most_components` answers.
+-- The definitions of the crate: codes that all differ, the most components, and what `most_components` answers.
 pub mod Maxima

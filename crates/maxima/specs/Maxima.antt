@@ -11,7 +11,6 @@ use Rattle.lists.specs.Lists.{tabulate}
 use Rattle.refusals.specs.Refusals.{off-size, Case, _if_, givenRefusal}
 use Rattle.cells.specs.Box.{Triple, volume}
 use Rattle.cells.specs.Extents.{offSize}
-use Rattle.cells.specs.Grid.{cells, order}
 use Rattle.labels.specs.Number.{labels}
 use Rattle.labels.specs.Components.{largest}
 use Rattle.labels.specs.OrderCounts.{cellsOfOrder}
@@ -20,10 +19,6 @@ use Rattle.maxima.specs.declared.Most.{Most}
 -- "All codes different": no two voxels of the block have one code. One of the codes may be 0.
 pub record DifferentCodes (e : Triple) (codes : List ℕ) : Type 0 where
   pub apart : (v w : ℕ) → v < volume e → w < volume e → getD codes v 0 ≡ getD codes w 0 → v ≡ w
-
--- The same of the numbers that a map has at the cells of order i, which for order 3 are the voxels.
-pub record DifferentNumbers (e : Triple) (m : List ℕ) (i : ℕ) : Type 0 where
-  pub apart : (p q : ℕ) → p < cells e → q < cells e → order e p ≡ i → order e q ≡ i → getD m p 0 ≡ getD m q 0 → p ≡ q
 
 -- n is the most components of order j that a block of e voxels can have: "no block of that size exceeds" it, and "the block with all codes different
 -- reaches" it.

@@ -1,12 +1,18 @@
 -- The ways of an export.
 -- Assumes nothing.
-use mathlib.Core.Path.{_≡_, subst}
+use mathlib.Core.Path.{_≡_, ap, _∙_, subst}
 use mathlib.Core.Logic.{_≢_}
-use mathlib.Core.List.{List, []}
+use mathlib.Core.List.{List, [], _∷_}
 use Prim.Native.Nat.{ℕ}
 use lib.ListN.{set}
+use native.Mathlib.Omega.{arith}
 use borrow.Author.Tests.{eq-eqb, ne-eqb}
 use Rattle.counts.specs.Counts.{storedCounts}
+use Rattle.counts.proofs.StoredLaws.{stored-three}
+use Rattle.cells.specs.Box.{Triple}
+use Rattle.cells.specs.Extents.{Sized}
+use Rattle.extents.proofs.SizeLaws.{size-fits}
+use Rattle.labels.specs.OrderCounts.{cellsOfOrder}
 use Rattle.writer.specs.declared.Written.{Written}
 use Rattle.writer.specs.Writing.{Outcome as Writing·Outcome, outcome as Writing·outcome}
 use Rattle.reader.specs.declared.Head.{Head}
@@ -14,7 +20,9 @@ use Rattle.reader.specs.Reading.{Outcome as Reading·Outcome, outcome as Readin
 use Rattle.labeller.specs.declared.Labelled.{Labelled}
 use Rattle.labeller.specs.Labelling.{Outcome, outcome}
 use Rattle.maxima.specs.declared.Most.{Most}
-use Rattle.service.specs.Exports.{exported, export, exportedMost, exportMost, exportedWriting, exportWriting, exportedReading, exportReading}
+use Rattle.maxima.specs.Maxima.{accepted, mostComponents}
+use Rattle.maxima.proofs.MaximaLaws.{most-accepted}
+use Rattle.service.specs.Exports.{exported, export, ExportedMost, exportedMost, exportMost, exportedWriting, exportWriting, exportedReading, exportReading}
 use Rattle.joiner.specs.Job.{Kind, Face, Curve, Point, Tables}
 use Rattle.joiner.specs.Calls.{Call, reading, answer}
 use Rattle.joiner.specs.Entries.{CallStep}
@@ -33,6 +41,14 @@ pub most-exported : (r : Most) (c c′ : List ℕ) (a : Most) → r ≡ a → c�
     → exportedMost (r .refusal) c′ ≡ exportMost a c
 unfolding exportMost
 most-exported r c c′ a promise s = rw (← promise, s)
+
+-- What `tugrelis_most_components` leaves, from its promise: for extents from 1 to 64 the numbers of face, curve and point cells at the three places.
+pub most-places : (e : Triple) → Sized 64 e → (r x y z : ℕ) (c : List ℕ) → exportedMost r c ≡ exportMost (mostComponents e) (x ∷ y ∷ z ∷ [])
+    → (r ≡ 0) × (c ≡ cellsOfOrder e 2 ∷ cellsOfOrder e 1 ∷ cellsOfOrder e 0 ∷ [])
+unfolding exportMost accepted
+most-places e s r x y z c promise =
+    let told = promise ∙ ap (λ (a : Most). exportMost a (x ∷ y ∷ z ∷ [])) (most-accepted e (size-fits 64 64 e (omega arith) s)) in
+    (ap (λ (o : ExportedMost). o .refusal) told, ap (λ (o : ExportedMost). o .counts) told ∙ stored-three (cellsOfOrder e 2) (cellsOfOrder e 1) (cellsOfOrder e 0) x y z)
 
 module _ (a : Written) (t : List ℕ) (l : ℕ) (o : Writing·Outcome) (promise : Writing·outcome a t ≡ o) where
   pub writing-stored : a .refusal ≡ 0 → exportedWriting (a .refusal) t (a .length) ≡ exportWriting o l

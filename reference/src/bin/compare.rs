@@ -200,8 +200,8 @@ impl Comparison {
         }
     }
 
-    /// All extents up to 5 beside a search over blocks; the largest extents, and the block of all different codes that reaches them.
-    fn maxima(&mut self) {
+    /// All extents up to 5 beside a search over blocks; the largest extents beside a labelled block with all codes different.
+    fn largest_blocks(&mut self) {
         for n in 0..125 {
             let extents = [n % 5, n / 5 % 5, n / 25].map(|k| 1 + k as u16);
             let found = search(&mut self.random, extents);
@@ -292,7 +292,7 @@ fn main() {
     }
     if blocks >= 1000 {
         c.largest();
-        c.maxima();
+        c.largest_blocks();
     }
     let mut given = String::new();
     for ((what, refusal), times) in &c.given {

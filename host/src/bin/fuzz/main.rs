@@ -1,5 +1,5 @@
 //! Calls every entry with arbitrary numbers for jobs, cut lists, tables, maps and records: fuzz SEED ROUNDS [--untimed] [--spoil WHAT].
-//! A round is a block labelled, measured by the largest one, written and read, or some calls of a joiner's job that is honest but for numbers changed here and there. Compared
+//! A round is a block labelled, written and read, with the most components of its extents told, or some calls of a joiner's job that is honest but for numbers changed here and there. Compared
 //! with the second implementation are each call's refusal, the number or row of each accepted reading, and job and tables after each accepted step, as far
 //! as the rules tell them. Lent tables stand between guards; after a refusal or a reading every lent place must hold what it held, and the guards always. Every refusal of every entry must have come, and every reason for 8.
 //! No call may take longer than the numbers that it is lent can explain; long tables are made for that. --untimed leaves this out: for valgrind, which
@@ -18,7 +18,7 @@ use std::sync::atomic::{AtomicUsize, Ordering};
 use std::time::{Duration, Instant};
 use tugrelis::{cells, raw};
 
-const SPOILS: [&str; 7] = ["refusal", "number", "row", "left", "kept", "guards", "time"];
+const SPOILS: [&str; 8] = ["refusal", "number", "row", "left", "most", "kept", "guards", "time"];
 
 /// What must come in a long run: the refusals of each entry, with the reasons for 8.
 const COME: [(&str, &str); 13] = [
@@ -172,7 +172,7 @@ impl Fuzz {
         }
     }
 
-    /// A call of the labeller, the largest block, the writer or the reader: nothing changes if it was refused, and no guard ever.
+    /// A call about one block, not of the joiner: nothing changes if it was refused, and no guard ever.
     fn judge(&mut self, what: &'static str, refusal: u32, kept: bool, guards: bool) {
         self.calls += 1;
         *self.given.entry((what, refusal.to_string())).or_default() += 1;
@@ -196,10 +196,7 @@ impl Fuzz {
         let before = (map.clone(), work.clone(), counts);
         let refusal = raw::label(&codes, nx, ny, nz, part(&mut map), part(&mut work), &mut counts);
         self.judge("label", refusal, before == (map.clone(), work.clone(), counts), holds(&map) && holds(&work));
-        let mut maxima = guarded(&counts);
-        let places: &mut [u32; 3] = part(&mut maxima).try_into().expect("three places");
-        let refusal = raw::most_components(nx, ny, nz, places);
-        self.judge("most", refusal, part(&mut maxima) == counts, holds(&maxima));
+        self.most(extents, if refusal == 0 { counts } else { [0; 3] });
         let room = 12 + size.div_ceil(8) + 4 * size + self.random.below(5);
         let mut tray = guarded(&vec![9u8; room.saturating_sub(self.random.below(3) * 4)]);
         let mut length = 7;
@@ -217,6 +214,20 @@ impl Fuzz {
         let before = (map.clone(), fields);
         let refusal = raw::read_record(&record, part(&mut map), &mut fields);
         self.judge("read", refusal, before == (map.clone(), fields), holds(&map));
+    }
+
+    /// The most components of a block, beside the second implementation and the counts of a labelled one.
+    fn most(&mut self, extents: [u16; 3], labelled: [u32; 3]) {
+        let ([nx, ny, nz], expected) = (extents, reference::maxima::most(extents));
+        let mut places = guarded(&[7, 7, 7]);
+        let refusal = raw::most_components(nx, ny, nz, part(&mut places).try_into().expect("three places"));
+        let mut maxima = part(&mut places).to_vec();
+        if expected.is_ok() && self.spoiled("most") {
+            maxima[1] ^= 1;
+        }
+        self.judge("most", refusal, maxima == [7; 3], holds(&places));
+        let right = refusal == expected.err().unwrap_or(0) && expected.map_or(true, |most| maxima == most && (0..3).all(|k| labelled[k] <= most[k]));
+        self.expect("most", right, &|| format!("{extents:?} answered {refusal} and {maxima:?}, it must be {expected:?}; a labelled block has {labelled:?}"));
     }
 
     /// Everything that must come has come.
