@@ -1,4 +1,4 @@
-/* Labels and joins a volume of 3×2×1 voxels from two blocks through tugrelis.h, in plain C. Every answer is checked; the first that is not as it
+/* Asks how many components a block can have, then labels and joins a volume of 3×2×1 voxels from two blocks, through tugrelis.h, in plain C. Every answer is checked; the first that is not as it
    must be is printed, and the exit status is then 1.
 
        1 2 2      cut at x = 1 into    1 2    and    2 2

@@ -39,7 +39,8 @@ pub fn search(random: &mut Random, extents: [u16; 3]) -> [u32; 3] {
     let mut codes = different(voxels);
     attempt(&codes);
     for _ in 0..20 {
-        let (v, w) = (random.below(voxels), random.below(voxels));
+        let v = random.below(voxels);
+        let w = (v + 1 + random.below(voxels - 1)) % voxels;
         let code = codes[v];
         codes[v] = codes[w];
         attempt(&codes);

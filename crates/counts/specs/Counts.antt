@@ -6,6 +6,6 @@ use Prim.Native.Nat.{ℕ}
 use lib.Dec.{eqb}
 use lib.ListN.{set}
 
--- What the places hold after a call: the three numbers if it is accepted, what they held if a refusal is given.
+-- What the places hold after a call: the three numbers if it is accepted, what they held if it is refused.
 unfoldable pub storedCounts : ℕ → ℕ → ℕ → ℕ → List ℕ → List ℕ
-storedCounts given faces curves points c = cond (eqb given 0) (set (set (set c 0 faces) 1 curves) 2 points) c
+storedCounts refusal faces curves points c = cond (eqb refusal 0) (set (set (set c 0 faces) 1 curves) 2 points) c

@@ -1,8 +1,8 @@
 -- Rows kept at enrolment, read over the final faces, are the rows of the uncut volume.
 -- Assumes nothing.
 use mathlib.Core.Bool.{cond, not, true}
-use mathlib.Core.List.{List, List·Memᴰ, List·Memᴰ·cases-cons, List·Memᴰ·head, List·Memᴰ·not-nil, List·Memᴰ·tail, Memᴰ·of-map, [], _∷_, map, map-map}
-use mathlib.Core.Logic.{_≢_, _⊎_, inl, inr}
+use mathlib.Core.List.{List, List·Memᴰ, List·Memᴰ·head, List·Memᴰ·not-nil, List·Memᴰ·tail, Memᴰ·of-map, [], _∷_, map, map-map}
+use mathlib.Core.Logic.{_≢_}
 use mathlib.Core.Path.{_∙_, _≡_, ap, refl, subst, sym}
 use Prim.Native.Nat.{_*_, _+_, _-_, _<_, _≤_, suc, zero, ℕ}
 use native.Mathlib.Omega.{arith}
@@ -20,10 +20,10 @@ use Rattle.cutting.specs.Nodes.{part, uncutMap}
 use Rattle.joiner.specs.Declines.{finalOf}
 use Rattle.joiner.specs.Entries.{finalFace, rowAt, rowFinal, shifted}
 use Rattle.joiner.specs.Job.{Curve, Face, Kind, Tables, fromOf, node, orderOf}
-use Rattle.lists.proofs.Cases.{by-test, picked}
+use Rattle.lists.proofs.Cases.{by-test}
 use Rattle.lists.proofs.Lists.{consecutive-out, keep-out, length-keep, map-same}
 use Rattle.cells.proofs.GridLaws.{Upper, length-up, upper-neighbour}
-use Rattle.cells.proofs.RowFacts.{occurrences-sort}
+use Rattle.cells.proofs.RowFacts.{occurrences-sort, occurs}
 use Rattle.cells.proofs.RowLaws.{getD-pad, once-positive, length-sort}
 use Rattle.labels.proofs.ComponentLaws.{component-in}
 use Rattle.labels.proofs.CountLaws.{Somewhere, every-number}
@@ -66,14 +66,6 @@ drop-zeros g zero (x ∷ l) z h p = absurd (omega arith)
 drop-zeros g (suc n) (x ∷ l) z h p = rw (ne-eqb (g x) 0 (p x (List·Memᴰ·head refl))) (ap {B = List ℕ} (λ r. g x ∷ r) (drop-zeros g n l z (omega arith) (λ y m. p y (List·Memᴰ·tail m))))
 
 -- the entries of a sorted list are those of the list
-occurs : (l : List ℕ) {x : ℕ} → List·Memᴰ x l → 0 < occurrences x l
-occurs [] m = absurd (List·Memᴰ·not-nil m)
-occurs (y ∷ l) {x} m = go (List·Memᴰ·cases-cons m) (λ k. occurs l k)
-  where
-    go : (x ≡ y) ⊎ List·Memᴰ x l → (List·Memᴰ x l → 0 < occurrences x l) → 0 < occurrences x (y ∷ l)
-    go (inl e) ih = rw (eq-eqb y x (sym e)) (omega arith)
-    go (inr k) ih = picked (λ (n : ℕ). 0 < n) (eqb y x) (occurrences x l + 1) (occurrences x l) (λ t. omega arith) (λ t. ih k)
-
 there-occurs : (l : List ℕ) (x : ℕ) → 0 < occurrences x l → List·Memᴰ x l
 there-occurs [] x h = absurd (omega arith)
 there-occurs (y ∷ l) x h = by-test (eqb y x) (λ t. List·Memᴰ·head (sym (eqb-true y x t))) (λ t. List·Memᴰ·tail (there-occurs l x (rw t at h)))

@@ -1,7 +1,7 @@
 -- How many cells of each order a grid has: `cellsOfOrder`, for all extents. A line of 2n−1 places has n even ones and n−1 odd ones; so have the lines of a
 -- layer, and the layers.
 -- Assumes nothing.
-use mathlib.Core.Path.{_≡_, sym, ap, _∙_}
+use mathlib.Core.Path.{_≡_, ap, _∙_}
 use mathlib.Core.Bool.{Bool, cond}
 use mathlib.Core.List.{List}
 use Prim.Native.Nat.{ℕ, zero, suc, _+_, _-_, _*_, _^_, _%_, _≤_, _<_}
@@ -125,19 +125,18 @@ multiplied e (suc (suc (suc (suc j)))) = simp none (omega arith)
 
 -- ---- the number of cells of an order
 
--- the list of them is as long as the count of them
-pub count-cells : (e : Triple) (j : ℕ) → countBelow (λ p. eqb (order e p) j) (cells e) ≡ length (ofOrder e j)
+-- "The number of face cells .. and likewise of curve and of point cells", for all extents and every order: as a count of cells, and as the length of their list.
+pub count-cells : (e : Triple) (j : ℕ) → countBelow (λ p. eqb (order e p) j) (cells e) ≡ cellsOfOrder e j
+count-cells e j = count-grid e j ∙ multiplied e j
+
+pub count-order : (e : Triple) (j : ℕ) → length (ofOrder e j) ≡ cellsOfOrder e j
 unfolding ofOrder
-count-cells e j =
+count-order e j =
     let n = cells e in
     let l = consecutive 0 n in
     let same : countBelow (λ i. eqb (order e (getD l i 0)) j) n ≡ countBelow (λ p. eqb (order e p) j) n
     = count-same (λ i. eqb (order e (getD l i 0)) j) (λ p. eqb (order e p) j) n (λ i h. ap (λ (p : ℕ). eqb (order e p) j) (getD-consecutive 0 n i h ∙ zero-add i)) in
-    sym (keep-count (λ p. eqb (order e p) j) l ∙ ap (countBelow (λ i. eqb (order e (getD l i 0)) j)) (length-consecutive 0 n) ∙ same)
-
--- "The number of face cells .. and likewise of curve and of point cells", for all extents and every order.
-pub count-order : (e : Triple) (j : ℕ) → length (ofOrder e j) ≡ cellsOfOrder e j
-count-order e j = sym (count-cells e j) ∙ count-grid e j ∙ multiplied e j
+    keep-count (λ p. eqb (order e p) j) l ∙ ap (countBelow (λ i. eqb (order e (getD l i 0)) j)) (length-consecutive 0 n) ∙ same ∙ count-cells e j
 
 -- ---- bounds: the cells of one order, and so those of one component, are fewer than 2^32 in the largest volume (all its cells are more)
 

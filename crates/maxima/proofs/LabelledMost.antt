@@ -25,7 +25,7 @@ use Rattle.labeller.proofs.LabellingLaws.{refusal-is, ready-accepted}
 use Rattle.labeller.proofs.OneBlock.{label-refusal, label-refused, label-map, label-counts}
 use Rattle.maxima.specs.declared.Most.{Most}
 use Rattle.maxima.specs.Maxima.{DifferentCodes, countedCodes, accepted, mostComponents}
-use Rattle.maxima.proofs.MaximaLaws.{most, reached, different-codes, most-accepted}
+use Rattle.maxima.proofs.MaximaLaws.{most, numbers-reach, different-codes, counted-different, most-accepted}
 
 module _ (e : Triple) (codes m w : List ℕ) (r : Labelled) (m′ w′ : List ℕ) (promise : outcome r m′ w′ ≡ labelling e codes m w)
     (s : Most) (answered : s ≡ mostComponents e) where
@@ -63,7 +63,7 @@ module _ (e : Triple) (codes m w : List ℕ) (r : Labelled) (m′ w′ : List �
     -- Accepted, with all codes different: as many as `most_components` answers.
     pub label-reached : DifferentCodes e codes → (r .faces ≡ s .faces) × (r .curves ≡ s .curves) × (r .points ≡ s .points)
     label-reached D =
-        let same : (j : ℕ) → j < 3 → largest e (labels e codes) j ≡ cellsOfOrder e j = reached e codes (different-codes e codes D) in (
+        let same : (j : ℕ) → j < 3 → largest e (labels e codes) j ≡ cellsOfOrder e j = numbers-reach e codes (different-codes e codes D) in (
           omega (arith, counts .0, counted 2, tells .0, same 2 (omega arith)),
           omega (arith, counts .1, counted 1, tells .1, same 1 (omega arith)),
           omega (arith, counts .2, counted 0, tells .2, same 0 (omega arith)),
@@ -82,7 +82,7 @@ module _ (e : Triple) (codes m w : List ℕ) (r : Labelled) (m′ w′ : List �
         omega (arith, ap (λ (o : Outcome). o .answer .points) n),
       ))
 
--- ---- such a call there is, for every block: the codes 1, 2, 3, ..
+-- ---- such a call there is, for all extents from 1 to 64: the codes 1, 2, 3, ..
 
 no-blank : (i n : ℕ) → blank (map suc (consecutive i n)) ≡ false
 unfolding blank consecutive
@@ -98,8 +98,16 @@ module _ (e : Triple) (z : Sized 64 e) where
       let n : volume e ≤ 262144 = volume-high z in
       (omega arith, omega arith)
 
-  pub counted-accepted : refusalOf e (countedCodes e) (cells e) (cells e) ≡ 0
+  counted-accepted : refusalOf e (countedCodes e) (cells e) (cells e) ≡ 0
   unfolding countedCodes tabulate
   counted-accepted =
       let ready : Ready e (length (countedCodes e)) (cells e) (cells e) = record { sized = z; codes-are = length-tabulate (volume e) suc; map-is = refl; work-is = refl } in
       ready-accepted e (countedCodes e) (cells e) (cells e) ready (no-blank 0 (volume e))
+
+  -- `label` accepts them, in trays of the right lengths, and answers as many faces, curves and points as `most_components`.
+  pub counted-reached : (m w : List ℕ) → length m ≡ cells e → length w ≡ cells e → (r : Labelled) (m′ w′ : List ℕ) → outcome r m′ w′ ≡ labelling e (countedCodes e) m w
+      → (s : Most) → s ≡ mostComponents e → (r .refusal ≡ 0) × (r .faces ≡ s .faces) × (r .curves ≡ s .curves) × (r .points ≡ s .points)
+  counted-reached m w k l r m′ w′ promise s answered =
+      let fine : r .refusal ≡ 0 = label-refusal e (countedCodes e) m w r m′ w′ promise ∙ rw (k, l) counted-accepted in
+      let same = label-reached e (countedCodes e) m w r m′ w′ promise s answered fine (counted-different e) in
+      (fine, same .0, same .1, same .2)

@@ -27,7 +27,7 @@ use Rattle.labels.specs.Number.{edges, activeOf, number as Number·number, mapD
 use Rattle.labels.proofs.NumberLaws.{rep-leaders}
 use Rattle.labels.proofs.LabelLaws.{labels-numbering, joined-row, label-at, row-over}
 use Rattle.labels.proofs.CountLaws.{largest-leaders, count-down}
-use Rattle.labels.proofs.OrderCounts.{count-order, count-cells}
+use Rattle.labels.proofs.OrderCounts.{count-cells}
 use Rattle.maxima.specs.declared.Most.{Most}
 use Rattle.maxima.specs.Maxima.{DifferentCodes, IsMost, countedCodes, declines, refusalOf, accepted, refused, mostComponents}
 use Rattle.maxima.proofs.Apart.{DifferentNumbers, all-active, row-apart}
@@ -53,16 +53,13 @@ module _ (e : Triple) (codes : List ℕ) where
       subst (λ (i : ℕ). countBelow (leader (rep (edges e (over j) i)) (activeOf e (over j) i)) (cells e) ≡ largest e (labels e codes) i) twice
       (largest-leaders e (over j) (2 - (2 - j)) ∙ count-down e codes (2 - j) (omega arith))
 
-  count-formula : (j : ℕ) → countBelow (hasOrder j) (cells e) ≡ cellsOfOrder e j
-  count-formula j = count-cells e j ∙ count-order e j
-
   -- "No block of that size exceeds the three numbers."
   pub most : (j : ℕ) → j < 3 → largest e (labels e codes) j ≤ cellsOfOrder e j
   unfolding leader activeOf
   most j h =
       let cell-of : (p : ℕ) → p < cells e → leads j p ≡ true → hasOrder j p ≡ true
       = λ p l t. and-first (hasOrder j p) (active e (over j) p) (and-first (activeOf e (over j) j p) (eqb (rep (edges e (over j) j) p) p) t) in
-      omega (arith, count-leaders j h, count-formula j, count-le (leads j) (hasOrder j) (cells e) cell-of)
+      omega (arith, count-leaders j h, count-cells e j, count-le (leads j) (hasOrder j) (cells e) cell-of)
 
   -- ---- pairwise different numbers
 
@@ -98,11 +95,11 @@ module _ (e : Triple) (codes : List ℕ) where
       and-both (act p) (eqb (f p) p) a (eq-eqb (f p) p (sym (different-down (3 - j) j (omega arith) D .apart p (f p) h k refl o s)))
 
   -- Numbers at the voxels that all differ reach the three numbers.
-  pub reached : DifferentNumbers e (labels e codes) 3 → (j : ℕ) → j < 3 → largest e (labels e codes) j ≡ cellsOfOrder e j
-  reached D j lj =
+  pub numbers-reach : DifferentNumbers e (labels e codes) 3 → (j : ℕ) → j < 3 → largest e (labels e codes) j ≡ cellsOfOrder e j
+  numbers-reach D j lj =
       let first-of : (p : ℕ) → p < cells e → hasOrder j p ≡ true → leads j p ≡ true
       = λ p h t. let o = eqb-true (order e p) j t in subst (λ (i : ℕ). leads i p ≡ true) o (all-lead p h (omega arith) D) in
-      omega (arith, most j lj, count-leaders j lj, count-formula j, count-le (hasOrder j) (leads j) (cells e) first-of)
+      omega (arith, most j lj, count-leaders j lj, count-cells e j, count-le (hasOrder j) (leads j) (cells e) first-of)
 
   -- Codes that all differ are numbers at the voxels that all differ.
   pub different-codes : DifferentCodes e codes → DifferentNumbers e (labels e codes) 3
@@ -116,7 +113,7 @@ module _ (e : Triple) (codes : List ℕ) where
 
 -- The request's statement, for all extents and each order: the number of cells of an order is the most components that it can have.
 pub largest-block : (e : Triple) (j : ℕ) → j < 3 → IsMost e j (cellsOfOrder e j)
-largest-block e j h = record { bound = λ codes. most e codes j h; reached = λ codes D. reached e codes (different-codes e codes D) j h }
+largest-block e j h = record { bound = λ codes. most e codes j h; reached = λ codes D. numbers-reach e codes (different-codes e codes D) j h }
 
 -- The codes 1, 2, 3, .. all differ.
 pub counted-different : (e : Triple) → DifferentCodes e (countedCodes e)
@@ -130,7 +127,7 @@ most-only e j n k M N = sym (M .reached (countedCodes e) (counted-different e)) 
 -- ---- the entry
 
 -- the refusal as a test
-pub refusal-is : (e : Triple) → refusalOf e ≡ cond (offSize 64 e) 1 0
+refusal-is : (e : Triple) → refusalOf e ≡ cond (offSize 64 e) 1 0
 unfolding refusalOf givenBy first table number standsIn declines
 refusal-is e = refl
 

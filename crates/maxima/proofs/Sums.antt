@@ -30,7 +30,7 @@ sum-told f g [] = refl
 sum-told f g (x ∷ l) = ap (λ (n : ℕ). f (g x) + n) (sum-told f g l)
 
 -- a positive value makes a positive sum
-pub sum-positive : (f : ℕ → ℕ) (l : List ℕ) {x : ℕ} → List·Memᴰ x l → 0 < f x → 0 < sumOver f l
+sum-positive : (f : ℕ → ℕ) (l : List ℕ) {x : ℕ} → List·Memᴰ x l → 0 < f x → 0 < sumOver f l
 sum-positive f [] m h = absurd (List·Memᴰ·not-nil m)
 sum-positive f (y ∷ l) {x} m h = go (List·Memᴰ·cases-cons m) (λ k. sum-positive f l k h)
   where

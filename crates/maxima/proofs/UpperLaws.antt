@@ -103,7 +103,7 @@ module _ (e : Triple) (p : ℕ) (h : p < cells e) where
   sum-on a = along-sum (parity e p a) p (stride (sides e) a) (odd-lt e p a) (axis-down e p a)
 
   -- they lie two and two about the cell
-  pub up-sum : sumOver (λ x. x) (upperNeighbours e p) ≡ 2 * (parity e p X + parity e p Y + parity e p Z) * p
+  up-sum : sumOver (λ x. x) (upperNeighbours e p) ≡ 2 * (parity e p X + parity e p Y + parity e p Z) * p
   unfolding upperNeighbours
   up-sum = rw (sum-both (λ x. x) (on X ++ on Y) (on Z), sum-both (λ x. x) (on X) (on Y), sum-on X, sum-on Y, sum-on Z) (omega arith)
 

@@ -25,7 +25,7 @@ fn product(a: u32, b: u32, c: u32) -> u32
 }
 
 // The numbers of face, curve and point cells.
-fn counts(x: u32, y: u32, z: u32) -> Most
+fn cell_counts(x: u32, y: u32, z: u32) -> Most
     requires { ⌜ Sized 64 (triple x y z) ⌝ }
     ensures { λ r. ⌜ r ≡ accepted (triple x y z) ⌝ }
 {
@@ -52,5 +52,5 @@ pub fn most_components(nx: u16, ny: u16, nz: u16) -> Most
             points: 0,
         };
     }
-    counts(nx as u32, ny as u32, nz as u32)
+    cell_counts(nx as u32, ny as u32, nz as u32)
 }

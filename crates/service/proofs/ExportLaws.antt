@@ -1,6 +1,7 @@
 -- The ways of an export.
 -- Assumes nothing.
-use mathlib.Core.Path.{_≡_, ap, _∙_, subst}
+use mathlib.Core.Path.{_≡_, sym, ap, _∙_, subst}
+use mathlib.Core.Bool.{true}
 use mathlib.Core.Logic.{_≢_}
 use mathlib.Core.List.{List, [], _∷_}
 use Prim.Native.Nat.{ℕ}
@@ -8,9 +9,9 @@ use lib.ListN.{set}
 use native.Mathlib.Omega.{arith}
 use borrow.Author.Tests.{eq-eqb, ne-eqb}
 use Rattle.counts.specs.Counts.{storedCounts}
-use Rattle.counts.proofs.StoredLaws.{stored-three}
+use Rattle.counts.proofs.StoredLaws.{counts-kept, stored-three}
 use Rattle.cells.specs.Box.{Triple}
-use Rattle.cells.specs.Extents.{Sized}
+use Rattle.cells.specs.Extents.{Sized, offSize}
 use Rattle.extents.proofs.SizeLaws.{size-fits}
 use Rattle.labels.specs.OrderCounts.{cellsOfOrder}
 use Rattle.writer.specs.declared.Written.{Written}
@@ -20,8 +21,8 @@ use Rattle.reader.specs.Reading.{Outcome as Reading·Outcome, outcome as Readin
 use Rattle.labeller.specs.declared.Labelled.{Labelled}
 use Rattle.labeller.specs.Labelling.{Outcome, outcome}
 use Rattle.maxima.specs.declared.Most.{Most}
-use Rattle.maxima.specs.Maxima.{accepted, mostComponents}
-use Rattle.maxima.proofs.MaximaLaws.{most-accepted}
+use Rattle.maxima.specs.Maxima.{accepted, refused, mostComponents}
+use Rattle.maxima.proofs.MaximaLaws.{most-accepted, most-refused}
 use Rattle.service.specs.Exports.{exported, export, ExportedMost, exportedMost, exportMost, exportedWriting, exportWriting, exportedReading, exportReading}
 use Rattle.joiner.specs.Job.{Kind, Face, Curve, Point, Tables}
 use Rattle.joiner.specs.Calls.{Call, reading, answer}
@@ -42,13 +43,20 @@ pub most-exported : (r : Most) (c c′ : List ℕ) (a : Most) → r ≡ a → c�
 unfolding exportMost
 most-exported r c c′ a promise s = rw (← promise, s)
 
--- What `tugrelis_most_components` leaves, from its promise: for extents from 1 to 64 the numbers of face, curve and point cells at the three places.
+-- What `tugrelis_most_components` leaves, from its promise: for extents from 1 to 64 the numbers of face, curve and point cells at the three places, and else
+-- what these held, with refusal 1.
 pub most-places : (e : Triple) → Sized 64 e → (r x y z : ℕ) (c : List ℕ) → exportedMost r c ≡ exportMost (mostComponents e) (x ∷ y ∷ z ∷ [])
     → (r ≡ 0) × (c ≡ cellsOfOrder e 2 ∷ cellsOfOrder e 1 ∷ cellsOfOrder e 0 ∷ [])
 unfolding exportMost accepted
 most-places e s r x y z c promise =
     let told = promise ∙ ap (λ (a : Most). exportMost a (x ∷ y ∷ z ∷ [])) (most-accepted e (size-fits 64 64 e (omega arith) s)) in
     (ap (λ (o : ExportedMost). o .refusal) told, ap (λ (o : ExportedMost). o .counts) told ∙ stored-three (cellsOfOrder e 2) (cellsOfOrder e 1) (cellsOfOrder e 0) x y z)
+
+pub most-kept : (e : Triple) → offSize 64 e ≡ true → (r : ℕ) (c c′ : List ℕ) → exportedMost r c′ ≡ exportMost (mostComponents e) c → (r ≡ 1) × (c′ ≡ c)
+unfolding exportMost refused
+most-kept e t r c c′ promise =
+    let told = promise ∙ ap (λ (a : Most). exportMost a c) (most-refused e t) in
+    (ap (λ (o : ExportedMost). o .refusal) told, ap (λ (o : ExportedMost). o .counts) told ∙ sym (counts-kept 1 0 0 0 c (omega arith)))
 
 module _ (a : Written) (t : List ℕ) (l : ℕ) (o : Writing·Outcome) (promise : Writing·outcome a t ≡ o) where
   pub writing-stored : a .refusal ≡ 0 → exportedWriting (a .refusal) t (a .length) ≡ exportWriting o l

@@ -21,7 +21,7 @@ pub record Exported : Type 0 where
 abbrev pub exported : ℕ → List ℕ → List ℕ → List ℕ → Exported
 exported n m w c = record { refusal = n; map-tray = m; work-tray = w; counts = c }
 
--- The counts of faces, curves and points are stored at the three places, which held c, if the labelling is accepted.
+-- The counts of faces, curves and points are stored at the three places, which held c, if the labelling is accepted, and these stay if it is refused.
 unfoldable pub export : Outcome → List ℕ → Exported
 export o c =
     let a = o .answer in
@@ -35,7 +35,7 @@ pub record ExportedMost : Type 0 where
 abbrev pub exportedMost : ℕ → List ℕ → ExportedMost
 exportedMost n c = record { refusal = n; counts = c }
 
--- The most faces, curves and points are stored at the three places, which held c, if the call is accepted.
+-- The most faces, curves and points are stored at the three places, which held c, if the call is accepted, and these stay if it is refused.
 unfoldable pub exportMost : Most → List ℕ → ExportedMost
 exportMost a c = exportedMost (a .refusal) (storedCounts (a .refusal) (a .faces) (a .curves) (a .points) c)
 

@@ -50,9 +50,9 @@ pub extern "C" fn tugrelis_label(
 pub extern "C" fn tugrelis_most_components(nx: u16, ny: u16, nz: u16, counts: &mut [u32; 3]) -> u32
     ensures { λ r. ⌜ exportedMost r (now (counts .exit)) ≡ exportMost (mostComponents (triple nx ny nz)) (now (counts .entry)) ⌝ }
 {
-    let r = most_components(nx, ny, nz);
-    store_counts(r.refusal, r.faces, r.curves, r.points, counts);
-    r.refusal
+    let most = most_components(nx, ny, nz);
+    store_counts(most.refusal, most.faces, most.curves, most.points, counts);
+    most.refusal
 }
 
 // Writes a record; answers the refusal, 0 for none, and stores the record's length.

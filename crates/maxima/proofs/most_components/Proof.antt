@@ -14,13 +14,13 @@ returns : tie.Need-returns
 unfolding refused
 returns c = sym (most-refused _ (sym (c .before .off-size .ensures) ∙ c .if1 .taken))
 
-counts-requires : tie.Need-counts-requires
-counts-requires c κs = sized-of 64 _ (sym (c .before .off-size .ensures) ∙ c .if1 .left)
+cell-counts-requires : tie.Need-cell-counts-requires
+cell-counts-requires c κs = sized-of 64 _ (sym (c .before .off-size .ensures) ∙ c .if1 .left)
 
 returns-2 : tie.Need-returns-2
 returns-2 c =
     let test = c .before .before in
-    c .counts .ensures ∙ sym (most-accepted _ (sym (test .off-size .ensures) ∙ c .before .if1 .left))
+    c .cell-counts .ensures ∙ sym (most-accepted _ (sym (test .off-size .ensures) ∙ c .before .if1 .left))
 
 pub most-components-spec : {M : Type 1} → statement M
-most-components-spec = tie.close (tie.spec off-size-requires returns counts-requires returns-2)
+most-components-spec = tie.close (tie.spec off-size-requires returns cell-counts-requires returns-2)

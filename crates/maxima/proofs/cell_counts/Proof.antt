@@ -1,8 +1,8 @@
--- `maxima::counts` meets its contract.
+-- `maxima::cell_counts` meets its contract.
 use borrow.Author.Needs.{needs}
 use Rattle.maxima.proofs.MaximaLaws.{accepted-is}
-use Rattle.maxima.proofs.counts.Statement.{statement}
-use Rattle.maxima.proofs.counts.Tie as tie
+use Rattle.maxima.proofs.cell_counts.Statement.{statement}
+use Rattle.maxima.proofs.cell_counts.Tie as tie
 
 sub-a : tie.Need-sub-a
 sub-a c = search needs
@@ -63,8 +63,8 @@ returns c =
     (sixth .product6 .ensures .0)
     (c .product7 .ensures .0)
 
-pub counts-spec : {M : Type 1} → statement M
-counts-spec =
+pub cell-counts-spec : {M : Type 1} → statement M
+cell-counts-spec =
     tie.close
     (tie.spec
     sub-a
