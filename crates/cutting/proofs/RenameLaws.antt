@@ -1,17 +1,17 @@
 -- Rows under a renaming of the numbers: one that tells apart the numbers around each cell keeps equal rows equal, and active cells active.
 -- Assumes nothing.
 use mathlib.Core.Path.{_≡_, refl, sym, ap, ap₂, _∙_}
-use mathlib.Core.Bool.{Bool, true, false, not}
+use mathlib.Core.Bool.{Bool, false}
 use mathlib.Core.List.{List, [], _∷_, map, List·Memᴰ, head-eq-of-cons-eq, tail-eq-of-cons-eq}
 use Prim.Native.Nat.{ℕ, zero, suc, _≤_, _<_, min, max}
 use native.Mathlib.Nat.{min-comm, max-comm}
 use native.Mathlib.Omega.{arith}
 use lib.Dec.{eqb, leb}
 use lib.ListN.{length}
-use borrow.Author.Tests.{ne-eqb, leb-true, leb-false}
+use borrow.Author.Tests.{leb-true, leb-false}
 use mathlib.Core.Bool.{cond}
 use Rattle.cells.specs.Row.{once, insertAscending, sortAscending, padTo, rowOf, occupied}
-use Rattle.cells.proofs.RowLaws.{Positive, row-positive, length-sort}
+use Rattle.cells.proofs.RowLaws.{Positive, row-positive, length-sort, hasEntry, occupied-kept}
 use Rattle.cells.proofs.RowFacts.{eqb-renamed, occurrences-renamed}
 use Rattle.lists.specs.Lists.{keep}
 use Rattle.lists.proofs.Lists.{length-keep}
@@ -114,33 +114,9 @@ row-renamed g xs ys r s h k e =
     ∙ sym (ap sortAscending (once-list g ys s)))
 
 -- an occupied row stays occupied, and an empty one empty
-some : List ℕ → Bool
-some [] = false
-some (x ∷ l) = true
-
-some-insert : (x : ℕ) (l : List ℕ) → some (insertAscending x l) ≡ true
-unfolding some
-some-insert x [] = refl
-some-insert x (y ∷ l) = refl
-
-some-sort : (l : List ℕ) → some (sortAscending l) ≡ some l
-unfolding some
-some-sort [] = refl
-some-sort (x ∷ l) = some-insert x (sortAscending l)
-
-some-map : (g : ℕ → ℕ) (l : List ℕ) → some (map g l) ≡ some l
-unfolding some
-some-map g [] = refl
-some-map g (x ∷ l) = refl
-
-occupied-some : (l : List ℕ) → Positive l → occupied (padTo 6 l) ≡ some l
-unfolding occupied some
-occupied-some [] s = refl
-occupied-some (x ∷ l) s = ap not (ne-eqb x 0 (λ q. omega (arith, s .0)))
-
-row-some : (xs : List ℕ) → occupied (rowOf xs) ≡ some (keep (once xs) xs)
-unfolding rowOf
-row-some xs = occupied-some (sortAscending (keep (once xs) xs)) (row-positive xs xs) ∙ some-sort (keep (once xs) xs)
+entry-map : (g : ℕ → ℕ) (l : List ℕ) → hasEntry (map g l) ≡ hasEntry l
+entry-map g [] = refl
+entry-map g (x ∷ l) = refl
 
 pub occupied-renamed : (g : ℕ → ℕ) (xs : List ℕ) → Tells g xs → occupied (rowOf (map g xs)) ≡ occupied (rowOf xs)
-occupied-renamed g xs r = row-some (map g xs) ∙ ap some (once-list g xs r) ∙ some-map g (keep (once xs) xs) ∙ sym (row-some xs)
+occupied-renamed g xs r = occupied-kept (map g xs) ∙ ap hasEntry (once-list g xs r) ∙ entry-map g (keep (once xs) xs) ∙ sym (occupied-kept xs)

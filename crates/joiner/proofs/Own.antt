@@ -1,15 +1,14 @@
 -- Maps that a labelling leaves.
 -- Assumes nothing.
 use mathlib.Core.Bool.{Bool, false, not, true}
-use mathlib.Core.List.{List, [], _∷_}
-use mathlib.Core.Logic.{_≢_}
-use mathlib.Core.Path.{_∙_, _≡_, ap, refl, sym}
-use Prim.Native.Nat.{_<_, suc, zero, ℕ}
+use mathlib.Core.List.{List}
+use mathlib.Core.Path.{_∙_, _≡_, ap, sym}
+use Prim.Native.Nat.{_<_, ℕ}
 use native.Mathlib.Omega.{arith}
 use lib.Dec.{eqb}
 use lib.ListN.{getD, length}
 use lib.Seq.{ext-getD}
-use borrow.Author.Tests.{eqb-false, ne-eqb}
+use borrow.Author.Tests.{ne-eqb}
 use Rattle.lists.specs.Lists.{tabulate}
 use Rattle.cells.specs.Box.{Triple, volume}
 use Rattle.cells.specs.Codes.{blank}
@@ -20,24 +19,14 @@ use Rattle.labels.specs.Number.{labels}
 use Rattle.joiner.specs.Book.{labelled, voxelCodes}
 use Rattle.joiner.specs.Declines.{filled}
 use Rattle.joiner.specs.Statement.{Labelling}
-use Rattle.lists.proofs.Cases.{and-both, and-first, and-second, neither, not-twice}
+use Rattle.lists.proofs.Cases.{and-both, and-first, and-second, not-twice}
 use Rattle.lists.proofs.Lists.{getD-tabulate, length-tabulate}
 use Rattle.lists.proofs.Tests.{all-in}
+use Rattle.cells.proofs.CodeLaws.{blank-not, not-blank}
 use Rattle.cells.proofs.GridLaws.{voxel-cell, voxel-cell-inside, voxel-cell-order, voxel-inside}
 use Rattle.cells.proofs.RowLaws.{row-same, same-row}
 use Rattle.labels.proofs.ComponentLaws.{of-order-out}
 use Rattle.labels.proofs.LabelLaws.{labels-numbering}
-
-blank-not : (xs : List ℕ) → ((i : ℕ) → i < length xs → getD xs i 0 ≢ 0) → blank xs ≡ false
-unfolding blank
-blank-not [] h = refl
-blank-not (x ∷ xs) h = rw (ne-eqb x 0 (h 0 (omega arith))) (blank-not xs (λ i l. h (suc i) (omega arith)))
-
-not-blank : (xs : List ℕ) → blank xs ≡ false → (i : ℕ) → i < length xs → getD xs i 0 ≢ 0
-unfolding blank
-not-blank [] e i h = absurd (omega arith)
-not-blank (x ∷ xs) e zero h = eqb-false x 0 (neither (eqb x 0) (blank xs) e .0)
-not-blank (x ∷ xs) e (suc i) h = not-blank xs (neither (eqb x 0) (blank xs) e .1) i (omega arith)
 
 module _ (e : Triple) (m : List ℕ) where
   -- the codes of a labelling stand at the voxels of its map

@@ -15,13 +15,13 @@ use Rattle.cells.specs.Grid.{cells, order, upperNeighbours}
 use Rattle.cells.specs.Row.{occurrences, once, padTo, row, rowOf, sortAscending}
 use Rattle.labels.specs.Components.{component, componentRow, firstCell, largest, rowAtFirst}
 use Rattle.labels.specs.Numbering.{Numbering}
-use Rattle.cutting.specs.Cutting.{Cutting, blockExtents, blocks, embed, goodCut, sameInterval}
+use Rattle.cutting.specs.Cutting.{Cutting, blockExtents, blocks, embed, goodCut}
 use Rattle.cutting.specs.Nodes.{part, uncutMap}
 use Rattle.joiner.specs.Declines.{finalOf}
 use Rattle.joiner.specs.Entries.{finalFace, rowAt, rowFinal, shifted}
 use Rattle.joiner.specs.Job.{Curve, Face, Kind, Tables, fromOf, node, orderOf}
 use Rattle.lists.proofs.Cases.{by-test}
-use Rattle.lists.proofs.Lists.{consecutive-out, keep-out, length-keep, map-same}
+use Rattle.lists.proofs.Lists.{consecutive-out, keep-out, length-keep, map-consecutive-suc, map-same}
 use Rattle.cells.proofs.GridLaws.{Upper, length-up, upper-neighbour}
 use Rattle.cells.proofs.RowFacts.{occurrences-sort, occurs}
 use Rattle.cells.proofs.RowLaws.{getD-pad, once-positive, length-sort}
@@ -47,11 +47,6 @@ component-row-first e codes m M j lj n h0 hn = go (component e m j n) has
     go (p ∷ c) h = refl
 
 -- ---- lists
-
-map-consecutive-suc : (f : ℕ → ℕ) (i n : ℕ) → map f (consecutive (suc i) n) ≡ map (λ j. f (suc j)) (consecutive i n)
-unfolding consecutive
-map-consecutive-suc f i zero = refl
-map-consecutive-suc f i (suc n) = ap {B = List ℕ} (λ r. f (suc i) ∷ r) (map-consecutive-suc f (suc i) n)
 
 padded : (h : ℕ → ℕ) (n : ℕ) (l : List ℕ) → tabulate n (λ i. h (getD l i 0)) ≡ map h (padTo n l)
 unfolding consecutive tabulate

@@ -58,9 +58,10 @@ module _ (p : ℕ → Bool) (w n : ℕ) (f : ℕ → ℕ) (row : (i : ℕ) → i
 
 -- ---- the cells of an order, counted line by line and layer by layer
 
-placed : (e : Triple) (x y z : ℕ) → z * ((2 * e .y - 1) * (2 * e .x - 1)) + (y * (2 * e .x - 1) + (x * 1 + 0)) ≡ index (sides e) (triple x y z)
+-- the position of a cell, by layer, line and place
+position-of : (e : Triple) (x y z : ℕ) → z * ((2 * e .y - 1) * (2 * e .x - 1)) + (y * (2 * e .x - 1) + (x * 1 + 0)) ≡ index (sides e) (triple x y z)
 unfolding index sides
-placed e x y z = omega arith
+position-of e x y z = omega arith
 
 -- n of the count for s odd coordinates, and n − 1 of the count for one more
 abbrev spread : ℕ → (ℕ → ℕ) → ℕ → ℕ
@@ -88,7 +89,7 @@ module _ (e : Triple) (j : ℕ) where
   unfolding countBelow
   count-cell x y z hx hy hz =
       let o : order e (z * (h * w) + (y * w + (x * 1 + 0))) ≡ 3 - (0 + z % 2 + y % 2 + x % 2)
-      = ap (order e) (placed e x y z) ∙ order-at e (triple x y z) within ∙ omega arith in
+      = ap (order e) (position-of e x y z) ∙ order-at e (triple x y z) within ∙ omega arith in
       rw o
     where
       within : Inside (sides e) (triple x y z)

@@ -96,7 +96,7 @@ unfolding consecutive
 map-consecutive-snoc f i zero = rw (add-zero i)
 map-consecutive-snoc f i (suc n) = ap (λ l. f i ∷ l) (map-consecutive-snoc f (suc i) n ∙ rw (suc-add i n, add-suc i n))
 
-map-consecutive-suc : (f : ℕ → ℕ) (i n : ℕ) → map f (consecutive (suc i) n) ≡ map (λ k. f (suc k)) (consecutive i n)
+pub map-consecutive-suc : (f : ℕ → ℕ) (i n : ℕ) → map f (consecutive (suc i) n) ≡ map (λ k. f (suc k)) (consecutive i n)
 unfolding consecutive
 map-consecutive-suc f i zero = refl
 map-consecutive-suc f i (suc n) = ap (λ l. f (suc i) ∷ l) (map-consecutive-suc f (suc i) n)

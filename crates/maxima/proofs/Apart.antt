@@ -76,7 +76,7 @@ module _ (e : Triple) (m : List ℕ) (j : ℕ) (lj : j < 3) (D : DifferentNumber
   unfolding active row
   all-active p h o =
       let r = some-number at (around p) (omega (arith, length-up e p)) (up-once e p h) (λ x y a b. told x y (order-above p x h o a) (order-above p y h o b)) in
-      row-occupied (map at (around p)) (short p) (stands-once p h o) (Memᴰ·map at (r .1)) (r .2)
+      row-occupied (map at (around p)) (stands-once p h o) (Memᴰ·map at (r .1)) (r .2)
 
   -- ---- the place of a number, counted from that of 0
 

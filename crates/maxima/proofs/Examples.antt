@@ -26,11 +26,11 @@ unfolding isExtent offSize givenBy first table number standsIn declines refusalO
 refused-extents = refl
 
 -- The counts of faces, curves and points.
-abbrev tally : Triple → List ℕ → List ℕ
-tally e codes = map (largest e (labels e codes)) (2 ∷ 1 ∷ 0 ∷ [])
+abbrev countsOf : Triple → List ℕ → List ℕ
+countsOf e codes = map (largest e (labels e codes)) (2 ∷ 1 ∷ 0 ∷ [])
 
 -- 2×2×2 with the codes 1 to 8, and with 0 in the place of the 8, reaches all three numbers. Two zeros are too many: 2×1×1 has then no face.
-pub tallies : tally (triple 2 2 2) (countedCodes (triple 2 2 2)) ∷ tally (triple 2 2 2) (1 ∷ 2 ∷ 3 ∷ 4 ∷ 5 ∷ 6 ∷ 7 ∷ 0 ∷ []) ∷ tally (triple 2 1 1) (0 ∷ 0 ∷ []) ∷ []
+pub counts-listed : countsOf (triple 2 2 2) (countedCodes (triple 2 2 2)) ∷ countsOf (triple 2 2 2) (1 ∷ 2 ∷ 3 ∷ 4 ∷ 5 ∷ 6 ∷ 7 ∷ 0 ∷ []) ∷ countsOf (triple 2 1 1) (0 ∷ 0 ∷ []) ∷ []
     ≡ (12 ∷ 6 ∷ 1 ∷ []) ∷ (12 ∷ 6 ∷ 1 ∷ []) ∷ (0 ∷ 0 ∷ 0 ∷ []) ∷ []
 unfolding consecutive tabulate mergeIds joinClasses joins rep countBelow leader numberBy label stride volume index place sides cells parity order along upperNeighbours voxel rowOf occupied row active pairs alike edgesAt orderBelow edges activeOf Number·number numberedAt numbered codeAt mapDown labels ofOrder largest countedCodes
-tallies = refl
+counts-listed = refl

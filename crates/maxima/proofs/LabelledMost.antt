@@ -1,27 +1,28 @@
 -- What `label` answers beside what `most_components` answers for the same extents. The premises are the promises of the two entries.
 -- Assumes nothing.
-use mathlib.Core.Path.{_≡_, refl, ap, _∙_}
+use mathlib.Core.Path.{_≡_, refl, sym, ap, _∙_}
 use mathlib.Core.Bool.{false}
-use mathlib.Core.List.{List, map}
-use Prim.Native.Nat.{ℕ, zero, suc, _≤_, _<_}
+use mathlib.Core.List.{List}
+use Prim.Native.Nat.{ℕ, suc, _≤_, _<_}
 use native.Mathlib.Omega.{arith}
 use lib.Dec.{eqb}
 use lib.ListN.{length, getD}
-use borrow.Author.Tests.{eqb-true, eqb-false, ne-eqb}
+use borrow.Author.Tests.{eqb-true, eqb-false}
 use Rattle.lists.proofs.Cases.{by-test}
-use Rattle.lists.specs.Lists.{consecutive, tabulate}
+use Rattle.lists.specs.Lists.{tabulate}
 use Rattle.lists.proofs.Lists.{length-tabulate, getD-tabulate}
 use Rattle.cells.specs.Box.{Triple, volume}
-use Rattle.cells.specs.Codes.{blank}
 use Rattle.cells.specs.Extents.{Sized, offSize}
 use Rattle.cells.specs.Grid.{cells}
+use Rattle.cells.proofs.CodeLaws.{blank-not}
 use Rattle.cells.proofs.ExtentLaws.{volume-high}
+use Rattle.extents.proofs.SizeLaws.{size-fits}
 use Rattle.labels.specs.Number.{labels}
 use Rattle.labels.specs.Components.{largest}
 use Rattle.labels.specs.OrderCounts.{cellsOfOrder}
 use Rattle.labeller.specs.declared.Labelled.{Labelled}
 use Rattle.labeller.specs.Labelling.{Outcome, outcome, labelling, refusalOf, refused, Ready}
-use Rattle.labeller.proofs.LabellingLaws.{refusal-is, ready-accepted}
+use Rattle.labeller.proofs.LabellingLaws.{ready-of, ready-accepted}
 use Rattle.labeller.proofs.OneBlock.{label-refusal, label-refused, label-map, label-counts}
 use Rattle.maxima.specs.declared.Most.{Most}
 use Rattle.maxima.specs.Maxima.{DifferentCodes, countedCodes, accepted, mostComponents}
@@ -33,11 +34,8 @@ module _ (e : Triple) (codes m w : List ℕ) (r : Labelled) (m′ w′ : List �
     -- an accepted labelling has extents that are not off size
     sized : offSize 64 e ≡ false
     sized =
-        by-test (offSize 64 e)
-        (λ t.
-        let one : r .refusal ≡ 1 = label-refusal e codes m w r m′ w′ promise ∙ refusal-is e codes (length m) (length w) ∙ rw t in
-        absurd (omega arith))
-        (λ t. t)
+        let ready = ready-of e codes (length m) (length w) (sym (label-refusal e codes m w r m′ w′ promise) ∙ fine) in
+        size-fits 64 64 e (omega arith) (ready .sized)
 
     told : s ≡ accepted e
     told = answered ∙ most-accepted e sized
@@ -84,11 +82,6 @@ module _ (e : Triple) (codes m w : List ℕ) (r : Labelled) (m′ w′ : List �
 
 -- ---- such a call there is, for all extents from 1 to 64: the codes 1, 2, 3, ..
 
-no-blank : (i n : ℕ) → blank (map suc (consecutive i n)) ≡ false
-unfolding blank consecutive
-no-blank i zero = refl
-no-blank i (suc n) = rw (ne-eqb (suc i) 0 (omega arith)) (no-blank (suc i) n)
-
 module _ (e : Triple) (z : Sized 64 e) where
   -- "A voxel's code is 1 to 4,294,967,295."
   pub counted-codes : (v : ℕ) → v < volume e → (1 ≤ getD (countedCodes e) v 0) × (getD (countedCodes e) v 0 ≤ 4294967295)
@@ -102,7 +95,7 @@ module _ (e : Triple) (z : Sized 64 e) where
   unfolding countedCodes tabulate
   counted-accepted =
       let ready : Ready e (length (countedCodes e)) (cells e) (cells e) = record { sized = z; codes-are = length-tabulate (volume e) suc; map-is = refl; work-is = refl } in
-      ready-accepted e (countedCodes e) (cells e) (cells e) ready (no-blank 0 (volume e))
+      ready-accepted e (countedCodes e) (cells e) (cells e) ready (blank-not (countedCodes e) (λ v h. let c = counted-codes v (rw (length-tabulate (volume e) suc) at h) in omega (arith, c .0)))
 
   -- `label` accepts them, in trays of the right lengths, and answers as many faces, curves and points as `most_components`.
   pub counted-reached : (m w : List ℕ) → length m ≡ cells e → length w ≡ cells e → (r : Labelled) (m′ w′ : List ℕ) → outcome r m′ w′ ≡ labelling e (countedCodes e) m w

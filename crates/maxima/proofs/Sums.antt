@@ -1,9 +1,9 @@
 -- Sums of a function's values over the entries of a list. Where the value at 0 is 0 and every other number stands once, the sum over a row is that over its numbers.
 -- Assumes nothing.
 use mathlib.Core.Path.{_≡_, refl, sym, ap, _∙_}
-use mathlib.Core.Bool.{Bool, true, false, not, true≢false}
-use mathlib.Core.Logic.{_⊎_, inl, inr, _≢_}
-use mathlib.Core.List.{List, [], _∷_, _++_, map, List·Memᴰ, List·Memᴰ·head, List·Memᴰ·tail, List·Memᴰ·not-nil, List·Memᴰ·cases-cons}
+use mathlib.Core.Bool.{Bool, true, false, true≢false}
+use mathlib.Core.Logic.{_≢_}
+use mathlib.Core.List.{List, [], _∷_, _++_, map, List·Memᴰ, List·Memᴰ·head, List·Memᴰ·tail}
 use Prim.Native.Nat.{ℕ, zero, suc, _+_, _*_, _≤_, _<_}
 use native.Mathlib.Omega.{arith}
 use lib.Dec.{eqb}
@@ -11,9 +11,9 @@ use lib.ListN.{length}
 use borrow.Author.Tests.{eqb-true, eqb-false, eq-eqb, ne-eqb}
 use Rattle.lists.specs.Lists.{keep}
 use Rattle.lists.proofs.Cases.{by-test}
-use Rattle.lists.proofs.Lists.{length-keep}
+use Rattle.lists.proofs.Lists.{keep-in, length-keep}
 use Rattle.cells.specs.Row.{occurrences, once, insertAscending, sortAscending, padTo, rowOf, occupied}
-use Rattle.cells.proofs.RowLaws.{Positive, row-positive, length-sort}
+use Rattle.cells.proofs.RowLaws.{length-sort, entry-in, occupied-kept}
 use Rattle.cells.proofs.RowFacts.{min-max}
 
 -- The sum of the values of f.
@@ -28,15 +28,6 @@ sum-both f (x ∷ l) k = omega (arith, sum-both f l k)
 pub sum-told : (f g : ℕ → ℕ) (l : List ℕ) → sumOver f (map g l) ≡ sumOver (λ x. f (g x)) l
 sum-told f g [] = refl
 sum-told f g (x ∷ l) = ap (λ (n : ℕ). f (g x) + n) (sum-told f g l)
-
--- a positive value makes a positive sum
-sum-positive : (f : ℕ → ℕ) (l : List ℕ) {x : ℕ} → List·Memᴰ x l → 0 < f x → 0 < sumOver f l
-sum-positive f [] m h = absurd (List·Memᴰ·not-nil m)
-sum-positive f (y ∷ l) {x} m h = go (List·Memᴰ·cases-cons m) (λ k. sum-positive f l k h)
-  where
-    go : (x ≡ y) ⊎ List·Memᴰ x l → (List·Memᴰ x l → 0 < sumOver f l) → 0 < f y + sumOver f l
-    go (inl e) ih = omega (arith, ap f e)
-    go (inr k) ih = omega (arith, ih k)
 
 pub sum-constant : (z : ℕ) (l : List ℕ) → sumOver (λ x. z) l ≡ length l * z
 sum-constant z [] = omega arith
@@ -87,14 +78,9 @@ sum-row f z xs h s =
         (λ u. ap f (eqb-true x 0 u) ∙ z)
         (λ u. absurd (true≢false (sym (eq-eqb (occurrences x xs) 1 (s x m (eqb-false x 0 u))) ∙ (rw u at t))))
 
--- a row whose numbers have a positive sum has an entry
-sum-occupied : (l : List ℕ) → Positive l → 0 < sumOver (λ x. x) (padTo 6 l) → occupied (padTo 6 l) ≡ true
-unfolding occupied
-sum-occupied [] p h = absurd (omega arith)
-sum-occupied (x ∷ l) p h = ap not (ne-eqb x 0 (omega (arith, p .0)))
-
-pub row-occupied : (xs : List ℕ) → length xs ≤ 6 → StandsOnce xs → {x : ℕ} → List·Memᴰ x xs → 0 < x → occupied (rowOf xs) ≡ true
-unfolding rowOf
-row-occupied xs l s {x} m h =
-    sum-occupied (sortAscending (keep (once xs) xs)) (row-positive xs xs)
-    (omega (arith, sum-row (λ y. y) refl xs l s, sum-positive (λ y. y) xs m h))
+-- a number that is not 0 gives such a row an entry
+pub row-occupied : (xs : List ℕ) → StandsOnce xs → {x : ℕ} → List·Memᴰ x xs → 0 < x → occupied (rowOf xs) ≡ true
+row-occupied xs s {x} m h =
+    let d : x ≢ 0 = omega arith in
+    let one : once xs x ≡ true = rw (ne-eqb x 0 d) (eq-eqb (occurrences x xs) 1 (s x m d)) in
+    occupied-kept xs ∙ entry-in (keep (once xs) xs) (keep-in (once xs) xs m one)

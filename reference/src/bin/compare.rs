@@ -20,7 +20,7 @@ extern "C" {
     fn tugrelis_read_record(bytes: *const u8, bytes_len: usize, map: *mut u32, map_len: usize, fields: *mut [u16; 6]) -> u32;
 }
 
-/// What is compared, by the names that --spoil takes.
+/// What is compared, by the names that --spoil takes: an entry's refusal by the entry's name (label, most, write, read), and what it leaves by a name of its own.
 const WHATS: [&str; 12] = ["label", "counts", "map", "work", "most", "maxima", "write", "length", "record", "read", "fields", "back"];
 
 /// Places before and behind every lent tray, which must stay as they are.
