@@ -228,7 +228,7 @@ module _ (o : Told) (own : ℕ → List ℕ) (ext : offSize 1024 (o .cutting .ex
     earlier : EarlyOnly (standsIn (bookDeclines B c)) (standsIn (earlyCases B c))
     unfolding bookDeclines standsIn number
     earlier =
-        record { h-size = refl; h-cut = refl; h-stage = refl; h-place = refl; h-done = refl; h-tray = refl; h-blank = refl; h-stray = refl; h-layers = refl; h-full = refl; h-record = refl }
+        record { h-size = refl; h-cut = refl; h-stage = refl; h-place = refl; h-done = refl; h-tray = refl; h-blank = refl; h-stray = refl; h-layers = refl; h-full = refl; h-record = refl; h-reading = refl }
 
     -- the book gives what it gives of 3 to 6, where it gives one of them, and never 8
     pub book-early : bookEarly B c ≢ 0 → bookRefusal B c ≡ bookEarly B c
@@ -266,6 +266,7 @@ module _ (o : Told) (own : ℕ → List ℕ) (ext : offSize 1024 (o .cutting .ex
           ap not (and-both (talliesFit (s .job)) (standsFor s c) tallies-fit (l .0)),
           ap (λ (z : Told). layersDiffer (z .cutting) c) (I .told ∙ sym (I .btold)),
           ap (λ (z : Told). full (z .entries) (s .job .sofar) (adds s c)) (I .told ∙ sym (I .btold)) ∙ full-same (B .told .entries) (s .job .sofar) (adds s c) (B .sofar) (bookAdds B c) (I .sofar) (l .1),
+          refl,
         ))
 
   -- ---- call by call

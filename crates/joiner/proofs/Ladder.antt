@@ -6,7 +6,7 @@ use mathlib.Core.Logic.{_≢_, _⊎_, inl, inr}
 use mathlib.Core.Path.{_≡_, refl}
 use Prim.Native.Nat.{ℕ, _<_, _≤_}
 use native.Mathlib.Omega.{arith}
-use Rattle.refusals.specs.Refusals.{Refusal, bad-cut, bad-record, blank-voxel, done-already, first, givenBy, layers-differ, listedNumbers, no-such-place, number, off-size, stray-label, table, table-full, wrong-stage, wrong-tray}
+use Rattle.refusals.specs.Refusals.{Refusal, bad-cut, bad-reading, bad-record, blank-voxel, done-already, first, givenBy, layers-differ, listedNumbers, no-such-place, number, off-size, stray-label, table, table-full, wrong-stage, wrong-tray}
 use Rattle.joiner.specs.Job.{State, Tables, Told}
 use Rattle.joiner.specs.Calls.{Call}
 use Rattle.joiner.specs.Declines.{declines}
@@ -18,7 +18,7 @@ use Rattle.lists.proofs.Cases.{by-test}
 pub ladder : (f : Refusal → Bool)
     → givenBy f
     ≡ cond (f off-size) 1 (cond (f bad-cut) 2 (cond (f wrong-stage) 3 (cond (f no-such-place) 4 (cond (f done-already) 5 (cond (f wrong-tray) 6
-    (cond (f blank-voxel) 7 (cond (f stray-label) 8 (cond (f layers-differ) 9 (cond (f table-full) 10 (cond (f bad-record) 11 0))))))))))
+    (cond (f blank-voxel) 7 (cond (f stray-label) 8 (cond (f layers-differ) 9 (cond (f table-full) 10 (cond (f bad-record) 11 (cond (f bad-reading) 12 0)))))))))))
 unfolding givenBy first table number
 ladder f = refl
 
@@ -52,21 +52,22 @@ pub record EarlyOnly (g h : Refusal → Bool) : Type 0 where
   pub h-layers : h layers-differ ≡ false
   pub h-full : h table-full ≡ false
   pub h-record : h bad-record ≡ false
+  pub h-reading : h bad-reading ≡ false
 
 early-ladder : (g h : Refusal → Bool) → EarlyOnly g h → givenBy h ≡ cond (g wrong-stage) 3 (cond (g no-such-place) 4 (cond (g done-already) 5 (cond (g wrong-tray) 6 0)))
-early-ladder g h E = rw (ladder h, E .h-size, E .h-cut, E .h-stage, E .h-place, E .h-done, E .h-tray, E .h-blank, E .h-stray, E .h-layers, E .h-full, E .h-record) refl
+early-ladder g h E = rw (ladder h, E .h-size, E .h-cut, E .h-stage, E .h-place, E .h-done, E .h-tray, E .h-blank, E .h-stray, E .h-layers, E .h-full, E .h-record, E .h-reading) refl
 
 module _ (f g : Refusal → Bool) (A : Alongside f g) where
   -- where the late tests agree too, so do the refusals
   pub given-agree : Bookish g
-      → (f wrong-stage ≡ false → f no-such-place ≡ false → (f stray-label ≡ false) × (f layers-differ ≡ g layers-differ) × (f table-full ≡ g table-full))
+      → (f wrong-stage ≡ false → f no-such-place ≡ false → (f stray-label ≡ false) × (f layers-differ ≡ g layers-differ) × (f table-full ≡ g table-full) × (f bad-reading ≡ g bad-reading))
       → givenBy f ≡ givenBy g
   given-agree G late =
       rw (ladder f, ladder g, A .f-size, A .f-cut, A .f-blank, A .f-record, G .g-size, G .g-cut, G .g-blank, G .g-stray, G .g-record, ← A .stage)
       (by-test (f wrong-stage) (λ a. rw a refl)
       (λ a. rw (a, ← A .early a .0, ← A .early a .1, ← A .early a .2)
       (by-test (f no-such-place) (λ b. rw b refl)
-      (λ b. rw (b, late a b .0, late a b .1, late a b .2) refl))))
+      (λ b. rw (b, late a b .0, late a b .1, late a b .2, late a b .3) refl))))
 
   -- what the book says of 3 to 6 alone
   module _ (early-of : Refusal → Bool) (E : EarlyOnly g early-of) where
@@ -81,13 +82,14 @@ module _ (f g : Refusal → Bool) (A : Alongside f g) where
         (by-test (f done-already) (λ c. rw c (inl refl))
         (λ c. rw c
         (by-test (f wrong-tray) (λ d. rw d (inl refl))
-        (λ d. rw d (inr (refl, later (f stray-label) (f layers-differ) (f table-full)))))))))))
+        (λ d. rw d (inr (refl, later (f stray-label) (f layers-differ) (f table-full) (f bad-reading)))))))))))
       where
-        later : (a b c : Bool) → 0 < cond a 8 (cond b 9 (cond c 10 0)) → 6 < cond a 8 (cond b 9 (cond c 10 0))
-        later true b c h = omega arith
-        later false true c h = omega arith
-        later false false true h = omega arith
-        later false false false h = absurd (omega arith)
+        later : (a b c d : Bool) → 0 < cond a 8 (cond b 9 (cond c 10 (cond d 12 0))) → 6 < cond a 8 (cond b 9 (cond c 10 (cond d 12 0)))
+        later true b c d h = omega arith
+        later false true c d h = omega arith
+        later false false true d h = omega arith
+        later false false false true h = omega arith
+        later false false false false h = absurd (omega arith)
 
     pub given-early : givenBy early-of ≢ 0 → givenBy f ≡ givenBy early-of
     given-early n = go early-cases
@@ -117,21 +119,22 @@ module _ (g h : Refusal → Bool) (G : Bookish g) (E : EarlyOnly g h) where
       (by-test (g wrong-tray) (λ d. rw d (λ n. refl))
       (λ d. rw d (λ n. absurd (n refl))))))))))
 
-abbrev rungs : Bool → Bool → Bool → Bool → Bool → Bool → ℕ
-rungs a b c d e f = cond a 3 (cond b 4 (cond c 5 (cond d 6 (cond e 9 (cond f 10 0)))))
+abbrev rungs : Bool → Bool → Bool → Bool → Bool → Bool → Bool → ℕ
+rungs a b c d e f g = cond a 3 (cond b 4 (cond c 5 (cond d 6 (cond e 9 (cond f 10 (cond g 12 0))))))
 
 -- .. and never 8
 pub given-stray : (g : Refusal → Bool) → Bookish g → givenBy g ≢ 8
-given-stray g G = rw (ladder g, G .g-size, G .g-cut, G .g-blank, G .g-stray, G .g-record) (go (g wrong-stage) (g no-such-place) (g done-already) (g wrong-tray) (g layers-differ) (g table-full))
+given-stray g G = rw (ladder g, G .g-size, G .g-cut, G .g-blank, G .g-stray, G .g-record) (go (g wrong-stage) (g no-such-place) (g done-already) (g wrong-tray) (g layers-differ) (g table-full) (g bad-reading))
   where
-    go : (a b c d e f : Bool) → rungs a b c d e f ≢ 8
-    go true b c d e f z = omega arith
-    go false true c d e f z = omega arith
-    go false false true d e f z = omega arith
-    go false false false true e f z = omega arith
-    go false false false false true f z = omega arith
-    go false false false false false true z = omega arith
-    go false false false false false false z = omega arith
+    go : (a b c d e f h : Bool) → rungs a b c d e f h ≢ 8
+    go true b c d e f h z = omega arith
+    go false true c d e f h z = omega arith
+    go false false true d e f h z = omega arith
+    go false false false true e f h z = omega arith
+    go false false false false true f h z = omega arith
+    go false false false false false true h z = omega arith
+    go false false false false false false true z = omega arith
+    go false false false false false false false z = omega arith
 
 -- ---- the numbers that the entries list, in the order of the table
 

@@ -1,4 +1,4 @@
--- The refusal given is the first of the table whose case stands, which is the lowest of 1 to 11, and none is given exactly where no case stands.
+-- The refusal given is the first of the table whose case stands, which is the lowest of 1 to 12, and none is given exactly where no case stands.
 -- Assumes nothing.
 use mathlib.Core.Path.{_≡_, refl, sym, ap, _∙_}
 use mathlib.Core.Logic.{_⊎_, inl, inr, _↔_}
@@ -12,10 +12,10 @@ use Rattle.lists.proofs.Cases.{by-test}
 use lib.Dec.{ltb}
 use borrow.Author.Tests.{ltb-true, ltb-false}
 use Rattle.lists.proofs.Lists.{Ascends, ascends-le, ascends-consecutive}
-use Rattle.refusals.specs.Refusals.{Refusal, off-size, bad-cut, wrong-stage, no-such-place, done-already, wrong-tray, blank-voxel, stray-label, layers-differ, table-full, bad-record, number, table, first, givenBy}
+use Rattle.refusals.specs.Refusals.{Refusal, off-size, bad-cut, wrong-stage, no-such-place, done-already, wrong-tray, blank-voxel, stray-label, layers-differ, table-full, bad-record, bad-reading, number, table, first, givenBy}
 
--- The numbers are 1 to 11, in the order of the table.
-pub table-numbers : map number table ≡ consecutive 1 11
+-- The numbers are 1 to 12, in the order of the table.
+pub table-numbers : map number table ≡ consecutive 1 12
 unfolding number table consecutive
 table-numbers = refl
 
@@ -33,6 +33,7 @@ table-whole stray-label = later (later (later (later (later (later (later (here 
 table-whole layers-differ = later (later (later (later (later (later (later (later (here refl))))))))
 table-whole table-full = later (later (later (later (later (later (later (later (later (here refl)))))))))
 table-whole bad-record = later (later (later (later (later (later (later (later (later (later (here refl))))))))))
+table-whole bad-reading = later (later (later (later (later (later (later (later (later (later (later (here refl)))))))))))
 
 -- What is given is the number of a refusal whose case stands.
 pub record GivenFirst (stands : Refusal → Bool) (rs : List Refusal) (n : ℕ) : Type 0 where
@@ -50,7 +51,7 @@ number-positive : (r : Refusal) → 0 < number r
 number-positive r = ltb-true 0 (number r) (all-out (λ q. ltb 0 (number q)) table all-number-positive (table-whole r))
 
 ascending : Ascends 1 (map number table)
-ascending = rw table-numbers (ascends-consecutive 1 11)
+ascending = rw table-numbers (ascends-consecutive 1 12)
 
 module _ (stands : Refusal → Bool) where
   first-given : (rs : List Refusal) → 0 < first stands rs → GivenFirst stands rs (first stands rs)

@@ -1,4 +1,4 @@
--- What the service declines (document 01): the refusals by name and number. An entry lists its own cases; which of them is given, one table decides.
+-- What the service declines (document 01, and 12 by item 1 of document 02): the refusals by name and number. An entry lists its own cases; which of them is given, one table decides.
 -- Assumes nothing.
 use mathlib.Core.Bool.{Bool, false, cond}
 use mathlib.Core.List.{List, [], _∷_, map}
@@ -7,7 +7,7 @@ use lib.Dec.{eqb}
 
 -- The column "Called" of the table.
 pub data Refusal : Type 0 where
-  off-size bad-cut wrong-stage no-such-place done-already wrong-tray blank-voxel stray-label layers-differ table-full bad-record : Refusal
+  off-size bad-cut wrong-stage no-such-place done-already wrong-tray blank-voxel stray-label layers-differ table-full bad-record bad-reading : Refusal
 
 -- The column "Number".
 unfoldable pub number : Refusal → ℕ
@@ -22,11 +22,12 @@ number stray-label = 8
 number layers-differ = 9
 number table-full = 10
 number bad-record = 11
+number bad-reading = 12
 
 -- The rows of the table, in the order in which refusals are given.
 unfoldable pub table : List Refusal
 table =
-    off-size ∷ bad-cut ∷ wrong-stage ∷ no-such-place ∷ done-already ∷ wrong-tray ∷ blank-voxel ∷ stray-label ∷ layers-differ ∷ table-full ∷ bad-record ∷ []
+    off-size ∷ bad-cut ∷ wrong-stage ∷ no-such-place ∷ done-already ∷ wrong-tray ∷ blank-voxel ∷ stray-label ∷ layers-differ ∷ table-full ∷ bad-record ∷ bad-reading ∷ []
 
 -- The number of the first refusal of a list whose case stands; 0 where none does.
 unfoldable pub first : (Refusal → Bool) → List Refusal → ℕ

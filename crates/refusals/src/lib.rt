@@ -20,3 +20,6 @@ pub const LAYERS_DIFFER: u32 = 9;
 pub const TABLE_FULL: u32 = 10;
 
 pub const BAD_RECORD: u32 = 11;
+
+// Document 02, item 1.
+pub const BAD_READING: u32 = 12;

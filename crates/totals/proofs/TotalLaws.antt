@@ -1,0 +1,187 @@
+-- The laws of the totals' leaves, one for each way through their code.
+-- Assumes nothing.
+use mathlib.Core.Path.{_≡_, refl, sym, ap, _∙_, subst}
+use mathlib.Core.Bool.{Bool, true, false, not, cond, _&&_, true≢false}
+use mathlib.Core.Logic.{_≢_}
+use mathlib.Core.List.{List, [], _∷_}
+use Prim.Native.Nat.{ℕ, zero, suc, _+_, _-_, _*_, _≤_, _<_, min}
+use native.Mathlib.Numerals.{add-one}
+use native.Mathlib.Omega.{arith}
+use lib.Dec.{eqb, leb}
+use lib.ListN.{getD, set, length, List·getD-eq-default}
+use lib.Seq.{set-out, set-getD}
+use lib.Ieee.{Float, nan, binary64, add}
+use borrow.Author.Tests.{eq-eqb, ne-eqb, le-leb, lt-leb, not-true, not-false}
+use Rattle.lists.specs.Lists.{consecutive, allOf}
+use Rattle.lists.proofs.Cases.{and-second}
+use Rattle.lists.proofs.Lists.{consecutive-left, consecutive-in}
+use Rattle.lists.proofs.Tests.{all-out}
+use Rattle.strains.specs.Units.{isUnits, plusZero}
+use Rattle.strains.specs.Readings.{isGood, sumWith, kindOf}
+use Rattle.strains.specs.declared.Reading.{Reading}
+use Rattle.totals.specs.Totals.{sumAdded, more, countAdded, readingOf, readingAt, fitsAt, readingsFit, sideAt, totalsOf, slotOf, sideStands, standsAt}
+use Rattle.totals.specs.declared.Side.{Side}
+use Rattle.totals.specs.declared.Totals.{Totals}
+
+pub more-next : (n : ℕ) → n < 18446744073709551615 → n + 1 ≡ more n
+unfolding more
+more-next n h = omega arith
+
+pub more-most : (n : ℕ) → 18446744073709551615 ≤ n → n < 18446744073709551616 → n ≡ more n
+unfolding more
+more-most n h l = omega arith
+
+module _ {A : Type 0} where
+  pub past : (l : List A) (i : ℕ) (a : A) → length l ≤ i → l ≡ set l i a
+  past l i a h = sym (set-out l i a h)
+
+  pub none-past : (l : List A) (i : ℕ) (d : A) → length l ≤ i → d ≡ getD l i d
+  none-past l i d h = sym (List·getD-eq-default l d {n = i} h)
+
+-- where there is an entry, what else would be taken does not count
+pub any-default : {A : Type 0} (l : List A) (i : ℕ) (c d : A) → i < length l → getD l i c ≡ getD l i d
+any-default [] i c d h = absurd (omega arith)
+any-default (x ∷ l) zero c d h = refl
+any-default (x ∷ l) (suc i) c d h = any-default l i c d (omega arith)
+
+pub sum-set : (l : List Float) (i : ℕ) (x : Float) → i < length l → set l i (add binary64 (getD l i nan) x) ≡ set l i (add binary64 (getD l i plusZero) x)
+sum-set l i x h = rw (any-default l i nan plusZero h)
+
+pub sum-here : (l : List Float) (i : ℕ) → i < length l → getD l i nan ≡ getD l i plusZero
+sum-here l i h = any-default l i nan plusZero h
+
+pub count-set : (l : List ℕ) (i n : ℕ) → n ≡ more (getD l i 0) → set l i n ≡ set l i (more (getD l i 0))
+count-set l i n e = rw e
+
+-- ---- one reading
+
+module _ (sums : List Float) (counts : List ℕ) (s : ℕ) (r : Reading) where
+  pub strain-sum : (x : Float) (after : List Float) → r ≡ Reading.Strain x → after ≡ set sums s (add binary64 (getD sums s plusZero) x) → after ≡ sumAdded sums s r
+  unfolding sumAdded sumWith
+  strain-sum x after e f = rw e f
+
+  pub clipped-sum : (x : Float) → r ≡ Reading.Clipped x → sums ≡ sumAdded sums s r
+  unfolding sumAdded sumWith
+  clipped-sum x e = rw e (sym (set-getD sums s plusZero))
+
+  pub missing-sum : r ≡ Reading.Missing → sums ≡ sumAdded sums s r
+  unfolding sumAdded sumWith
+  missing-sum e = rw e (sym (set-getD sums s plusZero))
+
+  pub strain-count : (x : Float) (after : List ℕ) → r ≡ Reading.Strain x → after ≡ set counts (3 * s) (more (getD counts (3 * s) 0)) → after ≡ countAdded counts s r
+  unfolding countAdded kindOf
+  strain-count x after e f = let z : 3 * s + 0 ≡ 3 * s = omega arith in rw (e, z) f
+
+  pub clipped-count : (x : Float) (after : List ℕ) → r ≡ Reading.Clipped x → after ≡ set counts (3 * s + 1) (more (getD counts (3 * s + 1) 0)) → after ≡ countAdded counts s r
+  unfolding countAdded kindOf
+  clipped-count x after e f = rw e f
+
+  pub missing-count : (after : List ℕ) → r ≡ Reading.Missing → after ≡ set counts (3 * s + 2) (more (getD counts (3 * s + 2) 0)) → after ≡ countAdded counts s r
+  unfolding countAdded kindOf
+  missing-count after e f = rw e f
+
+-- ---- readings as they come
+
+module _ (values : List Float) (kinds : List ℕ) (v : ℕ) where
+  pub reading-strain : v < length values → getD kinds v 0 ≡ 0 → Reading.Strain (getD values v nan) ≡ readingAt values kinds v
+  unfolding readingAt readingOf
+  reading-strain h e = rw (eq-eqb (getD kinds v 0) 0 e, any-default values v nan plusZero h)
+
+  pub reading-clipped : v < length values → getD kinds v 0 ≢ 0 → getD kinds v 0 ≡ 1 → Reading.Clipped (getD values v nan) ≡ readingAt values kinds v
+  unfolding readingAt readingOf
+  reading-clipped h n e = rw (ne-eqb (getD kinds v 0) 0 n, eq-eqb (getD kinds v 0) 1 e, any-default values v nan plusZero h)
+
+  pub reading-missing : getD kinds v 0 ≢ 0 → getD kinds v 0 ≢ 1 → Reading.Missing ≡ readingAt values kinds v
+  unfolding readingAt readingOf
+  reading-missing n e = rw (ne-eqb (getD kinds v 0) 0 n, ne-eqb (getD kinds v 0) 1 e)
+
+  pub kind-above : 2 < getD kinds v 0 → false ≡ fitsAt values kinds v
+  unfolding fitsAt
+  kind-above h = rw (lt-leb (getD kinds v 0) 2 h)
+
+  pub kind-fits : (r : Reading) (b : Bool) → getD kinds v 0 ≤ 2 → r ≡ readingAt values kinds v → b ≡ isGood r → b ≡ fitsAt values kinds v
+  unfolding fitsAt
+  kind-fits r b h e f = rw (le-leb (getD kinds v 0) 2 h) (f ∙ ap isGood e)
+
+pub good-strain : (r : Reading) (x : Float) (b : Bool) → r ≡ Reading.Strain x → b ≡ isUnits 2097152 x → b ≡ isGood r
+unfolding isGood
+good-strain r x b e f = rw e f
+
+pub good-clipped : (r : Reading) (x : Float) (b : Bool) → r ≡ Reading.Clipped x → b ≡ isUnits 2097152 x → b ≡ isGood r
+unfolding isGood
+good-clipped r x b e f = rw e f
+
+pub good-missing : (r : Reading) → r ≡ Reading.Missing → true ≡ isGood r
+unfolding isGood
+good-missing r e = rw e
+
+-- ---- all readings of a list
+
+module _ (values : List Float) (kinds : List ℕ) where
+  abbrev pub fitFrom : ℕ → Bool
+  fitFrom v = allOf (fitsAt values kinds) (consecutive v (length values - v))
+
+  pub fit-start : fitFrom 0 ≡ readingsFit values kinds
+  unfolding readingsFit
+  fit-start = let z : length values - 0 ≡ length values = omega arith in rw z
+
+  module _ (v : ℕ) (b : Bool) (h : v < length values) (e : b ≡ fitsAt values kinds v) where
+    pub fit-bad : not b ≡ true → fitFrom v ≡ readingsFit values kinds → false ≡ readingsFit values kinds
+    fit-bad n i = sym (rw (consecutive-left v (length values) h, sym e ∙ not-true b n) refl) ∙ i
+
+    pub fit-next : not b ≡ false → fitFrom v ≡ readingsFit values kinds → fitFrom (v + 1) ≡ readingsFit values kinds
+    fit-next n i = rw (add-one v) (sym (rw (consecutive-left v (length values) h, sym e ∙ not-false b n) refl) ∙ i)
+
+  pub fit-all : (v : ℕ) → length values ≤ v → fitFrom v ≡ readingsFit values kinds → true ≡ readingsFit values kinds
+  unfolding consecutive
+  fit-all v h i = let z : length values - v ≡ 0 = omega arith in sym (rw z refl) ∙ i
+
+-- where the test is passed, every reading of the lists is one
+pub fit-good : (values : List Float) (kinds : List ℕ) → readingsFit values kinds ≡ true → (v : ℕ) → v < length values → isGood (readingAt values kinds v) ≡ true
+unfolding readingsFit fitsAt
+fit-good values kinds t v h =
+    and-second (leb (getD kinds v 0) 2) (isGood (readingAt values kinds v))
+    (all-out (fitsAt values kinds) (consecutive 0 (length values)) t (consecutive-in 0 (length values) (omega arith) (omega arith)))
+
+-- ---- totals that are read
+
+pub side-is : (sums : List Float) (counts : List ℕ) (s : ℕ) (x : Float) (a b c : ℕ) → x ≡ getD sums s plusZero → a ≡ getD counts (3 * s) 0 → b ≡ getD counts (3 * s + 1) 0 → c ≡ getD counts (3 * s + 2) 0
+    → _≡_ {A = Side} (record { sum = x; strains = a; clipped = b; missing = c }) (sideAt sums counts s)
+unfolding sideAt
+side-is sums counts s x a b c e f g h = rw (e, f, g, h)
+
+pub totals-are : (sums : List Float) (counts : List ℕ) (n : ℕ) (a b : Side) → a ≡ sideAt sums counts (2 * (n - 1)) → b ≡ sideAt sums counts (2 * (n - 1) + 1)
+    → _≡_ {A = Totals} (record { lower = a; higher = b }) (totalsOf sums counts n)
+unfolding totalsOf slotOf
+totals-are sums counts n a b e f = let z : 2 * (n - 1) + 0 ≡ 2 * (n - 1) = omega arith in rw (e, f, z)
+
+module _ (most : ℕ) (d : Side) (t : Bool) (e : t ≡ isUnits 9007199254740992 (d .sum)) where
+  pub no-sum : not t ≡ true → false ≡ sideStands most d
+  unfolding sideStands
+  no-sum n = rw (sym e ∙ not-true t n)
+
+  module _ (n : not t ≡ false) where
+    on : isUnits 9007199254740992 (d .sum) ≡ true
+    on = sym e ∙ not-false t n
+
+    pub many-strains : most < d .strains → false ≡ sideStands most d
+    unfolding sideStands
+    many-strains h = rw (on, lt-leb (d .strains) most h)
+
+    module _ (f : d .strains ≤ most) where
+      pub many-clipped : most < d .clipped → false ≡ sideStands most d
+      unfolding sideStands
+      many-clipped h = rw (on, le-leb (d .strains) most f, lt-leb (d .clipped) most h)
+
+      module _ (g : d .clipped ≤ most) where
+        pub many-missing : most < d .missing → false ≡ sideStands most d
+        unfolding sideStands
+        many-missing h = rw (on, le-leb (d .strains) most f, le-leb (d .clipped) most g, lt-leb (d .missing) most h)
+
+        pub all-fit : d .missing ≤ most → true ≡ sideStands most d
+        unfolding sideStands
+        all-fit h = rw (on, le-leb (d .strains) most f, le-leb (d .clipped) most g, le-leb (d .missing) most h)
+
+pub stands-is : (most : ℕ) (sums : List Float) (counts : List ℕ) (s : ℕ) (d : Side) (r : Bool) → d ≡ sideAt sums counts s → r ≡ sideStands most d → r ≡ standsAt most sums counts s
+unfolding standsAt
+stands-is most sums counts s d r e f = f ∙ ap (sideStands most) e

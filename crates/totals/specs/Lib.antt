@@ -1,0 +1,2 @@
+-- The definitions that the contracts cite: the tables of totals and readings as they come.
+pub mod Totals
