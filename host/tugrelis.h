@@ -1,5 +1,5 @@
 /* Tugrelis: a labeller for segmented volumes, and a joiner of labelled blocks. The library is proved: each function answers for every input,
-   with 0 or with one of the eleven refusals below, and after a refusal every lent place holds what it held. Link libservice.a.
+   with 0 or with one of the twelve refusals below, and after a refusal every lent place holds what it held. Link libservice.a.
 
    A slice goes in as a pointer and a length in elements; an empty one may be NULL. Lent places must not overlap one another. example.c shows a job. */
 #ifndef TUGRELIS_H
@@ -24,7 +24,8 @@ enum tugrelis_refusal {
     TUGRELIS_STRAY_LABEL = 8,   /* a map, a tally or an entry holds a number that cannot stand there */
     TUGRELIS_LAYERS_DIFFER = 9, /* on a seam a code differs, or a cell is active in one block only */
     TUGRELIS_TABLE_FULL = 10,   /* faces, curves or points would exceed their table's entries */
-    TUGRELIS_BAD_RECORD = 11    /* head missing, spare bit set, voxel bit clear, a listed number 0, wrong length */
+    TUGRELIS_BAD_RECORD = 11,   /* head missing, spare bit set, voxel bit clear, a listed number 0, wrong length */
+    TUGRELIS_BAD_READING = 12   /* a kind byte above 2; a strain or clipped value no multiple of 1/1,024, beyond 2,048 or no number */
 };
 
 /* Lengths, for n_x × n_y × n_z voxels with cells = (2 n_x - 1) (2 n_y - 1) (2 n_z - 1):
@@ -53,6 +54,10 @@ enum tugrelis_refusal {
    face_listed     2 * face_entries
    curve_listed    4 * curve_entries
    point_listed    6 * point_entries
+   came            1 a block
+   face_sums       2 * face_entries, 64-bit floats: the lower-code side and the higher-code side
+   face_counts     6 * face_entries, 64 bits each: strains, clipped, missing of the lower side, then of the higher
+   values, kinds   n_x n_y n_z of the block, x fastest; kinds are 0 strain, 1 clipped, 2 missing
 
    A job is kept in thirteen numbers: the stage (0 enrol, 1 seam, 2 crossing, 3 points, 4 closed), the extents x y z, the entries of faces, curves
    and points, how many of each are enrolled or found, and how many are numbered. A step stores the job that it hands on. */
@@ -107,7 +112,10 @@ uint32_t tugrelis_open(
     const uint64_t *point_firsts, size_t point_firsts_len,
     const uint32_t *face_listed, size_t face_listed_len,
     const uint32_t *curve_listed, size_t curve_listed_len,
-    const uint32_t *point_listed, size_t point_listed_len);
+    const uint32_t *point_listed, size_t point_listed_len,
+    uint32_t *came, size_t came_len,
+    double *face_sums, size_t face_sums_len,
+    uint64_t *face_counts, size_t face_counts_len);
 
 /* Enrols a block with its map. */
 uint32_t tugrelis_enrol(
@@ -195,6 +203,37 @@ uint32_t tugrelis_lookup(
     const uint32_t *map, size_t map_len,
     uint32_t x, uint32_t y, uint32_t z,
     uint32_t *number);
+
+/* Adds the readings of a block of a closed job to the totals of its faces, each block once: its map, its values in microstrain (whole multiples of
+   1/1,024, at most 2,048 either way) and its kind bytes. A clipped value is counted and not summed; the value of a missing one is ignored. */
+uint32_t tugrelis_strain(
+    const uint32_t job[13],
+    const uint32_t *cx, size_t cx_len,
+    const uint32_t *cy, size_t cy_len,
+    const uint32_t *cz, size_t cz_len,
+    const uint32_t *blocks, size_t blocks_len,
+    const uint32_t *face_numbers, size_t face_numbers_len,
+    uint32_t *came, size_t came_len,
+    double *face_sums, size_t face_sums_len,
+    uint64_t *face_counts, size_t face_counts_len,
+    uint32_t block,
+    const uint32_t *map, size_t map_len,
+    const double *values, size_t values_len,
+    const uint8_t *kinds, size_t kinds_len);
+
+/* The totals of a face by number, once the readings of all blocks have come: places for the sums of its lower-code and its higher-code side, and for the
+   strains, clipped and missing of the lower side, then of the higher. */
+uint32_t tugrelis_total(
+    const uint32_t job[13],
+    const uint32_t *cx, size_t cx_len,
+    const uint32_t *cy, size_t cy_len,
+    const uint32_t *cz, size_t cz_len,
+    const uint32_t *came, size_t came_len,
+    const double *face_sums, size_t face_sums_len,
+    const uint64_t *face_counts, size_t face_counts_len,
+    uint32_t number,
+    double sums[2],
+    uint64_t counts[6]);
 
 /* The row of a face by number: places for the row, filled with zeros. */
 uint32_t tugrelis_face_row(

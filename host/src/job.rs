@@ -3,6 +3,7 @@ use crate::block::Counts;
 use crate::cutting::Cutting;
 use crate::raw;
 use crate::refusal::Refusal;
+use crate::strain::{Readings, Side, Sums, Totals};
 
 /// What the job goes through.
 #[derive(Clone, Copy, PartialEq, Eq, Debug)]
@@ -57,6 +58,11 @@ pub struct Tables {
     pub face_listed: Vec<u32>,
     pub curve_listed: Vec<u32>,
     pub point_listed: Vec<u32>,
+    /// One for each block: not 0 once its readings have come.
+    pub came: Vec<u32>,
+    /// Two sums and six counts for each entry of the face table.
+    pub face_sums: Sums,
+    pub face_counts: Vec<u64>,
 }
 
 impl Tables {
@@ -83,15 +89,18 @@ impl Tables {
             face_listed: vec![0; 2 * f],
             curve_listed: vec![0; 4 * c],
             point_listed: vec![0; 6 * p],
+            came: vec![0; blocks],
+            face_sums: Sums(vec![0.0; 2 * f]),
+            face_counts: vec![0; 6 * f],
         }
     }
 
     /// The bytes of all tables.
     pub fn bytes(&self) -> usize {
         let words = [&self.ticks, &self.blocks, &self.face_links, &self.curve_links, &self.face_rows, &self.curve_rows, &self.point_rows];
-        let more = [&self.face_numbers, &self.curve_numbers, &self.point_numbers, &self.face_listed, &self.curve_listed, &self.point_listed];
-        let longs = [&self.face_keys, &self.curve_keys, &self.point_keys, &self.face_firsts, &self.curve_firsts, &self.point_firsts];
-        4 * words.iter().chain(&more).map(|t| t.len()).sum::<usize>() + 8 * longs.iter().map(|t| t.len()).sum::<usize>()
+        let more = [&self.face_numbers, &self.curve_numbers, &self.point_numbers, &self.face_listed, &self.curve_listed, &self.point_listed, &self.came];
+        let longs = [&self.face_keys, &self.curve_keys, &self.point_keys, &self.face_firsts, &self.curve_firsts, &self.point_firsts, &self.face_counts];
+        4 * words.iter().chain(&more).map(|t| t.len()).sum::<usize>() + 8 * (longs.iter().map(|t| t.len()).sum::<usize>() + self.face_sums.0.len())
     }
 }
 
@@ -111,6 +120,7 @@ impl Job {
         let answer = raw::open(
             &mut numbers, nx, ny, nz, entries.faces, entries.curves, entries.points, cx, cy, cz, &mut t.ticks, &t.blocks, &t.face_links, &t.curve_links, &t.face_keys, &t.curve_keys, &t.point_keys,
             &t.face_rows, &t.curve_rows, &t.point_rows, &t.face_numbers, &t.curve_numbers, &t.point_numbers, &t.face_firsts, &t.curve_firsts, &t.point_firsts, &t.face_listed, &t.curve_listed, &t.point_listed,
+            &mut t.came, &mut t.face_sums.0, &mut t.face_counts,
         );
         match Refusal::check(answer) {
             Ok(()) => Ok(Job { numbers, cutting, tables }),
@@ -168,6 +178,20 @@ impl Job {
         };
         Refusal::check(read(&self.numbers, number, &t.face_listed, &t.curve_listed, &t.point_listed, &mut row))?;
         Ok(row)
+    }
+
+    /// Adds a block's readings to the totals of the faces: the block's map, and one reading for each of its voxels, x fastest.
+    pub fn strain(&mut self, block: u32, map: &[u32], readings: &Readings) -> Result<(), Refusal> {
+        let ([cx, cy, cz], t) = (&self.cutting.lists, &mut self.tables);
+        Refusal::check(raw::strain(&self.numbers, cx, cy, cz, &t.blocks, &t.face_numbers, &mut t.came, &mut t.face_sums.0, &mut t.face_counts, block, map, &readings.values, &readings.kinds))
+    }
+
+    /// The totals of a face, once the readings of all blocks have come.
+    pub fn total(&self, number: u32) -> Result<Totals, Refusal> {
+        let ([cx, cy, cz], t, mut sums, mut counts) = (&self.cutting.lists, &self.tables, [0.0; 2], [0; 6]);
+        Refusal::check(raw::total(&self.numbers, cx, cy, cz, &t.came, &t.face_sums.0, &t.face_counts, number, &mut sums, &mut counts))?;
+        let side = |s: usize| Side { sum: sums[s], strains: counts[3 * s], clipped: counts[3 * s + 1], missing: counts[3 * s + 2] };
+        Ok(Totals { lower: side(0), higher: side(1) })
     }
 
     pub fn stage(&self) -> Stage {

@@ -7,9 +7,11 @@ pub mod joining;
 pub mod raw;
 pub mod refusal;
 pub mod sheet;
+pub mod strain;
 pub mod volumes;
 
 pub use block::{cells, Block, Counts};
 pub use cutting::Cutting;
 pub use job::{Entries, Job, Kind, Stage, Tables};
 pub use refusal::{Refusal, REFUSALS};
+pub use strain::{Reading, Readings, Side, Sums, Totals};

@@ -1,4 +1,4 @@
-//! The eleven refusals.
+//! The twelve refusals.
 use std::fmt;
 
 /// Why a call was declined. Where several apply, the lowest number is given.
@@ -15,12 +15,13 @@ pub enum Refusal {
     LayersDiffer = 9,
     TableFull = 10,
     BadRecord = 11,
+    BadReading = 12,
 }
 
 use Refusal::*;
 
 /// All of them, by number.
-pub const REFUSALS: [Refusal; 11] = [OffSize, BadCut, WrongStage, NoSuchPlace, DoneAlready, WrongTray, BlankVoxel, StrayLabel, LayersDiffer, TableFull, BadRecord];
+pub const REFUSALS: [Refusal; 12] = [OffSize, BadCut, WrongStage, NoSuchPlace, DoneAlready, WrongTray, BlankVoxel, StrayLabel, LayersDiffer, TableFull, BadRecord, BadReading];
 
 impl Refusal {
     /// The refusal that an entry of the library answered, none for 0.
@@ -48,6 +49,7 @@ impl Refusal {
             LayersDiffer => "layers differ",
             TableFull => "table full",
             BadRecord => "bad record",
+            BadReading => "bad reading",
         }
     }
 
@@ -64,6 +66,7 @@ impl Refusal {
             LayersDiffer => "The two blocks of a seam differ in the layer that they share.",
             TableFull => "The faces, curves or points would exceed the entries of their table.",
             BadRecord => "The record's head is missing, or its bits, numbers or length break the record's rules.",
+            BadReading => "A kind byte is above 2, or a strain or clipped value is no whole multiple of 1/1,024, beyond 2,048 or no number.",
         }
     }
 }

@@ -4,6 +4,7 @@ use crate::cutting::Cutting;
 use crate::grid::{once, width, Grid, Place};
 use crate::label::{is_labelling, largest, number, Labelling};
 use crate::refusal::*;
+use crate::strain::Side;
 use std::collections::BTreeSet;
 
 #[derive(Clone, Copy, PartialEq, Eq, Debug)]
@@ -50,6 +51,8 @@ pub enum Answer {
     Done,
     Number(u32),
     Row(Vec<u32>),
+    /// The two sides of a face, lower first.
+    Totals([Side; 2]),
     /// A map that is not its block's, which neither the book nor the table of refusals stops as far as the map and what was
     /// enrolled tell. If the service accepts it, the list of calls is none that the book speaks of.
     Free,
@@ -113,8 +116,13 @@ impl Book {
     pub fn own(&self, call: &Call) -> bool {
         match *call {
             Call::Enrol { block, map } => block < self.maps.len() && is_labelling(self.cutting.grid(block).extents, map),
-            _ => brought(call).iter().all(|&(block, map)| self.maps.get(block).is_some_and(|kept| kept.as_deref() == Some(map))),
+            _ => brought(call).iter().all(|&(block, map)| self.has(block, map)),
         }
+    }
+
+    /// Whether a map is the one enrolled for its block.
+    pub(crate) fn has(&self, block: usize, map: &[u32]) -> bool {
+        self.maps.get(block).is_some_and(|kept| kept.as_deref() == Some(map))
     }
 
     /// Enters a call and gives its answer.
@@ -224,7 +232,7 @@ impl Book {
     }
 
     /// Whether a map has 0 at a voxel or, its block enrolled, a number above the block's count.
-    fn stray(&self, block: usize, map: &[u32]) -> bool {
+    pub(crate) fn stray(&self, block: usize, map: &[u32]) -> bool {
         let grid = self.cutting.grid(block);
         let limit = self.maps[block].as_ref().map(|kept| counts(&grid, kept));
         (0..map.len()).any(|p| match grid.order(p) {
@@ -268,7 +276,7 @@ impl Book {
         (0..map.len()).filter(|&p| grid.order(p) == 0).filter(active).count() as u64
     }
 
-    fn uncut(&self) -> &Labelling {
+    pub(crate) fn uncut(&self) -> &Labelling {
         self.uncut.as_ref().expect("the seams are done")
     }
 

@@ -85,6 +85,11 @@ impl Cutting {
         (0..self.blocks()).flat_map(next).filter(|&(axis, b, c)| self.seam(b, c) == Some(axis)).map(|(_, b, c)| (b, c)).collect()
     }
 
+    /// The lowest-numbered block that has a cell, named by its place in the volume.
+    pub fn lowest(&self, cell: Place) -> usize {
+        (0..self.blocks()).find(|&block| self.inside(block, cell).is_some()).expect("a cell of the volume")
+    }
+
     /// A cell's place in a block, by its place in the volume; none where it lies outside the block.
     pub fn inside(&self, block: usize, cell: Place) -> Option<usize> {
         let (origin, grid) = (self.origin(block), self.grid(block));

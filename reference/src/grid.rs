@@ -45,6 +45,12 @@ impl Grid {
         self.position([2 * (v % nx), 2 * (v / nx % ny), 2 * (v / (nx * ny))])
     }
 
+    /// The voxel at a voxel's cell.
+    pub fn voxel_at(&self, p: usize) -> usize {
+        let ([x, y, z], [nx, ny, _]) = (self.place(p).map(|c| c / 2), self.extents);
+        x + y * nx + z * nx * ny
+    }
+
     pub fn order(&self, p: usize) -> usize {
         order(self.place(p))
     }

@@ -10,6 +10,7 @@ pub mod maxima;
 pub mod outcome;
 pub mod random;
 pub mod samples;
+pub mod strain;
 pub mod table;
 #[cfg(test)]
 mod volumes;
@@ -27,4 +28,5 @@ pub mod refusal {
     pub const LAYERS_DIFFER: u32 = 9;
     pub const TABLE_FULL: u32 = 10;
     pub const BAD_RECORD: u32 = 11;
+    pub const BAD_READING: u32 = 12;
 }

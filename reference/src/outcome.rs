@@ -55,7 +55,7 @@ fn merged(roots: &[usize], pairs: &[(usize, usize)]) -> Vec<usize> {
 
 impl State<'_> {
     /// Everything as it is.
-    fn kept(&self) -> Outcome {
+    pub fn kept(&self) -> Outcome {
         let t = &self.tables;
         Outcome {
             stage: self.stage,

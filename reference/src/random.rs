@@ -1,5 +1,6 @@
-//! Seeded random volumes, cuttings and damaged records.
+//! Seeded random volumes, cuttings, readings and damaged records.
 use crate::grid::{Extents, Grid};
+use crate::strain::{float, STRAIN};
 
 /// The generator splitmix64.
 pub struct Random(u64);
@@ -30,6 +31,30 @@ impl Random {
 
     pub fn pick<T: Copy>(&mut self, list: &[T]) -> T {
         list[self.below(list.len())]
+    }
+}
+
+/// A reading that is one, as the bits of its value and its kind byte. The value of a missing one is anything.
+pub fn reading(random: &mut Random) -> (u64, u8) {
+    let kind = random.pick(&[0, 0, 0, 0, 0, 1, 2]);
+    let value = match random.below(8) {
+        0 => 1 << 63,
+        1 | 2 => float(random.pick(&[0, 1, -1, STRAIN, -STRAIN])),
+        _ => float(random.below(2 * STRAIN as usize + 1) as i128 - STRAIN),
+    };
+    (if kind == 2 && random.once_in(2) { random.word() } else { value }, kind)
+}
+
+/// A reading that is none: no number, beyond the range, no multiple of 1/1,024, or a kind above 2.
+pub fn bad_reading(random: &mut Random) -> (u64, u8) {
+    let kind = random.below(2) as u8;
+    match random.below(8) {
+        0 => (f64::NAN.to_bits(), kind),
+        1 => (random.pick(&[f64::INFINITY, f64::NEG_INFINITY]).to_bits(), kind),
+        2 => (float(random.pick(&[STRAIN + 1, -STRAIN - 1, 1 << 52])), kind),
+        3 => (random.pick(&[1.0f64 / 2048.0, -1.0 / 2048.0, 0.1, 2048.000_000_1, 1e300]).to_bits(), kind),
+        4 => (1 + random.below(9) as u64, kind),
+        _ => (random.word(), 3 + random.below(253) as u8),
     }
 }
 

@@ -6,6 +6,7 @@ use crate::cutting::Cutting;
 use crate::grid::{once, width, Grid, Place, Row};
 use crate::label::largest;
 use crate::refusal::*;
+use crate::strain::TotalTables;
 
 /// The nineteen tables. In each list faces stand at 0, curves at 1, points at 2; points have no links.
 #[derive(Clone, Copy, Debug)]
@@ -49,8 +50,10 @@ pub enum Stray {
     Enrolled,
     /// At the last crossing: a curve's row names a face outside the table.
     Row,
-    /// A final number that is handed out is none of the job's.
+    /// A final number that is handed out or followed is none of the job's.
     Final,
+    /// A total that is read has a sum or a count that cannot be.
+    Total,
 }
 
 impl<'a> State<'a> {
@@ -62,9 +65,9 @@ impl<'a> State<'a> {
     }
 
     /// The refusal of an opening that is told extents, cut lists and entries of this job, and lent these tables; 0 for none.
-    pub fn opening(&self) -> u32 {
+    pub fn opening(&self, totals: &TotalTables) -> u32 {
         match self.cutting.refusal() {
-            0 if !(self.block_trays() && self.link_trays() && (0..3).all(|k| self.kind_trays(k))) => WRONG_TRAY,
+            0 if !(self.totals_fit(totals) && self.block_trays() && self.link_trays() && (0..3).all(|k| self.kind_trays(k))) => WRONG_TRAY,
             refusal => refusal,
         }
     }
@@ -167,8 +170,8 @@ impl<'a> State<'a> {
 
     /// What makes a call a stray one that none of 1 to 6 refuses: the first case that is found.
     pub fn stray(&self, call: &Call) -> Option<Stray> {
-        if (0..3).any(|k| self.so_far[k].max(self.numbered[k]) > self.entries[k]) {
-            return Some(Stray::Tally);
+        if let Some(tally) = self.stray_tally() {
+            return Some(tally);
         }
         let enrolled = !matches!(call, Call::Enrol { .. });
         let named = brought(call).into_iter().find_map(|(block, map)| self.stray_block(block, map, enrolled));
@@ -181,8 +184,13 @@ impl<'a> State<'a> {
         })
     }
 
+    /// A tally above its table's entries.
+    pub(crate) fn stray_tally(&self) -> Option<Stray> {
+        (0..3).any(|k| self.so_far[k].max(self.numbered[k]) > self.entries[k]).then_some(Stray::Tally)
+    }
+
     /// The map of a block, and what the block table says of it.
-    fn stray_block(&self, block: usize, map: &[u32], enrolled: bool) -> Option<Stray> {
+    pub(crate) fn stray_block(&self, block: usize, map: &[u32], enrolled: bool) -> Option<Stray> {
         let grid = self.cutting.grid(block);
         let limit = |order: usize| if enrolled { self.tables.blocks[5 * block + 2 - order] } else { u32::MAX };
         let bad = |p: usize| match grid.order(p) {

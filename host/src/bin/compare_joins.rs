@@ -1,17 +1,18 @@
 //! Compares the proved joiner with the day book of the second implementation: compare_joins SEED CASES [--spoil WHAT].
 //! A case is a random volume, a random cutting, tables of random sizes (plenty, just large enough, one too small) and a list of calls in random
-//! order, among them calls with wrong maps, wrong blocks, wrong stages and disagreeing overlaps. Compared are each call's refusal, each reading's
-//! answer, that a refused call leaves job and tables as they were, and the closed tables. With --spoil one answer to WHAT is changed before it
+//! order, among them calls with wrong maps, wrong blocks, wrong stages, disagreeing overlaps and bad strain readings. Compared are each call's refusal, each
+//! reading's answer, totals by their bits, that a refused call leaves job and tables as they were, and the closed tables. With --spoil one answer to WHAT is changed before it
 //! is compared, which must be reported. Exits 1 if anything differs, and prints the first difference.
 use reference::book::{Answer, Book, Call, Kind as BookKind};
 use reference::cutting::Cutting as Cuts;
 use reference::label::number;
-use reference::random::{cuts, volume, Random};
+use reference::random::{bad_reading, cuts, reading, volume, Random};
+use reference::strain::{Lists, ReadingBook, Side as BookSide};
 use std::collections::BTreeMap;
 use std::fmt::Write;
-use tugrelis::{Block, Cutting, Entries, Job, Kind, Refusal, Stage, Tables};
+use tugrelis::{Block, Cutting, Entries, Job, Kind, Readings, Refusal, Side, Stage, Tables};
 
-const WHATS: [&str; 8] = ["open", "step", "reading", "kept", "closed", "faces", "curves", "points"];
+const WHATS: [&str; 10] = ["open", "step", "reading", "kept", "closed", "faces", "curves", "points", "strain", "total"];
 
 struct Comparison {
     random: Random,
@@ -192,6 +193,11 @@ impl Comparison {
             if !self.call(job, book, what, &call) {
                 return false;
             }
+            if self.random.once_in(12) && !book.closed() {
+                let (mut none, lists) = (ReadingBook::new(case.cuts.blocks()), self.lists(2));
+                self.strain(job, book, &mut none, a, &one, &lists);
+                self.total(job, book, &none, 1);
+            }
             if book.stage() != before {
                 return true;
             }
@@ -232,23 +238,108 @@ impl Comparison {
         self.equal("points", points == tables.points.iter().map(|(p, r)| (*p, r.to_vec())).collect::<Vec<_>>(), &|| format!("{points:?}"));
     }
 
+    /// Readings: mostly good ones, now and then a bad one or another length.
+    fn lists(&mut self, voxels: usize) -> (Vec<u64>, Vec<u8>) {
+        let random = &mut self.random;
+        let (mut values, mut kinds): (Vec<u64>, Vec<u8>) = (0..voxels).map(|_| reading(random)).unzip();
+        match random.below(12) {
+            0 | 1 => {
+                let at = random.below(voxels);
+                (values[at], kinds[at]) = bad_reading(random);
+            }
+            2 => values.push(0),
+            3 => {
+                kinds.pop();
+            }
+            _ => {}
+        }
+        (values, kinds)
+    }
+
+    /// Brings the readings of a block on both sides. False where the book says nothing of it and the list ends here.
+    fn strain(&mut self, job: &mut Job, book: &Book, readings: &mut ReadingBook, block: usize, map: &[u32], (values, kinds): &(Vec<u64>, Vec<u8>)) -> bool {
+        let before = job.clone();
+        let brought = Readings { values: values.iter().map(|&bits| f64::from_bits(bits)).collect(), kinds: kinds.clone() };
+        let proved = job.strain(block as u32, map, &brought).map_or_else(|n| Answer::Refused(n.number()), |()| Answer::Done);
+        let expected = readings.strain(book, block, map, Lists { values, kinds });
+        self.calls += 1;
+        let refused = matches!(proved, Answer::Refused(_));
+        if expected == Answer::Free && !refused {
+            return false;
+        }
+        let number = if let Answer::Refused(n) = expected { n } else { 0 };
+        *self.given.entry(("strain", number)).or_default() += 1;
+        let same = proved == expected || expected == Answer::Free && matches!(proved, Answer::Refused(8));
+        self.equal("strain", same, &|| format!("block {block} with {values:x?} {kinds:?} gave {proved:?}, the book says {expected:?}; cutting {:?}", before.cutting));
+        if refused {
+            self.equal("kept", before == *job, &|| format!("after refused readings of block {block}"));
+        }
+        true
+    }
+
+    /// Reads a total on both sides.
+    fn total(&mut self, job: &Job, book: &Book, readings: &ReadingBook, number: u32) {
+        let side = |d: Side| BookSide { sum: d.sum.to_bits(), counts: [d.strains, d.clipped, d.missing] };
+        let proved = job.total(number).map_or_else(|n| Answer::Refused(n.number()), |t| Answer::Totals([side(t.lower), side(t.higher)]));
+        let expected = readings.total(book, number);
+        self.calls += 1;
+        *self.given.entry(("total", if let Answer::Refused(n) = expected { n } else { 0 })).or_default() += 1;
+        self.equal("total", proved == expected, &|| format!("{number} gave {proved:x?}, the book says {expected:x?}; cutting {:?}", job.cutting));
+    }
+
+    /// The readings of every block in random order, some twice, some bad, with totals read between; then every total. Overlaps differ.
+    fn strains(&mut self, case: &Case, job: &mut Job, book: &Book) {
+        let mut readings = ReadingBook::new(case.cuts.blocks());
+        let mut order: Vec<usize> = (0..case.cuts.blocks()).collect();
+        for i in (1..order.len()).rev() {
+            order.swap(i, self.random.below(i + 1));
+        }
+        let faces = job.counts().faces;
+        let mut at = 0;
+        while at < order.len() {
+            let block = match self.random.below(12) {
+                0 => self.random.below(order.len() + 2),
+                1 => order[self.random.below(at + 1)],
+                _ => order[at],
+            };
+            let (map, lists) = (self.map(case, block), self.lists(if block < order.len() { case.cuts.grid(block).voxels() } else { 3 }));
+            if !self.strain(job, book, &mut readings, block, &map, &lists) {
+                return;
+            }
+            if self.random.once_in(3) {
+                let number = self.random.below(faces as usize + 2) as u32;
+                self.total(job, book, &readings, number);
+            }
+            while at < order.len() && readings.has(order[at]) {
+                at += 1;
+            }
+        }
+        for number in 0..faces + 2 {
+            self.total(job, book, &readings, number);
+        }
+    }
+
     /// Tables for a job: of the stated sizes, full of another job's numbers; sometimes one of another length.
     fn tables(&mut self, case: &Case, entries: Entries) -> (Tables, bool) {
         let mut tables = Tables::new(case.cuts.blocks(), entries);
         let random = &mut self.random;
         let t = &mut tables;
-        for table in [&mut t.ticks, &mut t.blocks, &mut t.face_links, &mut t.curve_links, &mut t.face_rows, &mut t.curve_rows, &mut t.point_rows, &mut t.face_numbers, &mut t.curve_numbers, &mut t.point_numbers, &mut t.face_listed, &mut t.curve_listed, &mut t.point_listed] {
+        for table in [&mut t.ticks, &mut t.blocks, &mut t.face_links, &mut t.curve_links, &mut t.face_rows, &mut t.curve_rows, &mut t.point_rows, &mut t.face_numbers, &mut t.curve_numbers, &mut t.point_numbers, &mut t.face_listed, &mut t.curve_listed, &mut t.point_listed, &mut t.came] {
             table.iter_mut().for_each(|n| *n = random.word() as u32);
         }
-        for table in [&mut t.face_keys, &mut t.curve_keys, &mut t.point_keys, &mut t.face_firsts, &mut t.curve_firsts, &mut t.point_firsts] {
+        for table in [&mut t.face_keys, &mut t.curve_keys, &mut t.point_keys, &mut t.face_firsts, &mut t.curve_firsts, &mut t.point_firsts, &mut t.face_counts] {
             table.iter_mut().for_each(|n| *n = random.word());
         }
+        t.face_sums.0.iter_mut().for_each(|x| *x = f64::from_bits(random.word()));
         let wrong = random.once_in(12);
         if wrong {
-            match random.below(4) {
+            match random.below(7) {
                 0 => t.ticks.push(0),
                 1 => t.face_keys.push(0),
                 2 => t.curve_listed.push(0),
+                3 => t.came.push(0),
+                4 => t.face_sums.0.push(0.0),
+                5 => t.face_counts.push(0),
                 _ => t.point_firsts.push(0),
             }
         }
@@ -290,7 +381,8 @@ impl Comparison {
             }
             if book.closed() {
                 self.closed += 1;
-                return self.readings(&case, &mut job, &mut book);
+                self.readings(&case, &mut job, &mut book);
+                return self.strains(&case, &mut job, &book);
             }
         }
     }

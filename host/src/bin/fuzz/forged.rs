@@ -1,8 +1,8 @@
 //! Calls to make: an honest job taken by real calls some way through its stages, the next call that it waits for or another one, and numbers and
 //! lengths changed here and there.
 use crate::lent::{longs_mut, words_mut, Asked, What, WHATS};
-use reference::random::{cuts, volume, Random};
-use tugrelis::{Block, Cutting, Entries, Job};
+use reference::random::{bad_reading, cuts, reading, volume, Random};
+use tugrelis::{Block, Cutting, Entries, Job, Readings};
 
 /// Any number, mostly a small one.
 pub fn small(random: &mut Random) -> u32 {
@@ -42,12 +42,30 @@ pub fn honest(random: &mut Random) -> Asked {
     let map = |b: u32| blocks.get(b as usize).cloned().unwrap_or_default();
     let cell = [0, 1, 2].map(|a: usize| 2 * cutting.origin(lower as usize)[a] + random.below(2 * usize::from(cutting.block_extents(lower as usize)[a]) - 1) as u32);
     let many = match what {
-        What::FaceRow => job.numbers[10],
+        What::FaceRow | What::Total => job.numbers[10],
         What::CurveRow => job.numbers[11],
         _ => job.numbers[12],
     };
     let cell = if what > What::Lookup { [1 + random.below(many as usize + 1) as u32, 0, 0] } else { cell };
-    Asked { what, job: job.numbers, lists: cutting.lists, maps: [map(lower), map(upper)], tables: job.tables, blocks: [lower, upper], cell }
+    let Readings { values, kinds } = readings(random, &cutting, lower);
+    Asked { what, job: job.numbers, lists: cutting.lists, maps: [map(lower), map(upper)], tables: job.tables, blocks: [lower, upper], cell, values, kinds }
+}
+
+/// Good readings of a block.
+fn readings(random: &mut Random, cutting: &Cutting, block: u32) -> Readings {
+    let voxels: usize = cutting.block_extents(block as usize).iter().map(|&n| usize::from(n)).product();
+    let (values, kinds) = (0..voxels).map(|_| reading(random)).map(|(bits, kind)| (f64::from_bits(bits), kind)).unzip();
+    Readings { values, kinds }
+}
+
+/// Brings the readings of all blocks but one, or of all, to a closed job.
+fn strain(random: &mut Random, job: &mut Job, blocks: &[Vec<u32>], but: Option<u32>) {
+    for b in 0..blocks.len() as u32 {
+        let (left_out, lists) = (but == Some(b) || but.is_some() && random.once_in(3), readings(random, &job.cutting, b));
+        if !left_out {
+            job.strain(b, &blocks[b as usize], &lists).expect("good readings");
+        }
+    }
 }
 
 /// Entries that suffice, with some to spare, or now and then too few.
@@ -88,7 +106,11 @@ fn advance(random: &mut Random, job: &mut Job, blocks: &[Vec<u32>]) -> (What, [u
             }
         }
     }
-    (random.pick(&[What::Lookup, What::Lookup, What::Lookup, What::FaceRow, What::CurveRow, What::PointRow]), [any, any])
+    let what = random.pick(&[What::Lookup, What::Lookup, What::Lookup, What::FaceRow, What::CurveRow, What::PointRow, What::Total, What::Total, What::Strain, What::Strain, What::Strain]);
+    if matches!(what, What::Total | What::Strain) {
+        strain(random, job, blocks, (what == What::Strain).then_some(any));
+    }
+    (what, [any, any])
 }
 
 /// Makes another call of it, now and then: of another stage, block or cell.
@@ -108,7 +130,7 @@ pub fn astray(random: &mut Random, s: &mut Asked) {
 pub fn spoil(random: &mut Random, s: &mut Asked) {
     for _ in 0..random.pick(&[0, 0, 1, 1, 1, 2, 3]) {
         let kind = random.below(2);
-        match random.below(19) {
+        match random.below(24) {
             0 => s.job[random.below(13)] = small(random),
             1 => tally(random, s),
             2 => {
@@ -124,6 +146,12 @@ pub fn spoil(random: &mut Random, s: &mut Asked) {
             16..=18 => ways(random, s, kind),
             12 | 13 => number(random, s, kind),
             14 => tick(random, s),
+            19 | 20 => total(random, s),
+            21 | 22 => bad(random, s),
+            23 => {
+                let value = random.pick(&[0, 1, 1, 5]);
+                change(random, &mut s.tables.came, value);
+            }
             _ => length(random, s),
         }
     }
@@ -270,13 +298,39 @@ fn tick(random: &mut Random, s: &mut Asked) {
     }
 }
 
-/// One place more or less in a table or a map.
+/// A sum or a count that cannot stand, or one that just can.
+fn total(random: &mut Random, s: &mut Asked) {
+    let cells = (1..4).map(|a| 2 * u64::from(s.job[a]).clamp(1, 1024) - 1).product::<u64>();
+    let t = &mut s.tables;
+    if random.once_in(2) && !t.face_counts.is_empty() {
+        let at = random.below(t.face_counts.len());
+        t.face_counts[at] = random.pick(&[cells, cells + 1, cells - 1, u64::MAX, 0]);
+    } else if !t.face_sums.0.is_empty() {
+        let at = random.below(t.face_sums.0.len());
+        let (most, any) = (8_796_093_022_208.0f64, f64::from_bits(random.word()));
+        t.face_sums.0[at] = random.pick(&[most, -most, most - 0.5, f64::from_bits(most.to_bits() + 1), f64::from_bits((-most).to_bits() + 1), f64::NAN, f64::INFINITY, 1.0 / 2048.0, -0.0, any]);
+    }
+}
+
+/// A reading that is none, or a value and a kind of anyone's making.
+fn bad(random: &mut Random, s: &mut Asked) {
+    let at = random.below(s.values.len().min(s.kinds.len()).max(1));
+    let (bits, kind) = if random.once_in(6) { (random.word(), random.word() as u8) } else { bad_reading(random) };
+    if let (Some(value), Some(byte)) = (s.values.get_mut(at), s.kinds.get_mut(at)) {
+        (*value, *byte) = (f64::from_bits(bits), kind);
+    }
+}
+
+/// One place more or less in a table, a map or a list.
 fn length(random: &mut Random, s: &mut Asked) {
     let more = random.once_in(2);
-    match random.below(21) {
-        k @ 0..=12 => grow(words_mut(&mut s.tables)[k], more),
-        k @ 13..=18 => grow(longs_mut(&mut s.tables)[k - 13], more),
-        k => grow(&mut s.maps[k - 19], more),
+    match random.below(26) {
+        k @ 0..=13 => grow(words_mut(&mut s.tables)[k], more),
+        k @ 14..=20 => grow(longs_mut(&mut s.tables)[k - 14], more),
+        21 => grow(&mut s.tables.face_sums.0, more),
+        22 => grow(&mut s.values, more),
+        23 => grow(&mut s.kinds, more),
+        k => grow(&mut s.maps[k - 24], more),
     }
 }
 

@@ -1,8 +1,9 @@
 //! A call of the joiner: what is asked, and what is lent for it, every table between guards.
 use reference::book::{Answer, Call, Kind};
 use reference::outcome::{roots, Outcome};
+use reference::strain::{Lists, Side, TotalTables};
 use reference::table::{State, Tables as View};
-use tugrelis::{raw, Tables};
+use tugrelis::{raw, Sums, Tables};
 
 /// Places before and behind a lent table, and what they hold.
 pub const GUARD: usize = 3;
@@ -19,26 +20,36 @@ pub enum What {
     FaceRow,
     CurveRow,
     PointRow,
+    Total,
+    Strain,
 }
 
-pub const WHATS: [What; 9] = [What::Open, What::Enrol, What::Seam, What::Crossing, What::Point, What::Lookup, What::FaceRow, What::CurveRow, What::PointRow];
+pub const WHATS: [What; 11] =
+    [What::Open, What::Enrol, What::Seam, What::Crossing, What::Point, What::Lookup, What::FaceRow, What::CurveRow, What::PointRow, What::Total, What::Strain];
 
 impl What {
     pub fn name(self) -> &'static str {
-        ["open", "enrol", "seam", "crossing", "point", "lookup", "face row", "curve row", "point row"][self as usize]
+        ["open", "enrol", "seam", "crossing", "point", "lookup", "face row", "curve row", "point row", "total", "strain"][self as usize]
     }
 
     /// The tables that the call is lent, by their places in `words` and `longs`.
     pub fn lent(self) -> (&'static [usize], &'static [usize]) {
         match self {
-            What::Open => (&[0, 1, 2, 3, 4, 5, 6, 7, 8, 9, 10, 11, 12], &[0, 1, 2, 3, 4, 5]),
+            What::Open => (&[0, 1, 2, 3, 4, 5, 6, 7, 8, 9, 10, 11, 12, 13], &[0, 1, 2, 3, 4, 5, 6]),
             What::Enrol => (&[0, 1, 2, 3, 4, 5], &[0, 1]),
             What::Seam => (&[0, 1, 2, 3], &[]),
             What::Crossing => (&[0, 1, 2, 3, 4, 5, 7, 8, 10, 11], &[0, 1, 3, 4]),
             What::Point => (&[0, 1, 8, 6, 9, 12], &[2, 5]),
             What::Lookup => (&[0, 1, 7, 8], &[5]),
             What::FaceRow | What::CurveRow | What::PointRow => (&[10, 11, 12], &[]),
+            What::Total => (&[13], &[6]),
+            What::Strain => (&[1, 7, 13], &[6]),
         }
+    }
+
+    /// Whether the call is lent the sums.
+    pub fn lent_sums(self) -> bool {
+        matches!(self, What::Open | What::Total | What::Strain)
     }
 }
 
@@ -52,17 +63,20 @@ pub struct Asked {
     /// The block, and a seam's upper block.
     pub blocks: [u32; 2],
     pub maps: [Vec<u32>; 2],
-    /// The cell of a lookup; its x is the number that a row reading asks for.
+    /// The cell of a lookup; its x is the number that a row reading or a total asks for.
     pub cell: [u32; 3],
+    /// The readings of the block.
+    pub values: Vec<f64>,
+    pub kinds: Vec<u8>,
 }
 
 impl Asked {
-    /// The call as the second implementation has it; none for an opening.
+    /// The call as the day book has it; none for an opening and for the calls about readings.
     fn call(&self) -> Option<Call<'_>> {
         let ([block, other], [map, upper]) = (self.blocks.map(|b| b as usize), &self.maps);
         let row = |kind: Kind| Call::Row { kind, number: self.cell[0] };
         match self.what {
-            What::Open => None,
+            What::Open | What::Total | What::Strain => None,
             What::Enrol => Some(Call::Enrol { block, map }),
             What::Seam => Some(Call::Seam { blocks: (block, other), maps: (map, upper) }),
             What::Crossing => Some(Call::Crossing { block, map }),
@@ -78,18 +92,44 @@ impl Asked {
         State::new(&self.job, [0, 1, 2].map(|a: usize| &self.lists[a][..]), view(&self.tables))
     }
 
+    /// The tables of the readings as the second implementation has them.
+    fn totals(&self) -> TotalTables {
+        let t = &self.tables;
+        TotalTables { came: t.came.clone(), sums: t.face_sums.0.iter().map(|x| x.to_bits()).collect(), counts: t.face_counts.clone() }
+    }
+
+    fn bits(&self) -> Vec<u64> {
+        self.values.iter().map(|x| x.to_bits()).collect()
+    }
+
     /// What an accepted opening or step leaves.
-    pub fn outcome(&self) -> Outcome {
-        self.call().map_or_else(|| self.state().opened(), |call| self.state().outcome(&call))
+    pub fn outcome(&self) -> (Outcome, TotalTables) {
+        let (state, totals) = (self.state(), self.totals());
+        match (self.what, self.call()) {
+            (What::Open, _) => (state.opened(), totals.zeroed()),
+            (_, Some(call)) => (state.outcome(&call), totals),
+            _ => {
+                let left = state.strain(&totals, self.blocks[0] as usize, &self.maps[0], Lists { values: &self.bits(), kinds: &self.kinds });
+                (state.kept(), left.expect("an accepted step"))
+            }
+        }
     }
 
     /// What the second implementation answers, and for a refusal 8 what it found.
     pub fn expected(&self) -> (Answer, String) {
-        let state = self.state();
+        let (state, totals) = (self.state(), self.totals());
+        let refused = |(n, stray): (u32, Option<_>)| (Answer::Refused(n), stray.map_or(String::new(), |s: reference::table::Stray| format!(" {s:?}")));
         let Some(call) = self.call() else {
-            return match state.opening() {
-                0 => (Answer::Done, String::new()),
-                n => (Answer::Refused(n), String::new()),
+            return match self.what {
+                What::Strain => {
+                    let left = state.strain(&totals, self.blocks[0] as usize, &self.maps[0], Lists { values: &self.bits(), kinds: &self.kinds });
+                    left.map_or_else(refused, |_| (Answer::Done, String::new()))
+                }
+                What::Total => state.total(&totals, self.cell[0]).map_or_else(refused, |sides| (Answer::Totals(sides), String::new())),
+                _ => match state.opening(&totals) {
+                    0 => (Answer::Done, String::new()),
+                    n => refused((n, None)),
+                },
             };
         };
         let answer = state.answer(&call);
@@ -101,7 +141,8 @@ impl Asked {
     pub fn numbers(&self) -> usize {
         let (w, l) = self.what.lent();
         let brought = self.lists.iter().chain(&self.maps).map(Vec::len).sum::<usize>();
-        brought + w.iter().map(|&i| words(&self.tables)[i].len()).sum::<usize>() + l.iter().map(|&i| longs(&self.tables)[i].len()).sum::<usize>()
+        let readings = self.values.len() + self.kinds.len() + if self.what.lent_sums() { self.tables.face_sums.0.len() } else { 0 };
+        readings + brought + w.iter().map(|&i| words(&self.tables)[i].len()).sum::<usize>() + l.iter().map(|&i| longs(&self.tables)[i].len()).sum::<usize>()
     }
 }
 
@@ -111,32 +152,37 @@ pub struct Lent {
     pub job: [u32; 13],
     pub words: Vec<Vec<u32>>,
     pub longs: Vec<Vec<u64>>,
+    pub sums: Sums,
     pub number: u32,
     pub row: [u32; 6],
+    /// The places of a total: two sums by their bits, six counts.
+    pub total: ([u64; 2], [u64; 6]),
 }
 
 impl Lent {
     pub fn new(asked: &Asked) -> Lent {
         let (words, longs) = (words(&asked.tables).map(|t| guarded(t)), longs(&asked.tables).map(|t| guarded(t)));
-        Lent { job: asked.job, words: words.into(), longs: longs.into(), number: 7, row: [7; 6] }
+        let sums = Sums(guarded(&asked.tables.face_sums.0));
+        Lent { job: asked.job, words: words.into(), longs: longs.into(), sums, number: 7, row: [7; 6], total: ([7; 2], [7; 6]) }
     }
 
     /// Every guard holds what it held.
     pub fn guards_hold(&self) -> bool {
-        self.words.iter().all(|t| holds(t)) && self.longs.iter().all(|t| holds(t))
+        self.words.iter().all(|t| holds(t)) && self.longs.iter().all(|t| holds(t)) && holds(&self.sums.0)
     }
 
     /// Makes the call; gives the number of the refusal.
     pub fn call(&mut self, asked: &Asked) -> u32 {
         let ([cx, cy, cz], [b, c], [m, n], [x, y, z]) = (&asked.lists, asked.blocks, &asked.maps, asked.cell);
-        let [ticks, blocks, fl, cl, fr, cr, pr, fnum, cnum, pnum, flist, clist, plist] = &mut self.words[..] else { unreachable!() };
-        let [ticks, blocks, fl, cl, fr, cr, pr, fnum, cnum, pnum, flist, clist, plist] = [ticks, blocks, fl, cl, fr, cr, pr, fnum, cnum, pnum, flist, clist, plist].map(part);
-        let [fk, ck, pk, ff, cf, pf] = &mut self.longs[..] else { unreachable!() };
-        let [fk, ck, pk, ff, cf, pf] = [fk, ck, pk, ff, cf, pf].map(part);
+        let [ticks, blocks, fl, cl, fr, cr, pr, fnum, cnum, pnum, flist, clist, plist, came] = &mut self.words[..] else { unreachable!() };
+        let [ticks, blocks, fl, cl, fr, cr, pr, fnum, cnum, pnum, flist, clist, plist, came] = [ticks, blocks, fl, cl, fr, cr, pr, fnum, cnum, pnum, flist, clist, plist, came].map(part);
+        let [fk, ck, pk, ff, cf, pf, counts] = &mut self.longs[..] else { unreachable!() };
+        let [fk, ck, pk, ff, cf, pf, counts] = [fk, ck, pk, ff, cf, pf, counts].map(part);
+        let sums = part(&mut self.sums.0);
         let (job, told) = (&mut self.job, &asked.job);
         match asked.what {
             What::Open => raw::open(
-                job, told[1], told[2], told[3], told[4], told[5], told[6], cx, cy, cz, ticks, blocks, fl, cl, fk, ck, pk, fr, cr, pr, fnum, cnum, pnum, ff, cf, pf, flist, clist, plist,
+                job, told[1], told[2], told[3], told[4], told[5], told[6], cx, cy, cz, ticks, blocks, fl, cl, fk, ck, pk, fr, cr, pr, fnum, cnum, pnum, ff, cf, pf, flist, clist, plist, came, sums, counts,
             ),
             What::Enrol => raw::enrol(job, cx, cy, cz, ticks, blocks, fl, cl, fk, ck, fr, cr, b, m),
             What::Seam => raw::seam(job, cx, cy, cz, ticks, blocks, fl, cl, b, c, m, n),
@@ -146,11 +192,18 @@ impl Lent {
             What::FaceRow => raw::face_row(job, x, flist, clist, plist, &mut self.row),
             What::CurveRow => raw::curve_row(job, x, flist, clist, plist, &mut self.row),
             What::PointRow => raw::point_row(job, x, flist, clist, plist, &mut self.row),
+            What::Total => {
+                let mut places = self.total.0.map(f64::from_bits);
+                let refusal = raw::total(job, cx, cy, cz, came, sums, counts, x, &mut places, &mut self.total.1);
+                self.total.0 = places.map(f64::to_bits);
+                refusal
+            }
+            What::Strain => raw::strain(job, cx, cy, cz, blocks, fnum, came, sums, counts, b, m, &asked.values, &asked.kinds),
         }
     }
 
     /// What differs from an outcome; nothing if it is this one.
-    pub fn differs(&self, before: &Lent, told: &[u32], right: &Outcome) -> Option<&'static str> {
+    pub fn differs(&self, before: &Lent, told: &[u32], (right, totals): &(Outcome, TotalTables)) -> Option<&'static str> {
         let (w, l) = (|i: usize| inner(&self.words[i]), |i: usize| inner(&self.longs[i]));
         let same = [
             ("stage", self.job[0] == right.stage),
@@ -165,6 +218,9 @@ impl Lent {
             ("numbers", (0..3).all(|k| w(7 + k) == right.numbers[k])),
             ("first positions", (0..3).all(|k| l(3 + k).starts_with(&right.firsts[k]))),
             ("closed rows", (0..3).all(|k| w(10 + k).starts_with(&right.listed[k]))),
+            ("ticks of readings", w(13) == totals.came),
+            ("sums", inner(&self.sums.0).iter().map(|x| x.to_bits()).eq(totals.sums.iter().copied())),
+            ("counts", l(6) == totals.counts),
         ];
         same.iter().find(|(_, same)| !same).map(|&(what, _)| what)
     }
@@ -177,6 +233,7 @@ impl Lent {
             (0, What::FaceRow) => row(2),
             (0, What::CurveRow) => row(4),
             (0, What::PointRow) => row(6),
+            (0, What::Total) => Answer::Totals([0, 1].map(|s: usize| Side { sum: self.total.0[s], counts: [0, 1, 2].map(|k| self.total.1[3 * s + k]) })),
             (0, _) => Answer::Done,
             (n, _) => Answer::Refused(n),
         }
@@ -202,23 +259,23 @@ pub fn holds<T: PartialEq + From<u8>>(table: &[T]) -> bool {
     table[..GUARD].iter().chain(&table[table.len() - GUARD..]).all(|g| *g == T::from(MARK))
 }
 
-pub fn words(t: &Tables) -> [&[u32]; 13] {
-    [&t.ticks, &t.blocks, &t.face_links, &t.curve_links, &t.face_rows, &t.curve_rows, &t.point_rows, &t.face_numbers, &t.curve_numbers, &t.point_numbers, &t.face_listed, &t.curve_listed, &t.point_listed]
+pub fn words(t: &Tables) -> [&[u32]; 14] {
+    [&t.ticks, &t.blocks, &t.face_links, &t.curve_links, &t.face_rows, &t.curve_rows, &t.point_rows, &t.face_numbers, &t.curve_numbers, &t.point_numbers, &t.face_listed, &t.curve_listed, &t.point_listed, &t.came]
 }
 
-pub fn words_mut(t: &mut Tables) -> [&mut Vec<u32>; 13] {
+pub fn words_mut(t: &mut Tables) -> [&mut Vec<u32>; 14] {
     [
         &mut t.ticks, &mut t.blocks, &mut t.face_links, &mut t.curve_links, &mut t.face_rows, &mut t.curve_rows, &mut t.point_rows, &mut t.face_numbers, &mut t.curve_numbers, &mut t.point_numbers,
-        &mut t.face_listed, &mut t.curve_listed, &mut t.point_listed,
+        &mut t.face_listed, &mut t.curve_listed, &mut t.point_listed, &mut t.came,
     ]
 }
 
-pub fn longs(t: &Tables) -> [&[u64]; 6] {
-    [&t.face_keys, &t.curve_keys, &t.point_keys, &t.face_firsts, &t.curve_firsts, &t.point_firsts]
+pub fn longs(t: &Tables) -> [&[u64]; 7] {
+    [&t.face_keys, &t.curve_keys, &t.point_keys, &t.face_firsts, &t.curve_firsts, &t.point_firsts, &t.face_counts]
 }
 
-pub fn longs_mut(t: &mut Tables) -> [&mut Vec<u64>; 6] {
-    [&mut t.face_keys, &mut t.curve_keys, &mut t.point_keys, &mut t.face_firsts, &mut t.curve_firsts, &mut t.point_firsts]
+pub fn longs_mut(t: &mut Tables) -> [&mut Vec<u64>; 7] {
+    [&mut t.face_keys, &mut t.curve_keys, &mut t.point_keys, &mut t.face_firsts, &mut t.curve_firsts, &mut t.point_firsts, &mut t.face_counts]
 }
 
 /// The tables as the second implementation has them.

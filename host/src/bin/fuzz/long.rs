@@ -23,7 +23,7 @@ const LINKS: [Links; 7] = [
 /// Two blocks of 64×64×2 voxels, the job in a stage. Each block has all places of both tables, and the maps name them in any order.
 fn job(random: &mut Random, what: What) -> Asked {
     let cutting = Cutting { extents: [127, 64, 2], lists: [vec![0, 63, 126], vec![0, 63], vec![0, 1]] };
-    let stage = [0, 0, 1, 2, 3, 4, 4, 4, 4][what as usize];
+    let stage = [0, 0, 1, 2, 3, 4, 4, 4, 4, 4, 4][what as usize];
     let told = [stage, 127, 64, 2, LONG, LONG, LONG];
     let of = |reached: bool| if reached { LONG } else { 0 };
     let tallies = [of(stage > 0), of(stage > 0), of(stage > 3), of(stage > 2), of(stage > 2), of(stage > 3)];
@@ -33,13 +33,20 @@ fn job(random: &mut Random, what: What) -> Asked {
     t.curve_rows.iter_mut().for_each(|face| *face = random.below(LONG as usize + 1) as u32);
     t.face_numbers.iter_mut().chain(&mut t.curve_numbers).for_each(|n| *n = 1 + random.below(LONG as usize) as u32);
     longs_mut(&mut t).into_iter().for_each(|table| table.iter_mut().for_each(|key| *key = random.word()));
+    if what == What::Total {
+        t.came = vec![1; 2];
+    }
+    t.face_counts.iter_mut().for_each(|n| *n = random.below(9) as u64);
     // tables that the call is not lent are left out
+    if !what.lent_sums() {
+        t.face_sums.0 = vec![];
+    }
     let (words, longs) = what.lent();
     words_mut(&mut t).into_iter().enumerate().filter(|(i, _)| !words.contains(i)).for_each(|(_, table)| *table = vec![]);
     longs_mut(&mut t).into_iter().enumerate().filter(|(i, _)| !longs.contains(i)).for_each(|(_, table)| *table = vec![]);
     let grid = reference::grid::Grid::new([64, 64, 2]);
     let mut map = || (0..grid.cells()).map(|p| if grid.order(p) == 3 { 1 } else { 1 + random.below(LONG as usize) as u32 }).collect();
-    Asked { what, job: numbers.try_into().expect("thirteen"), lists: cutting.lists, tables: t, blocks: [0, 1], maps: [map(), map()], cell: [1, 1, 1] }
+    Asked { what, job: numbers.try_into().expect("thirteen"), lists: cutting.lists, tables: t, blocks: [0, 1], maps: [map(), map()], cell: [1, 1, 1], values: vec![0.5; 64 * 64 * 2], kinds: vec![0; 64 * 64 * 2] }
 }
 
 /// Takes each of them, with a name.
@@ -64,6 +71,19 @@ pub fn each(random: &mut Random, take: &mut dyn FnMut(&str, &Asked)) {
         take("long, another cell", &s);
     }
     many_blocks(take);
+    many_readings(take);
+}
+
+/// A total of as many blocks as there may be, whose readings have all come, or all but one.
+fn many_readings(take: &mut dyn FnMut(&str, &Asked)) {
+    let list: Vec<u32> = (0..=128).collect();
+    for missing in [None, Some(0), Some(16_383)] {
+        let mut tables = Tables::new(16_384, Entries { faces: 1, curves: 0, points: 0 });
+        tables.came.fill(1);
+        missing.into_iter().for_each(|b: usize| tables.came[b] = 0);
+        let job = [4, 129, 129, 1, 1, 0, 0, 1, 0, 0, 1, 0, 0];
+        take("16,384 blocks", &Asked { what: What::Total, job, lists: [list.clone(), list.clone(), vec![0]], tables, blocks: [0; 2], maps: [vec![], vec![]], cell: [1, 0, 0], values: vec![], kinds: vec![] });
+    }
 }
 
 /// Entries and tallies of any size.
@@ -110,7 +130,7 @@ fn many_blocks(take: &mut dyn FnMut(&str, &Asked)) {
             let b = missing as u32;
             let map = vec![1, 0, 1, 0, 0, 0, 1, 0, 1];
             let job = [stage as u32, 129, 129, 1, 0, 0, 0, 0, 0, 0, 0, 0, 0];
-            let asked = Asked { what, job, lists: [list.clone(), list.clone(), vec![0]], tables, blocks: [b, b + 1], maps: [map.clone(), map], cell: [0; 3] };
+            let asked = Asked { what, job, lists: [list.clone(), list.clone(), vec![0]], tables, blocks: [b, b + 1], maps: [map.clone(), map], cell: [0; 3], values: vec![], kinds: vec![] };
             take(&format!("16,384 blocks, block {b},"), &asked);
         }
     }

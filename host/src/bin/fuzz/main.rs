@@ -1,6 +1,6 @@
 //! Calls every entry with arbitrary numbers for jobs, cut lists, tables, maps and records: fuzz SEED ROUNDS [--untimed] [--spoil WHAT].
 //! A round is a block labelled, written and read, with the most components of its extents told, or some calls of a joiner's job that is honest but for numbers changed here and there. Compared
-//! with the second implementation are each call's refusal, the number or row of each accepted reading, and job and tables after each accepted step, as far
+//! with the second implementation are each call's refusal, the number, row or totals of each accepted reading, and job and tables after each accepted step, as far
 //! as the rules tell them. Lent tables stand between guards; after a refusal or a reading every lent place must hold what it held, and the guards always. Every refusal of every entry must have come, and every reason for 8.
 //! No call may take longer than the numbers that it is lent can explain; long tables are made for that. --untimed leaves this out: for valgrind, which
 //! sees every byte read or written (host/run). With --spoil one outcome is changed before it is looked at, which must be reported.
@@ -18,10 +18,10 @@ use std::sync::atomic::{AtomicUsize, Ordering};
 use std::time::{Duration, Instant};
 use tugrelis::{cells, raw};
 
-const SPOILS: [&str; 8] = ["refusal", "number", "row", "left", "most", "kept", "guards", "time"];
+const SPOILS: [&str; 9] = ["refusal", "number", "row", "total", "left", "most", "kept", "guards", "time"];
 
 /// What must come in a long run: the refusals of each entry, with the reasons for 8.
-const COME: [(&str, &str); 13] = [
+const COME: [(&str, &str); 15] = [
     ("open", "0,1,2,6"),
     ("enrol", "0,1,2,3,4,5,6,8 Tally,8 Map,10"),
     ("seam", "0,1,2,3,4,5,6,8 Tally,8 Map,8 Place,8 Way,8 Below,9"),
@@ -31,6 +31,8 @@ const COME: [(&str, &str); 13] = [
     ("face row", "0,1,3,4,6,8 Tally"),
     ("curve row", "0,1,3,4,6,8 Tally"),
     ("point row", "0,1,3,4,6,8 Tally"),
+    ("total", "0,1,2,3,4,6,8 Tally,8 Total"),
+    ("strain", "0,1,2,3,4,5,6,8 Tally,8 Map,8 Place,8 Final,8 Total,12"),
     ("label", "0,1,6,7"),
     ("most", "0,1"),
     ("write", "0,1,6,8"),
@@ -104,11 +106,12 @@ impl Fuzz {
         let of = match (&answer, &expected) {
             (Answer::Number(_), Answer::Number(_)) => "number",
             (Answer::Row(_), Answer::Row(_)) => "row",
+            (Answer::Totals(_), Answer::Totals(_)) => "total",
             _ => "refusal",
         };
         self.expect(of, answer == expected, &|| format!("{name} {} answered {answer:?}, the table says {expected:?}{why}: {}", what.name(), short(asked)));
-        if matches!(expected, Answer::Number(_) | Answer::Row(_)) {
-            (after.number, after.row) = (before.number, before.row);
+        if matches!(expected, Answer::Number(_) | Answer::Row(_) | Answer::Totals(_)) {
+            (after.number, after.row, after.total) = (before.number, before.row, before.total);
         }
         if expected == Answer::Done && answer == expected {
             if self.spoiled("left") {
@@ -135,6 +138,9 @@ impl Fuzz {
         }
         if matches!(expected, Answer::Row(_)) && self.spoiled("row") {
             after.row[1] ^= 1;
+        }
+        if matches!(expected, Answer::Totals(_)) && self.spoiled("total") {
+            after.total.0[1] ^= 1;
         }
     }
 
