@@ -1,4 +1,4 @@
-/* Asks how many components a block can have, then labels and joins a volume of 3×2×1 voxels from two blocks, through tugrelis.h, in plain C. Every answer is checked; the first that is not as it
+/* Asks how many components a block can have, then labels and joins a volume of 3×2×1 voxels from two blocks and reads the strains on one of its faces, through tugrelis.h, in plain C. Every answer is checked; the first that is not as it
    must be is printed, and the exit status is then 1.
 
        1 2 2      cut at x = 1 into    1 2    and    2 2
@@ -23,6 +23,9 @@ struct job {
     uint32_t face_numbers[FACES], curve_numbers[CURVES];
     uint64_t face_firsts[FACES], curve_firsts[CURVES];
     uint32_t face_listed[2 * FACES], curve_listed[4 * CURVES];
+    uint32_t came[BLOCKS];
+    double face_sums[2 * FACES];
+    uint64_t face_counts[6 * FACES];
 };
 
 static const uint32_t cuts_x[] = {0, 1, 2}, cuts_y[] = {0, 1}, cuts_z[] = {0};
@@ -54,7 +57,7 @@ static uint32_t open_job(struct job *j) {
     return tugrelis_open(
         j->numbers, 3, 2, 1, FACES, CURVES, 0, CUTS, SLICE(j->ticks), SLICE(j->blocks), SLICE(j->face_links), SLICE(j->curve_links), SLICE(j->face_keys), SLICE(j->curve_keys), NONE,
         SLICE(j->face_rows), SLICE(j->curve_rows), NONE, SLICE(j->face_numbers), SLICE(j->curve_numbers), NONE, SLICE(j->face_firsts), SLICE(j->curve_firsts), NONE, SLICE(j->face_listed),
-        SLICE(j->curve_listed), NONE);
+        SLICE(j->curve_listed), NONE, SLICE(j->came), SLICE(j->face_sums), SLICE(j->face_counts));
 }
 
 static uint32_t enrol(struct job *j, uint32_t block, const uint32_t map[CELLS]) {
@@ -79,6 +82,33 @@ static uint32_t point(struct job *j, uint32_t block, const uint32_t map[CELLS]) 
 
 static uint32_t lookup(const struct job *j, uint32_t block, const uint32_t map[CELLS], uint32_t x, uint32_t y, uint32_t *number) {
     return tugrelis_lookup(j->numbers, CUTS, SLICE(j->ticks), SLICE(j->blocks), SLICE(j->face_numbers), SLICE(j->curve_numbers), NONE, block, map, CELLS, x, y, 0, number);
+}
+
+static uint32_t strain(struct job *j, uint32_t block, const uint32_t map[CELLS], const double values[4], const uint8_t kinds[4]) {
+    return tugrelis_strain(
+        j->numbers, CUTS, SLICE(j->blocks), SLICE(j->face_numbers), SLICE(j->came), SLICE(j->face_sums), SLICE(j->face_counts), block, map, CELLS, values, 4, kinds, 4);
+}
+
+static uint32_t total(const struct job *j, uint32_t number, double sums[2], uint64_t counts[6]) {
+    return tugrelis_total(j->numbers, CUTS, SLICE(j->came), SLICE(j->face_sums), SLICE(j->face_counts), number, sums, counts);
+}
+
+/* Brings the readings of both blocks, and prints the totals of face 3, between the codes 2 and 4. Its first cell lies in both blocks and counts with block 0;
+   what block 1 says of the shared voxels is tested and goes nowhere. */
+static void strains(struct job *j, uint32_t maps[BLOCKS][CELLS]) {
+    static const double values[BLOCKS][4] = {{1, 2, 4, 8}, {100, 0.5, 100, -0.25}}, half[4] = {1, 2, 1.0 / 2048, 8};
+    static const uint8_t kinds[BLOCKS][4] = {{0, 0, 1, 0}, {0, 0, 2, 0}};
+    double sums[2] = {7, 7};
+    uint64_t counts[6] = {0};
+    expect("readings", strain(j, 1, maps[1], values[1], kinds[1]), 0);
+    expect("readings again", strain(j, 1, maps[1], values[1], kinds[1]), TUGRELIS_DONE_ALREADY);
+    expect("a total before all blocks have come", total(j, 3, sums, counts), TUGRELIS_WRONG_STAGE);
+    expect("half a 1,024th", strain(j, 0, maps[0], half, kinds[0]), TUGRELIS_BAD_READING);
+    expect("readings", strain(j, 0, maps[0], values[0], kinds[0]), 0);
+    expect("a total", total(j, 3, sums, counts), 0);
+    expect("sums of face 3", sums[0] == 2.5 && sums[1] == 7.75, 1);
+    printf("face 3: lower side %g with %" PRIu64 " strains %" PRIu64 " clipped %" PRIu64 " missing,", sums[0], counts[0], counts[1], counts[2]);
+    printf(" higher side %g with %" PRIu64 " strains %" PRIu64 " clipped %" PRIu64 " missing\n", sums[1], counts[3], counts[4], counts[5]);
 }
 
 /* Labels a block, takes its map through a record, and prints it. */
@@ -160,5 +190,6 @@ int main(void) {
     expect("the row of curve 1", memcmp(row, row_right, sizeof row) != 0, 0);
     expect("first position of curve 1", job.curve_firsts[0] == 6, 1);
     printf("curve 1 at 6 row %" PRIu32 " %" PRIu32 " %" PRIu32 " %" PRIu32 "\n", row[0], row[1], row[2], row[3]);
+    strains(&job, maps);
     return wrong;
 }

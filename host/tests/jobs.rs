@@ -1,9 +1,10 @@
 //! Every entry through the safe types, beside the second implementation.
 use reference::cutting::Cutting as Cuts;
 use reference::label::number;
-use tugrelis::joining::{entries_for, label_blocks, run};
+use reference::random::{cuts as random_cuts, reading, volume, Random};
+use tugrelis::joining::{block_codes, entries_for, label_blocks, run};
 use tugrelis::volumes::{volumes, Volume};
-use tugrelis::{Block, Counts, Cutting, Entries, Job, Kind, Refusal, Stage, REFUSALS};
+use tugrelis::{Block, Counts, Cutting, Entries, Job, Kind, Reading, Readings, Refusal, Side, Stage, Totals, REFUSALS};
 
 fn cuts(c: &Cutting) -> Cuts {
     Cuts { extents: c.extents.map(|n| n as usize), cuts: [0, 1, 2].map(|a: usize| c.lists[a].iter().map(|&c| c as usize).collect()) }
@@ -87,6 +88,98 @@ fn what_is_declined() {
     assert_eq!(job.seam((1, 0), map(0), map(1)), Err(Refusal::NoSuchPlace));
 }
 
+/// A closed job of a volume, with its labelled blocks.
+fn joined(cutting: Cutting, codes: &[u32], from_back: bool) -> (Job, Vec<(Block, Counts)>) {
+    closed(&Volume { name: "joined", cutting, codes: codes.to_vec() }, from_back)
+}
+
+/// The part of a volume's readings that a block has.
+fn part(cutting: &Cutting, all: &[(u64, u8)], block: usize) -> Readings {
+    let places: Vec<u32> = (0..all.len() as u32).collect();
+    let (values, kinds) = block_codes(cutting, &places, block).iter().map(|&v| all[v as usize]).map(|(bits, kind)| (f64::from_bits(bits), kind)).unzip();
+    Readings { values, kinds }
+}
+
+fn bits(t: Totals) -> [(u64, [u64; 3]); 2] {
+    [t.lower, t.higher].map(|d: Side| (d.sum.to_bits(), [d.strains, d.clipped, d.missing]))
+}
+
+#[test]
+fn totals_under_ten_cuttings() {
+    let mut random = Random::new(18);
+    for _ in 0..12 {
+        let extents = [0; 3].map(|_| 2 + random.below(7));
+        let codes = volume(&mut random, extents);
+        let all: Vec<(u64, u8)> = codes.iter().map(|_| reading(&mut random)).collect();
+        let uncut = number(extents, &codes);
+        let mut seen: Option<Vec<_>> = None;
+        for round in 0..10 {
+            let cutting = Cutting { extents: extents.map(|n| n as u32), lists: extents.map(|n| random_cuts(&mut random, n).iter().map(|&c| c as u32).collect()) };
+            let (mut job, blocks) = joined(cutting.clone(), &codes, round % 2 == 1);
+            let mut order: Vec<usize> = (0..blocks.len()).collect();
+            for i in (1..order.len()).rev() {
+                order.swap(i, random.below(i + 1));
+            }
+            for &b in &order {
+                assert_eq!(job.total(1), Err(Refusal::WrongStage));
+                assert_eq!(job.strain(b as u32, &blocks[b].0.map, &part(&cutting, &all, b)), Ok(()));
+            }
+            let totals: Vec<_> = (1..=job.counts().faces).map(|n| bits(job.total(n).unwrap())).collect();
+            for (n, sides) in totals.iter().enumerate() {
+                let cells = (0..uncut.map.len()).filter(|&t| uncut.grid.order(t) == 2 && uncut.map[t] as usize == n + 1).count() as u64;
+                sides.iter().for_each(|(_, counts)| assert_eq!(counts.iter().sum::<u64>(), cells));
+            }
+            assert_eq!(seen.get_or_insert(totals.clone()), &totals, "round {round}");
+        }
+    }
+}
+
+#[test]
+fn readings_that_are_declined() {
+    // codes 1 2 1, cut in the middle: face 1 between the first two voxels, face 2 between the last two
+    let line = &volumes()[6];
+    let (mut job, blocks) = closed(line, false);
+    let map = |b: usize| &blocks[b].0.map[..];
+    let of = |readings: &[Reading]| readings.iter().copied().collect::<Readings>();
+    let good = of(&[Reading::Strain(-0.0), Reading::Clipped(2048.0)]);
+    for bad in [f64::NAN, f64::INFINITY, 1.0 / 2048.0, 2048.0 + 1.0 / 1024.0, -4096.0] {
+        assert_eq!(job.strain(0, map(0), &of(&[Reading::Strain(bad), Reading::Missing])), Err(Refusal::BadReading));
+        assert_eq!(job.strain(0, map(0), &of(&[Reading::Missing, Reading::Clipped(bad)])), Err(Refusal::BadReading));
+    }
+    assert_eq!(job.strain(0, map(0), &Readings { values: vec![0.0; 2], kinds: vec![0, 3] }), Err(Refusal::BadReading));
+    assert_eq!(job.strain(0, map(0), &Readings { values: vec![0.0; 3], kinds: vec![0; 2] }), Err(Refusal::WrongTray));
+    assert_eq!(job.strain(0, map(0), &Readings { values: vec![0.0; 2], kinds: vec![0; 1] }), Err(Refusal::WrongTray));
+    assert_eq!(job.strain(2, map(0), &good), Err(Refusal::NoSuchPlace));
+    assert_eq!(job.strain(0, &[1, 2, 2], &good), Err(Refusal::StrayLabel));
+    assert_eq!(job.strain(0, map(0), &good), Ok(()));
+    assert_eq!(job.strain(0, map(0), &good), Err(Refusal::DoneAlready));
+    assert_eq!(job.total(1), Err(Refusal::WrongStage));
+    // the value of a missing reading may be anything
+    assert_eq!(job.strain(1, map(1), &Readings { values: vec![1.5, f64::NAN], kinds: vec![0, 2] }), Ok(()));
+    let none = Side { sum: 0.0, strains: 0, clipped: 0, missing: 0 };
+    let first = Totals { lower: Side { strains: 1, ..none }, higher: Side { clipped: 1, ..none } };
+    assert_eq!(job.total(1).map(bits), Ok(bits(first)));
+    assert_eq!(job.total(2), Ok(Totals { lower: Side { missing: 1, ..none }, higher: Side { sum: 1.5, strains: 1, ..none } }));
+    assert_eq!(job.total(0), Err(Refusal::NoSuchPlace));
+    assert_eq!(job.total(3), Err(Refusal::NoSuchPlace));
+    // forged totals: at 2^43 a sum is read, beyond it is not; minus zero is read as zero
+    let most = 8_796_093_022_208.0f64;
+    for (sum, right) in [(most, Ok(most)), (-most, Ok(-most)), (-0.0, Ok(0.0))] {
+        job.tables.face_sums.0[0] = sum;
+        assert_eq!(job.total(1).map(|t| t.lower.sum.to_bits()), right.map(f64::to_bits));
+    }
+    for sum in [f64::from_bits(most.to_bits() + 1), f64::NAN, f64::NEG_INFINITY, 1.0 / 2048.0] {
+        job.tables.face_sums.0[0] = sum;
+        assert_eq!(job.total(1), Err(Refusal::StrayLabel));
+        assert_eq!(job.total(2).map(|t| t.higher.strains), Ok(1));
+    }
+    job.tables.face_sums.0[0] = 0.0;
+    for (count, right) in [(5, Ok(5)), (6, Err(Refusal::StrayLabel))] {
+        job.tables.face_counts[2] = count;
+        assert_eq!(job.total(1).map(|t| t.lower.missing), right);
+    }
+}
+
 #[test]
 fn the_largest_block() {
     for extents in [[1, 1, 1], [2, 2, 2], [5, 1, 3], [64, 64, 64]] {
@@ -102,7 +195,7 @@ fn the_largest_block() {
 }
 
 #[test]
-fn eleven_refusals() {
+fn twelve_refusals() {
     for (i, r) in REFUSALS.iter().enumerate() {
         assert_eq!(r.number() as usize, i + 1);
         assert_eq!(Refusal::check(r.number()), Err(*r));

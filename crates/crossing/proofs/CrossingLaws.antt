@@ -1,16 +1,13 @@
 -- The ways of the functions of a crossing step, over plain lists and numbers.
 -- Assumes nothing.
-use mathlib.Core.Path.{_≡_, sym, ap, _∙_}
+use mathlib.Core.Path.{_≡_, sym, _∙_}
 use mathlib.Core.Bool.{Bool, true, false, not}
 use mathlib.Core.List.{List}
 use Prim.Native.Nat.{ℕ, _+_, _*_, _≤_, _<_}
 use native.Mathlib.Omega.{arith}
 use lib.Dec.{eqb}
-use borrow.Author.Tests.{eqb-true, eqb-false, eq-eqb, ne-eqb, not-true, not-false}
-use Rattle.lists.specs.Lists.{consecutive, allOf}
-use Rattle.lists.proofs.Cases.{by-test, and-first}
-use Rattle.lists.proofs.Lists.{consecutive-in, consecutive-out}
-use Rattle.lists.proofs.Tests.{all-in, all-out}
+use borrow.Author.Tests.{eqb-true, eq-eqb, ne-eqb, not-true, not-false}
+use Rattle.lists.proofs.Cases.{and-first}
 use Rattle.union_find.specs.Links.{root}
 use Rattle.cells.specs.Box.{Triple}
 use Rattle.cells.specs.Grid.{cells}
@@ -27,28 +24,6 @@ use Rattle.steps.specs.Steps.{reachedOf, entryOf, mapStandsIn, linksStandIn, Ad
 use Rattle.steps.proofs.StepLaws.{or-first, or-then, reached-passed}
 use Rattle.crossing.specs.declared.Sizes.{Sizes}
 use Rattle.crossing.specs.Inner.{traysFit, crossedBut, numberable, standIn, laterRefusal, refusalOf, JoinReady, TalliesFit, CurvesJoined}
-
--- ---- loops that ask the same of each of the first places
-
-module _ (g : ℕ → Bool) where
-  abbrev pub Held : ℕ → Type 0
-  Held i = (x : ℕ) → x < i → g x ≡ true
-
-  pub held-none : Held 0
-  held-none x h = absurd (omega arith)
-
-  pub held-more : (i : ℕ) (t : Bool) → Held i → t ≡ g i → not t ≡ false → Held (i + 1)
-  held-more i t h e q x l =
-      by-test (eqb x i) (λ u. ap g (eqb-true x i u) ∙ sym e ∙ not-false t q) (λ u. let d : x ≡ i → ⊥ = eqb-false x i u in h x (omega arith))
-
-  pub held-broken : (n i : ℕ) (t : Bool) → i < n → t ≡ g i → not t ≡ true → false ≡ allOf g (consecutive 0 n)
-  held-broken n i t h e q =
-      by-test (allOf g (consecutive 0 n))
-      (λ u. sym (sym (all-out g (consecutive 0 n) u (consecutive-in 0 n (omega arith) (omega arith))) ∙ sym e ∙ not-true t q) ∙ sym u)
-      (λ u. sym u)
-
-  pub held-all : (n i : ℕ) → n ≤ i → Held i → true ≡ allOf g (consecutive 0 n)
-  held-all n i h a = sym (all-in g (consecutive 0 n) (λ x m. a x (omega (arith, consecutive-out 0 n m))))
 
 -- ---- the last crossing
 

@@ -84,7 +84,7 @@ covered n c (d ∷ f ∷ l) t x h k =
     let r : Holds (d ∷ f ∷ l) x = covered n d (f ∷ l) (and-second (ltb c d && leb d (c + 63)) (ascends n d (f ∷ l)) t) x (omega arith) k in
     record { i = suc (r .i); listed = omega (arith, r .listed); spans = record { above = r .spans .above; below = r .spans .below } })
 
-cut-interval : (n : ℕ) (c : List ℕ) → cutList n c ≡ true → (i : ℕ) → i < intervals c → Interval n c i
+pub cut-interval : (n : ℕ) (c : List ℕ) → cutList n c ≡ true → (i : ℕ) → i < intervals c → Interval n c i
 unfolding cutList
 cut-interval n [] t i h = absurd (true≢false (sym t))
 cut-interval n (c ∷ l) t i h = interval-of n c l (and-second (eqb c 0) (ascends n c l) t) i h

@@ -22,8 +22,8 @@ ghost use Rattle.findings.specs.Findings.{finalIn, foundRow, foundAmong,
 
 // ---- the row of a point cell
 
-// The final number of number n of the block: 0 stays 0.
-fn final_number(numbers: &[u32], from: u32, n: u32) -> u32
+// The final number of number n of the block: 0 stays 0. A number that the final numbers do not reach is read as 0. Not an entry.
+pub fn final_number(numbers: &[u32], from: u32, n: u32) -> u32
     ensures { λ r. ⌜ r ≡ finalIn (now (numbers .entry)) from n ⌝ }
 {
     if n == 0 {

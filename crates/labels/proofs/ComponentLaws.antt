@@ -51,7 +51,8 @@ first-belongs : (e : Triple) (m : List ℕ) {p : ℕ} → p < cells e → Belong
 unfolding firstCell
 first-belongs e m {p} h = component-out e m (order e p) (getD m p 0) (first-mem (component e m (order e p) (getD m p 0)) (component-in e m h))
 
-ascends-first : (b : ℕ) (l : List ℕ) {x : ℕ} → Ascends b l → List·Memᴰ x l → getD l 0 0 ≤ x
+-- no entry of an ascending list is less than its first
+pub ascends-first : (b : ℕ) (l : List ℕ) {x : ℕ} → Ascends b l → List·Memᴰ x l → getD l 0 0 ≤ x
 ascends-first b [] s m = absurd (List·Memᴰ·not-nil m)
 ascends-first b (y ∷ l) {x} s m = go (List·Memᴰ·cases-cons m)
   where

@@ -4,11 +4,13 @@ use mathlib.Core.Path.{_≡_, refl, sym, ap, _∙_}
 use mathlib.Core.Bool.{Bool, true, false, not, _&&_, _||_, true≢false}
 use mathlib.Core.Logic.{_⊎_, inl, inr}
 use mathlib.Core.List.{List, [], _∷_, List·Memᴰ, List·Memᴰ·head, List·Memᴰ·tail, List·Memᴰ·not-nil, List·Memᴰ·cases-cons}
-use Prim.Native.Nat.{ℕ}
+use Prim.Native.Nat.{ℕ, _+_, _≤_, _<_}
+use native.Mathlib.Omega.{arith}
 use lib.Dec.{eqb}
 use lib.ListN.{getD}
-use borrow.Author.Tests.{eqb-true, eq-eqb}
-use Rattle.lists.specs.Lists.{keep, allOf, someOf, isIn}
+use borrow.Author.Tests.{eqb-true, eqb-false, eq-eqb, not-true, not-false}
+use Rattle.lists.specs.Lists.{consecutive, keep, allOf, someOf, isIn}
+use Rattle.lists.proofs.Lists.{consecutive-in, consecutive-out}
 use Rattle.lists.proofs.Cases.{by-test, and-first, and-second, and-both, neither}
 
 module _ {A : Type 0} where
@@ -76,3 +78,25 @@ implied false u e f = absurd (true≢false (sym f))
 pub implies : (s u : Bool) → (s ≡ true → u ≡ true) → (not s || u) ≡ true
 implies true u h = h refl
 implies false u h = refl
+
+-- ---- loops that ask the same of each of the first places
+
+module _ (g : ℕ → Bool) where
+  abbrev pub Held : ℕ → Type 0
+  Held i = (x : ℕ) → x < i → g x ≡ true
+
+  pub held-none : Held 0
+  held-none x h = absurd (omega arith)
+
+  pub held-more : (i : ℕ) (t : Bool) → Held i → t ≡ g i → not t ≡ false → Held (i + 1)
+  held-more i t h e q x l =
+      by-test (eqb x i) (λ u. ap g (eqb-true x i u) ∙ sym e ∙ not-false t q) (λ u. let d : x ≡ i → ⊥ = eqb-false x i u in h x (omega arith))
+
+  pub held-broken : (n i : ℕ) (t : Bool) → i < n → t ≡ g i → not t ≡ true → false ≡ allOf g (consecutive 0 n)
+  held-broken n i t h e q =
+      by-test (allOf g (consecutive 0 n))
+      (λ u. sym (sym (all-out g (consecutive 0 n) u (consecutive-in 0 n (omega arith) (omega arith))) ∙ sym e ∙ not-true t q) ∙ sym u)
+      (λ u. sym u)
+
+  pub held-all : (n i : ℕ) → n ≤ i → Held i → true ≡ allOf g (consecutive 0 n)
+  held-all n i h a = sym (all-in g (consecutive 0 n) (λ x m. a x (omega (arith, consecutive-out 0 n m))))

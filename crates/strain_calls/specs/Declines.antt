@@ -13,7 +13,7 @@ use Rattle.cutting.specs.Cutting.{Cutting, blocks, blockExtents, goodCut}
 use Rattle.joiner.specs.Job.{Face, Told, Tables, State, Tray, tray, countOf, fromOf, lengthsFit, numberTrays}
 use Rattle.joiner.specs.Declines.{talliesFit, mapStands, numberStands}
 use Rattle.joiner.specs.Entries.{allTrays}
-use Rattle.totals.specs.Totals.{slotOf, standsAt}
+use Rattle.totals.specs.Totals.{bothStand}
 use Rattle.strain_calls.specs.Tables.{TotalTables, totalTrays}
 use Rattle.strain_calls.specs.Calls.{StrainCall, strain, total, inStage, hasPlace, again, listsFit, badReading}
 
@@ -42,8 +42,7 @@ lentFor o t w (total n) = totalTrays o w
 
 -- "8 now covers a total read with counts above the volume's cells, or a sum beyond 2^43 or no such multiple": either side of face n.
 unfoldable pub totalStands : Cutting → TotalTables → ℕ → Bool
-totalStands k w n =
-    standsAt (cells (k .extents)) (w .sums) (w .counts) (slotOf n 0) && standsAt (cells (k .extents)) (w .sums) (w .counts) (slotOf n 1)
+totalStands k w n = bothStand (cells (k .extents)) (w .sums) (w .counts) n
 
 -- A face of the block, by its place: its final number is one of the closed table's, so that it has a total, and its total stands.
 unfoldable pub faceStands : State → TotalTables → ℕ → Bool

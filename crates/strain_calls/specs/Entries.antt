@@ -8,10 +8,7 @@ use lib.ListN.{set}
 use lib.Ieee.{Float}
 use Rattle.joiner.specs.Job.{Face, Told, Tables, State}
 use Rattle.joiner.specs.Entries.{Opened, Unopened}
-use Rattle.strains.specs.Units.{unitsOf, floatOf}
-use Rattle.totals.specs.Totals.{slotOf, sumsWith, countsWith, sideAt}
-use Rattle.totals.specs.declared.Side.{Side}
-use Rattle.totals.specs.declared.Totals.{Totals}
+use Rattle.totals.specs.Totals.{sumsWith, countsWith, totalsOf}
 use Rattle.strain_calls.specs.Tables.{TotalTables, totalTables, zeroed}
 use Rattle.strain_calls.specs.Adding.{blockAdds}
 use Rattle.strain_calls.specs.Calls.{StrainCall, strain, total, StrainAnswer, strainAnswer, noTotals}
@@ -38,22 +35,12 @@ unfoldable pub withReadings : State → TotalTables → ℕ → List ℕ → Lis
 withReadings s w b m values kinds =
     totalTables (set (w .came) b 1) (sumsWith (w .sums) (blockAdds s b m values kinds)) (countsWith (w .counts) (blockAdds s b m values kinds))
 
--- ---- a total
-
--- "Minus zero counts as zero": a sum is given as the float of its whole 1,024ths.
-unfoldable pub givenSide : Side → Side
-givenSide d = record { sum = floatOf (unitsOf (d .sum)); strains = d .strains; clipped = d .clipped; missing = d .missing }
-
--- The totals of face n.
-unfoldable pub givenTotals : TotalTables → ℕ → Totals
-givenTotals w n = record { lower = givenSide (sideAt (w .sums) (w .counts) (slotOf n 0)); higher = givenSide (sideAt (w .sums) (w .counts) (slotOf n 1)) }
-
 -- ---- one call
 
 -- What an accepted call answers and leaves.
 abbrev pub StrainDone : State → TotalTables → StrainCall → StrainAnswer → TotalTables → Type 0
 StrainDone s w (strain b m values kinds) a v = (a ≡ strainAnswer 0 noTotals) × (v ≡ withReadings s w b m values kinds)
-StrainDone s w (total n) a v = (a ≡ strainAnswer 0 (givenTotals w n)) × (v ≡ w)
+StrainDone s w (total n) a v = (a ≡ strainAnswer 0 (totalsOf (w .sums) (w .counts) n)) × (v ≡ w)
 
 -- One call, whatever it is handed: "a refusal returns its number, .. every other field 0 or empty, and changes no lent slice". Neither call changes the job
 -- or another table.

@@ -1,19 +1,18 @@
--- Sums of whole 1,024ths are exact-size.
+-- Sums of whole 1,024ths are exact.
 -- Assumes nothing.
 use mathlib.Core.Path.{_≡_, refl, sym, ap, ap₂, _∙_, subst}
 use Prim.Native.Nat.{ℕ, zero, suc, _+_, _-_, _*_, _/_, _%_, _^_, _≤_, _<_, zero-le}
-use native.Mathlib.Nat.{mul-assoc, mul-comm, mul-right-comm, mul-left-comm, mul-pos, div-add-mod', add-zero, add-mul, zero-lt-suc, lt-of-lt-of-le, lt-of-le-of-lt, le-refl, mul-lt-mul-of-pos-right, mul-le-mul-right, lt-of-mul-lt-mul-right, le-of-mul-le-mul-right, mul-sub}
+use native.Mathlib.Nat.{mul-assoc, mul-comm, mul-right-comm, mul-pos, div-add-mod', add-zero, add-mul, zero-lt-suc, lt-of-lt-of-le, mul-lt-mul-of-pos-right, mul-le-mul-right, lt-of-mul-lt-mul-right, le-of-mul-le-mul-right, mul-sub}
 use native.Mathlib.Omega.{arith}
-use mathlib.Core.Logic.{_⊎_, inl, inr}
-use mathlib.Core.Bool.{Bool, true, false, cond, not, _&&_, Bool·beq}
+use mathlib.Core.Bool.{Bool, true, false, cond, _&&_}
 use lib.IntN.{ℤ, pos, negsuc, negℤ, _+ℤ_, subℕ, natAbs}
-use lib.Dec.{T, ltb, eqb, leb, ltb→lt, lt→ltb, nltb→le, eqb→eq, leb→le, lit≤, lit<}
-use lib.Pow.{pow-add, pow-pos, pow-mono, shl-lt}
-use lib.Ieee.{Float, nan, inf, fin, Format, binary64, prec, emax, low, up, down, round, sum, add}
+use lib.Dec.{T, ltb, eqb, leb, eqb→eq, leb→le, lit≤}
+use lib.Pow.{pow-add, pow-mono, shl-lt}
+use lib.Ieee.{Float, nan, inf, fin, binary64, low, up, down, round, sum, add}
 use lib.Ieee.Exact.{HasValue, round-exact}
-use lib.Ieee.Fits.{up-pos, down-pos, and-l, and-r}
+use lib.Ieee.Fits.{down-pos, and-l, and-r}
 use lib.Ieee.Scale.{round-same}
-use borrow.Author.Tests.{lt-ltb, le-ltb, ltb-true, ltb-false, eqb-true}
+use borrow.Author.Tests.{lt-ltb, le-ltb, ltb-true, ltb-false}
 use Rattle.lists.proofs.Cases.{by-test}
 use Rattle.strains.specs.Units.{isUnits, unitsOf, floatOf}
 
@@ -38,8 +37,8 @@ module _ (A B C a b c : ℕ) (Cp : 0 < C) (cp : 0 < c) (p : A * c ≡ a * C) (q 
   plus : (A + B) * c ≡ (a + b) * C
   plus = add-mul A B c ∙ ap₂ _+_ p q ∙ sym (add-mul a b C)
 
-  minus : (A - B) * c ≡ (a - b) * C
-  minus = mul-comm (A - B) c ∙ mul-sub c A B ∙ ap₂ _-_ (mul-comm c A ∙ p) (mul-comm c B ∙ q) ∙ ap₂ _-_ (mul-comm a C) (mul-comm b C) ∙ sym (mul-sub C a b) ∙ mul-comm C (a - b)
+  difference : (A - B) * c ≡ (a - b) * C
+  difference = mul-comm (A - B) c ∙ mul-sub c A B ∙ ap₂ _-_ (mul-comm c A ∙ p) (mul-comm c B ∙ q) ∙ ap₂ _-_ (mul-comm a C) (mul-comm b C) ∙ sym (mul-sub C a b) ∙ mul-comm C (a - b)
 
 -- ±A / C + ±B / C is ±a / c + ±b / c
 sum-same : (s t : Bool) (A B C a b c : ℕ) → 0 < C → 0 < c → A * c ≡ a * C → B * c ≡ b * C → sum binary64 s A t B C ≡ sum binary64 s a t b c
@@ -49,8 +48,8 @@ sum-same s t A B C a b c Cp cp p q =
       less A B C a b c Cp cp p q,
       less B A C b a c Cp cp q p,
       round-same binary64 s (A + B) C (a + b) c Cp cp (plus A B C a b c Cp cp p q),
-      round-same binary64 t (B - A) C (b - a) c Cp cp (minus B A C b a c Cp cp q p),
-      round-same binary64 (s && ltb b a) (A - B) C (a - b) c Cp cp (minus A B C a b c Cp cp p q),
+      round-same binary64 t (B - A) C (b - a) c Cp cp (difference B A C b a c Cp cp q p),
+      round-same binary64 (s && ltb b a) (A - B) C (a - b) c Cp cp (difference A B C a b c Cp cp p q),
     ) refl
 
 -- .. so a sum of two floats that are so many 1,024ths

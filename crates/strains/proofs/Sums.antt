@@ -1,15 +1,15 @@
 -- Sums of readings are exact, in every order.
 -- Assumes nothing.
 use mathlib.Core.Path.{_≡_, refl, sym, ap, _∙_, subst}
-use mathlib.Core.Bool.{Bool, true, false, cond, true≢false}
+use mathlib.Core.Bool.{Bool, true, false, cond}
 use mathlib.Core.List.{List, [], _∷_}
-use Prim.Native.Nat.{ℕ, zero, suc, _+_, _-_, _*_, _^_, _≤_, _<_, zero-le}
+use Prim.Native.Nat.{ℕ, zero, suc, _+_, _*_, _^_, _≤_, _<_, zero-le}
 use native.Mathlib.Omega.{arith}
-use lib.IntN.{ℤ, pos, negsuc, negℤ, _+ℤ_, subℕ, natAbs, +ℤ-assoc, +ℤ-comm, +ℤ-idl, +ℤ-idr}
+use lib.IntN.{ℤ, pos, negsuc, negℤ, _+ℤ_, subℕ, natAbs, +ℤ-assoc, +ℤ-comm, +ℤ-idr}
 use lib.Dec.{ltb}
 use borrow.Author.Tests.{ltb-true}
 use lib.ListN.{length}
-use lib.Ieee.{Float, fin, binary64, round, add}
+use lib.Ieee.{Float, fin, round}
 use Rattle.lists.specs.Lists.{allOf}
 use Rattle.lists.proofs.Cases.{by-test, and-first, and-second, and-both}
 use Rattle.strains.specs.Units.{isUnits, unitsOf, floatOf}

@@ -1,22 +1,21 @@
--- A float that is not negative is a whole number of 1,024ths exactly where adding 2 ^ 42 and taking it away again gives it there-and-back.
+-- A float that is not negative is a whole number of 1,024ths exactly where adding 2 ^ 42 and taking it away again gives it back.
 -- Assumes nothing.
 use mathlib.Core.Path.{_≡_, refl, sym, ap, ap₂, _∙_, subst}
-use Prim.Native.Nat.{ℕ, zero, suc, _+_, _-_, _*_, _/_, _%_, _^_, _≤_, _<_, zero-le}
-use native.Mathlib.Nat.{mul-assoc, mul-comm, mul-one, one-mul, mul-right-comm, mul-left-comm, mul-pos, mul-mod-left, mul-div-cancel, add-zero, add-mul, zero-lt-suc, lt-of-lt-of-le, lt-of-le-of-lt, le-of-lt, le-trans, le-of-eq, le-refl, mul-lt-mul-of-pos-right, mul-le-mul-right, lt-of-mul-lt-mul-right, le-of-mul-le-mul-right, mul-sub, not-le-of-lt, lt-of-not-le, zero-mul, eq-of-mul-eq-mul-right}
+use Prim.Native.Nat.{ℕ, zero, suc, _+_, _-_, _*_, _%_, _^_, _≤_, _<_, zero-le}
+use native.Mathlib.Nat.{mul-assoc, mul-one, one-mul, mul-right-comm, mul-pos, mul-mod-left, zero-lt-suc, lt-of-lt-of-le, lt-of-le-of-lt, le-of-lt, le-trans, le-of-eq, mul-lt-mul-of-pos-right, mul-le-mul-right, lt-of-mul-lt-mul-right, le-of-mul-le-mul-right, not-le-of-lt, zero-mul, eq-of-mul-eq-mul-right}
 use native.Mathlib.Omega.{arith}
-use mathlib.Core.Logic.{_⊎_, inl, inr}
-use mathlib.Core.Bool.{Bool, true, false, cond, not, _&&_, _||_, Bool·beq, true≢false}
+use mathlib.Core.Bool.{Bool, true, false, cond, _&&_, _||_, Bool·beq, true≢false}
 use lib.IntN.{ℤ, pos, negsuc, natAbs}
-use lib.Dec.{T, ltb, eqb, leb, ltb→lt, lt→ltb, nltb→le, eqb→eq, leb→le, le→leb, eqb-refl, lit≤, lit<}
-use lib.Pow.{pow-add, pow-pos, pow-mono, shl-lt}
-use lib.Ieee.{Float, nan, inf, fin, Format, binary64, prec, emax, low, up, down, round, sum, add, sub, neg, eq, le, lt, level, fits}
+use lib.Dec.{T, ltb, eqb, leb, ltb→lt, eqb→eq, leb→le, le→leb, eqb-refl, lit≤, lit<}
+use lib.Pow.{pow-add, pow-pos, pow-mono}
+use lib.Ieee.{Float, nan, inf, fin, binary64, up, down, round, sum, add, sub, neg, eq, le, lt, fits}
 use lib.Ieee.Bits.{is-true}
-use lib.Ieee.Exact.{HasValue, round-exact}
+use lib.Ieee.Exact.{HasValue}
 use lib.Ieee.Fits.{up-pos, down-pos, and-l, and-r, and-i, round-fits}
-use lib.Ieee.Order.{round-mono, le-of-values}
-use borrow.Author.Tests.{lt-ltb, le-ltb, ltb-true, ltb-false, eqb-true, eq-eqb, le-leb, leb-true, leb-false}
+use lib.Ieee.Order.{round-mono}
+use borrow.Author.Tests.{lt-ltb, le-ltb, ltb-true, ltb-false, eqb-true, eq-eqb, leb-true, leb-false}
 use Rattle.lists.proofs.Cases.{by-test}
-use Rattle.strains.specs.Units.{isUnits, unitsOf, floatOf}
+use Rattle.strains.specs.Units.{isUnits, floatOf}
 use Rattle.strains.proofs.Exact.{exact-size, exactly, signOf, sized, add-has}
 
 -- 2 ^ 42, from which on every float is a whole number of 1,024ths
@@ -123,7 +122,7 @@ there-and-back x = sub binary64 (add binary64 x large) large
 near : (n : ℕ) → n ≤ 2 ^ 52 - 1 → n + 2 ^ 52 < 2 ^ 53
 near n h = omega arith
 
--- a whole number of 1,024ths comes there-and-back
+-- a whole number of 1,024ths comes back
 back-has : (n : ℕ) → n ≤ 2 ^ 52 → (y : Float) → HasValue y false (n + 2 ^ 52) 1024 → HasValue (sub binary64 y large) false n 1024
 unfolding sub neg sum
 back-has n h y v =
@@ -143,7 +142,7 @@ add-large x true n h v z =
 comes-back : (x : Float) (s : Bool) (n : ℕ) → n ≤ 2 ^ 52 - 1 → HasValue x s n 1024 → (s ≡ true → n ≡ 0) → eq (there-and-back x) x ≡ true
 comes-back x s n h v z = eq-has (there-and-back x) x s n (back-has n (omega arith) (add binary64 x large) (add-large x s n h v z)) v z
 
--- what comes there-and-back is one
+-- what comes back is one
 large-is : round binary64 false (2 ^ 42) 1 ≡ large
 unfolding round
 large-is = refl

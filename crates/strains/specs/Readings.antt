@@ -2,7 +2,7 @@
 -- Assumes nothing.
 use mathlib.Core.Bool.{Bool, true}
 use mathlib.Core.List.{List, [], _∷_}
-use Prim.Native.Nat.{ℕ, _+_}
+use Prim.Native.Nat.{ℕ}
 use lib.Dec.{eqb}
 use lib.ListN.{length}
 use lib.IntN.{ℤ, pos, _+ℤ_}
@@ -45,7 +45,7 @@ kindOf (Reading.Strain x) = 0
 kindOf (Reading.Clipped x) = 1
 kindOf Reading.Missing = 2
 
--- How many readings of a list are of kind j: 0 strains, 1 clipped, 2 missing.
+-- How many readings of a list are of kind j: "0 strain, 1 clipped, 2 missing".
 unfoldable pub ofKind : ℕ → List Reading → ℕ
 ofKind j rs = length (keep (λ r. eqb (kindOf r) j) rs)
 

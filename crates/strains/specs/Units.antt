@@ -1,12 +1,12 @@
 -- Floats that are whole multiples of 1/1,024, as whole numbers of 1,024ths (document 02, item 1).
 -- Assumes nothing.
-use Prim.Native.Nat.{ℕ, suc, _+_, _*_, _/_, _%_, _≤_, _<_}
+use Prim.Native.Nat.{ℕ, suc, _*_, _/_, _%_}
 use mathlib.Core.Bool.{Bool, true, false, cond, _&&_}
 use lib.IntN.{ℤ, pos, negsuc, negℤ}
 use lib.Dec.{eqb, leb}
 use lib.Ieee.{Float, nan, inf, fin, up, down, round, binary64}
 
--- A float "is a whole multiple of 1/1,024, at most" so many 1,024ths "either way". No number is none.
+-- A float "is a whole multiple of 1/1,024, at most" so many 1,024ths "either way"; infinities and what is no number are not.
 unfoldable pub isUnits : ℕ → Float → Bool
 isUnits most nan = false
 isUnits most (inf s) = false

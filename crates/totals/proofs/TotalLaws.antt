@@ -1,25 +1,27 @@
 -- The laws of the totals' leaves, one for each way through their code.
 -- Assumes nothing.
-use mathlib.Core.Path.{_≡_, refl, sym, ap, _∙_, subst}
-use mathlib.Core.Bool.{Bool, true, false, not, cond, _&&_, true≢false}
+use mathlib.Core.Path.{_≡_, refl, sym, ap, _∙_}
+use mathlib.Core.Bool.{Bool, true, false, not, _&&_}
 use mathlib.Core.Logic.{_≢_}
 use mathlib.Core.List.{List, [], _∷_}
-use Prim.Native.Nat.{ℕ, zero, suc, _+_, _-_, _*_, _≤_, _<_, min}
-use native.Mathlib.Numerals.{add-one}
+use Prim.Native.Nat.{ℕ, zero, suc, _+_, _-_, _*_, _≤_, _<_}
 use native.Mathlib.Omega.{arith}
-use lib.Dec.{eqb, leb}
+use lib.Dec.{leb, lit<}
+use lib.IntN.{pos, +ℤ-idl}
 use lib.ListN.{getD, set, length, List·getD-eq-default}
 use lib.Seq.{set-out, set-getD}
 use lib.Ieee.{Float, nan, binary64, add}
 use borrow.Author.Tests.{eq-eqb, ne-eqb, le-leb, lt-leb, not-true, not-false}
-use Rattle.lists.specs.Lists.{consecutive, allOf}
-use Rattle.lists.proofs.Cases.{and-second}
-use Rattle.lists.proofs.Lists.{consecutive-left, consecutive-in}
-use Rattle.lists.proofs.Tests.{all-out}
-use Rattle.strains.specs.Units.{isUnits, plusZero}
+use Rattle.lists.specs.Lists.{consecutive}
+use Rattle.lists.proofs.Cases.{and-first, and-second}
+use Rattle.lists.proofs.Lists.{consecutive-in}
+use Rattle.lists.proofs.Tests.{all-out, Held, held-broken, held-all}
+use Rattle.strains.specs.Units.{isUnits, unitsOf, floatOf, plusZero}
+use Rattle.strains.proofs.Exact.{add-units}
+use Rattle.strains.proofs.Sums.{float-none}
 use Rattle.strains.specs.Readings.{isGood, sumWith, kindOf}
 use Rattle.strains.specs.declared.Reading.{Reading}
-use Rattle.totals.specs.Totals.{sumAdded, more, countAdded, readingOf, readingAt, fitsAt, readingsFit, sideAt, totalsOf, slotOf, sideStands, standsAt}
+use Rattle.totals.specs.Totals.{sumAdded, more, countAdded, readingOf, readingAt, fitsAt, readingsFit, sideAt, givenSide, totalsOf, slotOf, sideStands, standsAt, bothStand}
 use Rattle.totals.specs.declared.Side.{Side}
 use Rattle.totals.specs.declared.Totals.{Totals}
 
@@ -115,26 +117,16 @@ pub good-missing : (r : Reading) → r ≡ Reading.Missing → true ≡ isGood r
 unfolding isGood
 good-missing r e = rw e
 
--- ---- all readings of a list
+-- ---- all readings of the lists
 
 module _ (values : List Float) (kinds : List ℕ) where
-  abbrev pub fitFrom : ℕ → Bool
-  fitFrom v = allOf (fitsAt values kinds) (consecutive v (length values - v))
-
-  pub fit-start : fitFrom 0 ≡ readingsFit values kinds
+  pub some-unfit : (v : ℕ) (b : Bool) → v < length values → b ≡ fitsAt values kinds v → not b ≡ true → false ≡ readingsFit values kinds
   unfolding readingsFit
-  fit-start = let z : length values - 0 ≡ length values = omega arith in rw z
+  some-unfit v b h e n = held-broken (fitsAt values kinds) (length values) v b h e n
 
-  module _ (v : ℕ) (b : Bool) (h : v < length values) (e : b ≡ fitsAt values kinds v) where
-    pub fit-bad : not b ≡ true → fitFrom v ≡ readingsFit values kinds → false ≡ readingsFit values kinds
-    fit-bad n i = sym (rw (consecutive-left v (length values) h, sym e ∙ not-true b n) refl) ∙ i
-
-    pub fit-next : not b ≡ false → fitFrom v ≡ readingsFit values kinds → fitFrom (v + 1) ≡ readingsFit values kinds
-    fit-next n i = rw (add-one v) (sym (rw (consecutive-left v (length values) h, sym e ∙ not-false b n) refl) ∙ i)
-
-  pub fit-all : (v : ℕ) → length values ≤ v → fitFrom v ≡ readingsFit values kinds → true ≡ readingsFit values kinds
-  unfolding consecutive
-  fit-all v h i = let z : length values - v ≡ 0 = omega arith in sym (rw z refl) ∙ i
+  pub all-fitting : (v : ℕ) → length values ≤ v → Held (fitsAt values kinds) v → true ≡ readingsFit values kinds
+  unfolding readingsFit
+  all-fitting v h a = held-all (fitsAt values kinds) (length values) v h a
 
 -- where the test is passed, every reading of the lists is one
 pub fit-good : (values : List Float) (kinds : List ℕ) → readingsFit values kinds ≡ true → (v : ℕ) → v < length values → isGood (readingAt values kinds v) ≡ true
@@ -150,10 +142,46 @@ pub side-is : (sums : List Float) (counts : List ℕ) (s : ℕ) (x : Float) (a b
 unfolding sideAt
 side-is sums counts s x a b c e f g h = rw (e, f, g, h)
 
-pub totals-are : (sums : List Float) (counts : List ℕ) (n : ℕ) (a b : Side) → a ≡ sideAt sums counts (2 * (n - 1)) → b ≡ sideAt sums counts (2 * (n - 1) + 1)
-    → _≡_ {A = Totals} (record { lower = a; higher = b }) (totalsOf sums counts n)
+-- a sum added to zero is the float of its whole 1,024ths
+pub sum-given : (x : Float) (most : ℕ) → isUnits most x ≡ true → add binary64 plusZero x ≡ floatOf (unitsOf x)
+sum-given x most h = ap (λ (z : Float). add binary64 z x) (sym float-none) ∙ add-units (pos 0) x most (lit< tt) h ∙ ap floatOf (+ℤ-idl (unitsOf x))
+
+pub side-given : (d : Side) → isUnits 9007199254740992 (d .sum) ≡ true
+    → _≡_ {A = Side} (record { sum = add binary64 plusZero (d .sum); strains = d .strains; clipped = d .clipped; missing = d .missing }) (givenSide d)
+unfolding givenSide
+side-given d h = ap (λ (x : Float). record { sum = x; strains = d .strains; clipped = d .clipped; missing = d .missing }) (sum-given (d .sum) 9007199254740992 h)
+
+module _ (most : ℕ) (sums : List Float) (counts : List ℕ) (n : ℕ) (r : Bool) (e : r ≡ standsAt most sums counts (2 * (n - 1))) where
+  first-place : r ≡ standsAt most sums counts (slotOf n 0)
+  unfolding slotOf
+  first-place = e ∙ ap (standsAt most sums counts) (omega arith)
+
+  pub lower-stray : not r ≡ true → false ≡ bothStand most sums counts n
+  unfolding bothStand
+  lower-stray f = rw (sym first-place ∙ not-true r f)
+
+  pub lower-stands : not r ≡ false → (t : Bool) → t ≡ standsAt most sums counts (2 * (n - 1) + 1) → t ≡ bothStand most sums counts n
+  unfolding bothStand slotOf
+  lower-stands f t g = g ∙ sym (ap (λ (b : Bool). b && standsAt most sums counts (2 * (n - 1) + 1)) (sym first-place ∙ not-false r f))
+
+-- the sums of a face whose both sides stand are whole 1,024ths
+module _ (most : ℕ) (sums : List Float) (counts : List ℕ) (n : ℕ) (h : bothStand most sums counts n ≡ true) where
+  side-units : (s : ℕ) → standsAt most sums counts s ≡ true → (d : Side) → d ≡ sideAt sums counts s → isUnits 9007199254740992 (d .sum) ≡ true
+  unfolding standsAt sideStands
+  side-units s t d e = ap (λ (x : Side). isUnits 9007199254740992 (x .sum)) e ∙ and-first _ _ t
+
+  pub lower-units : (d : Side) → d ≡ sideAt sums counts (2 * (n - 1)) → isUnits 9007199254740992 (d .sum) ≡ true
+  unfolding bothStand slotOf
+  lower-units d e = side-units (2 * (n - 1) + 0) (and-first (standsAt most sums counts (2 * (n - 1) + 0)) (standsAt most sums counts (2 * (n - 1) + 1)) h) d (e ∙ ap (sideAt sums counts) (omega arith))
+
+  pub higher-units : (d : Side) → d ≡ sideAt sums counts (2 * (n - 1) + 1) → isUnits 9007199254740992 (d .sum) ≡ true
+  unfolding bothStand slotOf
+  higher-units d e = side-units (2 * (n - 1) + 1) (and-second (standsAt most sums counts (2 * (n - 1) + 0)) (standsAt most sums counts (2 * (n - 1) + 1)) h) d e
+
+pub totals-are : (sums : List Float) (counts : List ℕ) (n : ℕ) (a b c d : Side) → a ≡ sideAt sums counts (2 * (n - 1)) → b ≡ sideAt sums counts (2 * (n - 1) + 1)
+    → c ≡ givenSide a → d ≡ givenSide b → _≡_ {A = Totals} (record { lower = c; higher = d }) (totalsOf sums counts n)
 unfolding totalsOf slotOf
-totals-are sums counts n a b e f = let z : 2 * (n - 1) + 0 ≡ 2 * (n - 1) = omega arith in rw (e, f, z)
+totals-are sums counts n a b c d e f g h = let z : 2 * (n - 1) + 0 ≡ 2 * (n - 1) = omega arith in rw (g, h, e, f, z)
 
 module _ (most : ℕ) (d : Side) (t : Bool) (e : t ≡ isUnits 9007199254740992 (d .sum)) where
   pub no-sum : not t ≡ true → false ≡ sideStands most d

@@ -1,6 +1,5 @@
 -- The totals of the faces of a closed job, and what a list of readings does to them (document 02, item 1).
 -- Assumes nothing.
-use mathlib.Core.Path.{_≡_}
 use mathlib.Core.Bool.{Bool, cond, _&&_}
 use mathlib.Core.List.{List, [], _∷_, map}
 use Prim.Native.Nat.{ℕ, _+_, _-_, _*_, min}
@@ -8,7 +7,7 @@ use lib.Dec.{eqb, leb}
 use lib.ListN.{getD, set, length}
 use lib.Ieee.{Float}
 use Rattle.lists.specs.Lists.{consecutive, keep, allOf}
-use Rattle.strains.specs.Units.{isUnits, plusZero}
+use Rattle.strains.specs.Units.{isUnits, unitsOf, floatOf, plusZero}
 use Rattle.strains.specs.Readings.{isGood, sumWith, kindOf}
 use Rattle.strains.specs.declared.Reading.{Reading}
 use Rattle.totals.specs.declared.Side.{Side}
@@ -82,9 +81,13 @@ readingsFit values kinds = allOf (fitsAt values kinds) (consecutive 0 (length va
 unfoldable pub sideAt : List Float → List ℕ → ℕ → Side
 sideAt sums counts s = record { sum = getD sums s plusZero; strains = getD counts (3 * s) 0; clipped = getD counts (3 * s + 1) 0; missing = getD counts (3 * s + 2) 0 }
 
--- The totals of face n.
+-- "Minus zero counts as zero": a sum is given as the float of its whole 1,024ths.
+unfoldable pub givenSide : Side → Side
+givenSide d = record { sum = floatOf (unitsOf (d .sum)); strains = d .strains; clipped = d .clipped; missing = d .missing }
+
+-- The totals of face n, as they are given.
 unfoldable pub totalsOf : List Float → List ℕ → ℕ → Totals
-totalsOf sums counts n = record { lower = sideAt sums counts (slotOf n 0); higher = sideAt sums counts (slotOf n 1) }
+totalsOf sums counts n = record { lower = givenSide (sideAt sums counts (slotOf n 0)); higher = givenSide (sideAt sums counts (slotOf n 1)) }
 
 -- 8 denies it of a side of a "total read with counts above the volume's cells, or a sum beyond 2^43 or no such multiple".
 unfoldable pub sideStands : ℕ → Side → Bool
@@ -93,3 +96,7 @@ sideStands most d = isUnits 9007199254740992 (d .sum) && (leb (d .strains) most 
 -- It is so of the sum at a place and its counts.
 unfoldable pub standsAt : ℕ → List Float → List ℕ → ℕ → Bool
 standsAt most sums counts s = sideStands most (sideAt sums counts s)
+
+-- It is so of both sides of face n.
+unfoldable pub bothStand : ℕ → List Float → List ℕ → ℕ → Bool
+bothStand most sums counts n = standsAt most sums counts (slotOf n 0) && standsAt most sums counts (slotOf n 1)

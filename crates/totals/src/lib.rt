@@ -3,12 +3,13 @@ use strains::Reading;
 use strains::is_strain;
 use strains::is_sum;
 ghost use mathlib.Core.Path.{_≡_};
+ghost use mathlib.Core.Bool.{true};
 ghost use Prim.Native.Nat.{_*_, _+_, _<_, _^_};
 ghost use lib.ListN.{getD, length, set};
 ghost use lib.Ieee.{binary64, add};
-ghost use Rattle.strains.specs.Units.{plusZero};
+ghost use Rattle.strains.specs.Units.{isUnits, plusZero};
 ghost use Rattle.strains.specs.Readings.{isGood};
-ghost use Rattle.totals.specs.Totals.{sumAdded, more, countAdded, readingAt, fitsAt, readingsFit, sideStands, standsAt, sideAt, totalsOf};
+ghost use Rattle.totals.specs.Totals.{sumAdded, more, countAdded, readingAt, fitsAt, readingsFit, sideStands, standsAt, sideAt, givenSide, totalsOf, bothStand};
 
 // ---- adding a reading
 
@@ -160,17 +161,28 @@ pub fn side_at(sums: &[f64], counts: &[u64], s: usize) -> Side
     }
 }
 
-// The totals of face n.
-pub fn totals_of(sums: &[f64], counts: &[u64], n: u32) -> Totals
-    requires { ⌜ 0 < n ⌝ }
+// A side as it is given. Adding to zero makes zero of minus zero, and leaves every other sum as it is.
+fn given(d: Side) -> Side
+    requires { ⌜ isUnits 9007199254740992 (d .sum) ≡ true ⌝ }
+    ensures { λ r. ⌜ r ≡ givenSide d ⌝ }
+{
+    Side {
+        sum: 0.0 + d.sum,
+        ..d
+    }
+}
+
+// The totals of face n, as they are given. Not an entry.
+pub fn totals_of(most: u64, sums: &[f64], counts: &[u64], n: u32) -> Totals
+    requires { ⌜ (0 < n) × (bothStand most (now sums) (now counts) n ≡ true) ⌝ }
     ensures { λ r. ⌜ r ≡ totalsOf (now (sums .entry)) (now (counts .entry)) n ⌝ }
 {
     let s = 2 * (n as usize - 1);
     let lower = side_at(sums, counts, s);
     let higher = side_at(sums, counts, s + 1);
     Totals {
-        lower: lower,
-        higher: higher,
+        lower: given(lower),
+        higher: given(higher),
     }
 }
 
@@ -196,4 +208,16 @@ pub fn stands_at(most: u64, sums: &[f64], counts: &[u64], s: usize) -> bool
     ensures { λ r. ⌜ r ≡ standsAt most (now (sums .entry)) (now (counts .entry)) s ⌝ }
 {
     side_stands(most, side_at(sums, counts, s))
+}
+
+// Whether both sides of face n stand. Not an entry.
+pub fn both_stand(most: u64, sums: &[f64], counts: &[u64], n: u32) -> bool
+    requires { ⌜ 0 < n ⌝ }
+    ensures { λ r. ⌜ r ≡ bothStand most (now (sums .entry)) (now (counts .entry)) n ⌝ }
+{
+    let s = 2 * (n as usize - 1);
+    if !stands_at(most, sums, counts, s) {
+        return false;
+    }
+    stands_at(most, sums, counts, s + 1)
 }

@@ -2,8 +2,8 @@
 use Prim.Native.Nat.{_-_, _≤_}
 use native.Mathlib.Omega.{arith}
 use borrow.Author.Needs.{needs}
+use Rattle.lists.proofs.Tests.{Held, held-none, held-more, held-broken, held-all}
 use Rattle.crossing.specs.Inner.{crossedBut, lastIn}
-use Rattle.crossing.proofs.CrossingLaws.{Held, held-none, held-more, held-broken, held-all}
 use Rattle.crossing.proofs.last_crossing.Statement.{statement}
 use Rattle.crossing.proofs.last_crossing.Tie as tie
 

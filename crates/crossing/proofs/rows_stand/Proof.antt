@@ -4,8 +4,8 @@ use native.Mathlib.Omega.{arith}
 use borrow.Author.Needs.{needs}
 use lib.Dec.{leb}
 use lib.ListN.{getD}
+use Rattle.lists.proofs.Tests.{Held, held-none, held-more, held-broken, held-all}
 use Rattle.crossing.specs.Inner.{rowsIn}
-use Rattle.crossing.proofs.CrossingLaws.{Held, held-none, held-more, held-broken, held-all}
 use Rattle.crossing.proofs.rows_stand.Statement.{statement}
 use Rattle.crossing.proofs.rows_stand.Tie as tie
 

@@ -1,7 +1,7 @@
 -- `strains::magnitude` meets its contract.
 use mathlib.Core.Path.{sym, ap}
 use mathlib.Core.Bool.{Bool, cond}
-use lib.Ieee.{Float, ofBits, neg}
+use lib.Ieee.{ofBits, neg}
 use Rattle.strains.proofs.magnitude.Statement.{statement}
 use Rattle.strains.proofs.magnitude.Tie as tie
 

@@ -1,5 +1,6 @@
 -- `totals::fits_at` meets its contract.
 use Rattle.totals.proofs.TotalLaws.{kind-above, kind-fits}
+use native.Mathlib.Omega.{arith}
 use borrow.Author.Needs.{needs}
 use Rattle.totals.proofs.fits_at.Statement.{statement}
 use Rattle.totals.proofs.fits_at.Tie as tie
@@ -8,7 +9,7 @@ shared-slice-read-if1 : tie.Need-shared-slice-read-if1
 shared-slice-read-if1 c = search needs
 
 returns : tie.Need-returns
-returns c = search (needs, kind-above)
+returns c = kind-above _ _ _ (omega arith)
 
 reading-at-requires : tie.Need-reading-at-requires
 reading-at-requires c κs = search needs

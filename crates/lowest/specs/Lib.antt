@@ -1,0 +1,2 @@
+-- The definitions of the crate: the cells that count with a block.
+pub mod Lowest

@@ -1,0 +1,291 @@
+-- The laws of the passes, one for each way through their code.
+-- Assumes nothing.
+use mathlib.Core.Path.{_≡_, refl, sym, ap, _∙_}
+use mathlib.Core.Bool.{Bool, true, false, not}
+use mathlib.Core.Logic.{_≢_}
+use mathlib.Core.List.{List, [], _∷_, _++_, append-nil}
+use Prim.Native.Nat.{ℕ, _+_, _-_, _*_, _/_, _%_, _≤_, _<_}
+use native.Mathlib.Nat.{mul-le-mul, mul-comm, div-lt-iff-lt-mul, mod-lt}
+use native.Mathlib.Omega.{arith}
+use lib.Dec.{eqb}
+use lib.ListN.{getD, length}
+use lib.Ieee.{Float}
+use borrow.Author.Tests.{eq-eqb, ne-eqb, not-true, not-false}
+use Rattle.cells.specs.Box.{Triple, Y, Z, triple, stride, volume, place}
+use Rattle.cells.specs.Extents.{Sized}
+use Rattle.cells.specs.Grid.{sides, cells, order, voxel}
+use Rattle.cells.specs.Row.{row}
+use Rattle.cells.proofs.BoxLaws.{same-triple}
+use Rattle.cells.proofs.GridLaws.{voxel-inside}
+use Rattle.cells.proofs.ExtentLaws.{layer-high, area-high, cells-high}
+use Rattle.lines.specs.Lines.{odds, around, lineCount, lineY, lineZ, firstX, firstStride}
+use Rattle.lines.proofs.LineLaws.{up-around, Reads, reads, Tests, line-odd, line-inside, line-place, line-strides, strided-one}
+use Rattle.findings.specs.Findings.{finalIn}
+use Rattle.surveys.specs.Surveys.{onLine}
+use Rattle.surveys.proofs.SurveyLaws.{among, tests, fromLine}
+use Rattle.strains.specs.declared.Reading.{Reading}
+use Rattle.totals.specs.Totals.{Taken, taken, slotOf, after, sumAdded, sumsWith, countAdded, countsWith, readingAt}
+use Rattle.lowest.specs.Lowest.{startsBy}
+use Rattle.strain_calls.specs.Adding.{gathered, voxelTaken, faceTaken}
+use Rattle.summing.specs.Summing.{Brought, brought, faceAt, ownFace, cellTaken, blockTaken, Whole, Lies, Beside, OwnFace}
+use Rattle.summing.specs.declared.Line.{Line}
+use Rattle.summing.proofs.TakenLaws.{after-append, after-start, after-next, after-end, after-lines, after-line, after-last}
+use Rattle.summing.proofs.VoxelLaws.{voxels-beside}
+
+-- ---- one voxel
+
+module _ (n low high u : ℕ) (x : Reading) where
+  pub on-none : u ≡ 0 → voxelTaken n low high u x ≡ []
+  unfolding voxelTaken
+  on-none e = rw (eq-eqb u 0 e)
+
+  pub on-low : u ≢ 0 → u ≡ low → voxelTaken n low high u x ≡ taken (2 * (n - 1)) x ∷ []
+  unfolding voxelTaken slotOf
+  on-low z e = let s : 2 * (n - 1) + 0 ≡ 2 * (n - 1) = omega arith in rw (ne-eqb u 0 z, eq-eqb u low e, s)
+
+  pub on-high : u ≢ 0 → u ≢ low → u ≡ high → voxelTaken n low high u x ≡ taken (2 * (n - 1) + 1) x ∷ []
+  unfolding voxelTaken slotOf
+  on-high z l e = rw (ne-eqb u 0 z, ne-eqb u low l, eq-eqb u high e)
+
+  pub on-neither : u ≢ 0 → u ≢ low → u ≢ high → voxelTaken n low high u x ≡ []
+  unfolding voxelTaken
+  on-neither z l e = rw (ne-eqb u 0 z, ne-eqb u low l, ne-eqb u high e)
+
+  module _ (sums : List Float) where
+    pub none-sums : u ≡ 0 → sums ≡ sumsWith sums (voxelTaken n low high u x)
+    unfolding sumsWith after
+    none-sums e = rw (on-none e) refl
+
+    pub neither-sums : u ≢ 0 → u ≢ low → u ≢ high → sums ≡ sumsWith sums (voxelTaken n low high u x)
+    unfolding sumsWith after
+    neither-sums z l e = rw (on-neither z l e) refl
+
+    pub low-sums : (y : Reading) (now : List Float) → u ≢ 0 → u ≡ low → y ≡ x → now ≡ sumAdded sums (2 * (n - 1)) y → now ≡ sumsWith sums (voxelTaken n low high u x)
+    unfolding sumsWith after
+    low-sums y now z e f g = rw (on-low z e, ← f) g
+
+    pub high-sums : (y : Reading) (now : List Float) → u ≢ 0 → u ≢ low → u ≡ high → y ≡ x → now ≡ sumAdded sums (2 * (n - 1) + 1) y → now ≡ sumsWith sums (voxelTaken n low high u x)
+    unfolding sumsWith after
+    high-sums y now z l e f g = rw (on-high z l e, ← f) g
+
+  module _ (counts : List ℕ) where
+    pub none-counts : u ≡ 0 → counts ≡ countsWith counts (voxelTaken n low high u x)
+    unfolding countsWith after
+    none-counts e = rw (on-none e) refl
+
+    pub neither-counts : u ≢ 0 → u ≢ low → u ≢ high → counts ≡ countsWith counts (voxelTaken n low high u x)
+    unfolding countsWith after
+    neither-counts z l e = rw (on-neither z l e) refl
+
+    pub low-counts : (y : Reading) (now : List ℕ) → u ≢ 0 → u ≡ low → y ≡ x → now ≡ countAdded counts (2 * (n - 1)) y → now ≡ countsWith counts (voxelTaken n low high u x)
+    unfolding countsWith after
+    low-counts y now z e f g = rw (on-low z e, ← f) g
+
+    pub high-counts : (y : Reading) (now : List ℕ) → u ≢ 0 → u ≢ low → u ≡ high → y ≡ x → now ≡ countAdded counts (2 * (n - 1) + 1) y → now ≡ countsWith counts (voxelTaken n low high u x)
+    unfolding countsWith after
+    high-counts y now z l e f g = rw (on-high z l e, ← f) g
+
+-- ---- one face cell
+
+-- where its numbers and readings are read
+pub record Spots (m : List ℕ) (values : List Float) (kinds : List ℕ) (p a v d : ℕ) : Type 0 where
+  pub down : a ≤ p
+  pub here : p < length m
+  pub up : p + a < length m
+  pub below-value : v < length values
+  pub below-kind : v < length kinds
+  pub above-value : v + d < length values
+  pub above-kind : v + d < length kinds
+
+module _ (e : Triple) (m : List ℕ) (values : List Float) (kinds : List ℕ) (n p a v d : ℕ) (B : Beside e m values kinds p a v d) where
+  pub spots : Spots m values kinds p a v d
+  spots =
+      let r : Reads m p a = reads e m p (B .whole) (B .within) [] a [] (B .axis) in
+      let i : voxel e (p - a) < volume e = voxel-inside e (p - a) (omega (arith, B .within)) in
+      let j : voxel e (p + a) < volume e = voxel-inside e (p + a) (omega (arith, r .high, B .whole)) in
+      record {
+        down = r .low;
+        here = r .here;
+        up = r .high;
+        below-value = omega (arith, B .below, B .valued);
+        below-kind = omega (arith, B .below, B .kinded);
+        above-value = omega (arith, B .above, B .valued);
+        above-kind = omega (arith, B .above, B .kinded);
+      }
+
+  -- what is taken below and above
+  abbrev part : List ℕ → ℕ → ℕ → List Taken
+  part r q w = voxelTaken n (getD r 0 0) (getD r 1 0) (getD m q 0) (readingAt values kinds w)
+
+  taken-face : (r : List ℕ) → r ≡ row e m p → faceTaken e m values kinds n p ≡ part r (p - a) v ++ part r (p + a) (v + d)
+  unfolding faceTaken gathered around
+  taken-face r f =
+      rw (up-around e p, B .axis, ← f, ← B .below, ← B .above)
+      (ap (λ (l : List Taken). part r (p - a) v ++ l) (append-nil (part r (p + a) (v + d))))
+
+  pub face-sums : (r : List ℕ) (sums one two : List Float) → r ≡ row e m p → one ≡ sumsWith sums (part r (p - a) v) → two ≡ sumsWith one (part r (p + a) (v + d)) → two ≡ sumsWith sums (faceTaken e m values kinds n p)
+  unfolding sumsWith
+  face-sums r sums one two f g h = h ∙ rw (g, taken-face r f) (sym (after-append _ sums (part r (p - a) v) (part r (p + a) (v + d))))
+
+  pub face-counts : (r counts one two : List ℕ) → r ≡ row e m p → one ≡ countsWith counts (part r (p - a) v) → two ≡ countsWith one (part r (p + a) (v + d)) → two ≡ countsWith counts (faceTaken e m values kinds n p)
+  unfolding countsWith
+  face-counts r counts one two f g h = h ∙ rw (g, taken-face r f) (sym (after-append _ counts (part r (p - a) v) (part r (p + a) (v + d))))
+
+-- ---- the face that a cell shows
+
+module _ (s : Triple) (m numbers : List ℕ) (from p : ℕ) (c : Triple) (t : Bool) (e : t ≡ startsBy s c) where
+  pub face-away : not t ≡ true → OwnFace s m numbers from p c 0
+  face-away n = record { is = rw (sym e ∙ not-true t n) }
+
+  pub face-own : (r : ℕ) → not t ≡ false → r ≡ finalIn numbers from (getD m p 0) → OwnFace s m numbers from p c r
+  face-own r n f = record { is = rw (sym e ∙ not-false t n) f }
+
+module _ (e s : Triple) (m numbers : List ℕ) (from : ℕ) (values : List Float) (kinds : List ℕ) (p : ℕ) (c : Triple) (r : ℕ) (o : OwnFace s m numbers from p c r) (q : place (sides e) p ≡ c) where
+  own-is : ownFace e s (brought m numbers from values kinds) p ≡ r
+  unfolding ownFace faceAt
+  own-is = rw q (sym (o .is))
+
+  pub cell-none : r ≡ 0 → cellTaken e s (brought m numbers from values kinds) p ≡ []
+  unfolding cellTaken
+  cell-none z = rw (own-is, eq-eqb r 0 z)
+
+  pub cell-face : r ≢ 0 → cellTaken e s (brought m numbers from values kinds) p ≡ faceTaken e m values kinds r p
+  unfolding cellTaken
+  cell-face z = rw (own-is, ne-eqb r 0 z)
+
+  pub away-sums : (sums : List Float) → r ≡ 0 → sums ≡ sumsWith sums (cellTaken e s (brought m numbers from values kinds) p)
+  unfolding sumsWith after
+  away-sums sums z = rw (cell-none z) refl
+
+  pub away-counts : (counts : List ℕ) → r ≡ 0 → counts ≡ countsWith counts (cellTaken e s (brought m numbers from values kinds) p)
+  unfolding countsWith after
+  away-counts counts z = rw (cell-none z) refl
+
+  pub own-sums : (sums now : List Float) → r ≢ 0 → now ≡ sumsWith sums (faceTaken e m values kinds r p) → now ≡ sumsWith sums (cellTaken e s (brought m numbers from values kinds) p)
+  own-sums sums now z f = rw (cell-face z) f
+
+  pub own-counts : (counts now : List ℕ) → r ≢ 0 → now ≡ countsWith counts (faceTaken e m values kinds r p) → now ≡ countsWith counts (cellTaken e s (brought m numbers from values kinds) p)
+  own-counts counts now z f = rw (cell-face z) f
+
+-- ---- one line
+
+-- The face cells of line l from x on.
+abbrev pub leftOn : Triple → ℕ → ℕ → List ℕ
+leftOn e l x = among e 2 (l * sides e .x + x) (sides e .x - x)
+
+-- sizes of the numbers that a line is told by
+pub record Bounds (e : Triple) (l : ℕ) : Type 0 where
+  pub layer : (2 * e .x - 1) * (2 * e .y - 1) ≤ 16129
+  pub area : e .x * e .y ≤ 4096
+  pub line : l * (2 * e .x - 1) < 2048383
+  pub y : l % (2 * e .y - 1) / 2 * e .x ≤ 4096
+  pub z : l / (2 * e .y - 1) / 2 * (e .x * e .y) ≤ 262144
+  pub deep : l / (2 * e .y - 1) < 127
+
+pub bounds : (e : Triple) (l : ℕ) → Sized 64 e → l < lineCount e → Bounds e l
+unfolding lineCount sides
+bounds e l S h =
+    let d : l / (2 * e .y - 1) < 2 * e .z - 1 = div-lt-iff-lt-mul {k = 2 * e .y - 1} (omega (arith, S .y-low)) .1 (omega (arith, mul-comm (2 * e .y - 1) (2 * e .z - 1))) in
+    let m : l % (2 * e .y - 1) < 2 * e .y - 1 = mod-lt l (omega (arith, S .y-low)) in
+    record {
+      layer = layer-high S;
+      area = area-high S;
+      line = omega (arith, line-inside e l 0 (omega (arith, S .x-low)) h, cells-high S);
+      y = mul-le-mul {n₂ = 64} {m₂ = 64} (omega (arith, S .y-high)) (S .x-high);
+      z = mul-le-mul {n₂ = 64} {m₂ = 4096} (omega (arith, S .z-high)) (area-high S);
+      deep = omega (arith, S .z-high);
+    }
+
+module _ (e : Triple) (l : ℕ) (r : Line) (L : Lies e l r) (x : ℕ) (hx : x < sides e .x) (hl : l < lineCount e) (a : r .start ≤ x) (b : x % 2 ≡ r .start % 2) where
+  pub passes : (r .start ≡ x % 2) × (1 ≡ x % 2 + (lineY e l + lineZ e l))
+  passes = line-odd 1 (lineY e l + lineZ e l) (sides e .x) {s = r .start} {x = x} (L .start) a b hx
+
+  stride-is : r .stride ≡ firstStride (x % 2) (lineY e l) (stride (sides e) Y) (stride (sides e) Z)
+  unfolding stride
+  stride-is = L .stride ∙ ap (λ (s : ℕ). firstStride s (lineY e l) (sides e .x) (sides e .x * sides e .y)) (passes .0)
+
+  apart-is : r .apart ≡ firstStride (x % 2) (lineY e l) (stride e Y) (stride e Z)
+  unfolding stride
+  apart-is = L .apart ∙ ap (λ (s : ℕ). firstStride s (lineY e l) (e .x) (e .x * e .y)) (passes .0)
+
+  pub line-within : r .base + x < cells e
+  line-within = rw (L .base) (line-inside e l x hx hl)
+
+  pub line-axis : odds e (r .base + x) ≡ r .stride ∷ []
+  line-axis = rw (L .base, stride-is) (strided-one (line-strides e l x 1 hx (omega arith) (passes .1)) refl)
+
+  pub line-beside : (m : List ℕ) (values : List Float) (kinds : List ℕ) → Whole e m values kinds → Beside e m values kinds (r .base + x) (r .stride) (x / 2 + r .first) (r .apart)
+  line-beside m values kinds W =
+      let v = voxels-beside e l x hx hl (passes .1) in
+      let g : x / 2 + r .first ≡ x / 2 + l % sides e .y / 2 * e .x + l / sides e .y / 2 * (e .x * e .y) = omega (arith, L .first) in
+      record {
+        whole = W .whole;
+        valued = W .valued;
+        kinded = W .kinded;
+        within = line-within;
+        axis = line-axis;
+        below = rw (L .base, stride-is) (g ∙ sym (v .0));
+        above = rw (L .base, stride-is, apart-is) (ap (λ (n : ℕ). n + firstStride (x % 2) (lineY e l) (stride e Y) (stride e Z)) g ∙ sym (v .1));
+      }
+
+  pub line-spot : place (sides e) (r .base + x) ≡ triple x (r .y) (r .z)
+  line-spot = rw (L .base, L .y, L .z) (same-triple _ _ (line-place e l x hx))
+
+-- The tables so far, at x of line l, with what is left of the line, and with all of it before.
+pub record Going (e s : Triple) (g : Brought) (l : ℕ) (sums₀ : List Float) (counts₀ : List ℕ) (x : ℕ) (sums : List Float) (counts : List ℕ) : Type 0 where
+  pub summed-up : sumsWith sums (gathered (cellTaken e s g) (leftOn e l x)) ≡ sumsWith sums₀ (gathered (cellTaken e s g) (onLine e 2 l))
+  pub counted-up : countsWith counts (gathered (cellTaken e s g) (leftOn e l x)) ≡ countsWith counts₀ (gathered (cellTaken e s g) (onLine e 2 l))
+
+module _ (e s : Triple) (g : Brought) (l : ℕ) where
+  abbrev told : Tests (λ c. eqb (order e c) 2) (l * sides e .x) (sides e .x) 1 (lineY e l + lineZ e l)
+  told = tests e 2 l (lineY e l + lineZ e l) (omega arith) refl
+
+  pub going-start : (sums : List Float) (counts : List ℕ) (x : ℕ) → x ≡ firstX 1 (lineY e l + lineZ e l) (sides e .x) → Going e s g l sums counts x sums counts
+  unfolding sumsWith countsWith onLine
+  going-start sums counts x h = record { summed-up = after-start _ (cellTaken e s g) told sums x h; counted-up = after-start _ (cellTaken e s g) told counts x h }
+
+  module _ (sums₀ : List Float) (counts₀ : List ℕ) (x : ℕ) (sums : List Float) (counts : List ℕ) (G : Going e s g l sums₀ counts₀ x sums counts) where
+    pub going-next : (sums′ : List Float) (counts′ : List ℕ) → x < sides e .x → 1 ≡ x % 2 + (lineY e l + lineZ e l)
+        → sums′ ≡ sumsWith sums (cellTaken e s g (l * sides e .x + x)) → counts′ ≡ countsWith counts (cellTaken e s g (l * sides e .x + x)) → Going e s g l sums₀ counts₀ (x + 2) sums′ counts′
+    unfolding sumsWith countsWith
+    going-next sums′ counts′ h o i k =
+        record {
+          summed-up = after-next _ (cellTaken e s g) told sums sums′ x h o i ∙ G .summed-up;
+          counted-up = after-next _ (cellTaken e s g) told counts counts′ x h o k ∙ G .counted-up;
+        }
+
+    pub going-more : (r : Line) (L : Lies e l r) (sums′ : List Float) (counts′ : List ℕ) → x < sides e .x → l < lineCount e → r .start ≤ x → x % 2 ≡ r .start % 2
+        → sums′ ≡ sumsWith sums (cellTaken e s g (r .base + x)) → counts′ ≡ countsWith counts (cellTaken e s g (r .base + x)) → Going e s g l sums₀ counts₀ (x + 2) sums′ counts′
+    going-more r L sums′ counts′ hx hl a b i k =
+        going-next sums′ counts′ hx (passes e l r L x hx hl a b .1)
+        (i ∙ ap (λ (n : ℕ). sumsWith sums (cellTaken e s g (n + x))) (L .base)) (k ∙ ap (λ (n : ℕ). countsWith counts (cellTaken e s g (n + x))) (L .base))
+
+    pub going-end : sides e .x ≤ x
+        → (sums ≡ sumsWith sums₀ (gathered (cellTaken e s g) (onLine e 2 l))) × (counts ≡ countsWith counts₀ (gathered (cellTaken e s g) (onLine e 2 l)))
+    unfolding sumsWith countsWith
+    going-end h = (after-end _ (cellTaken e s g) told sums x h ∙ G .summed-up, after-end _ (cellTaken e s g) told counts x h ∙ G .counted-up)
+
+-- ---- all lines
+
+pub record Gone (e s : Triple) (g : Brought) (sums₀ : List Float) (counts₀ : List ℕ) (l : ℕ) (sums : List Float) (counts : List ℕ) : Type 0 where
+  pub summed-up : sumsWith sums (gathered (cellTaken e s g) (fromLine e 2 l)) ≡ sumsWith sums₀ (blockTaken e s g)
+  pub counted-up : countsWith counts (gathered (cellTaken e s g) (fromLine e 2 l)) ≡ countsWith counts₀ (blockTaken e s g)
+
+module _ (e s : Triple) (g : Brought) where
+  pub gone-none : (sums : List Float) (counts : List ℕ) → Gone e s g sums counts 0 sums counts
+  unfolding sumsWith countsWith blockTaken
+  gone-none sums counts = record { summed-up = after-lines _ (cellTaken e s g) e 2 sums; counted-up = after-lines _ (cellTaken e s g) e 2 counts }
+
+  module _ (sums₀ : List Float) (counts₀ : List ℕ) (l : ℕ) (sums : List Float) (counts : List ℕ) (G : Gone e s g sums₀ counts₀ l sums counts) where
+    pub gone-next : (sums′ : List Float) (counts′ : List ℕ) → l < lineCount e
+        → sums′ ≡ sumsWith sums (gathered (cellTaken e s g) (onLine e 2 l)) → counts′ ≡ countsWith counts (gathered (cellTaken e s g) (onLine e 2 l)) → Gone e s g sums₀ counts₀ (l + 1) sums′ counts′
+    unfolding sumsWith countsWith
+    gone-next sums′ counts′ h i k =
+        record {
+          summed-up = after-line _ (cellTaken e s g) e 2 sums sums′ l h i ∙ G .summed-up;
+          counted-up = after-line _ (cellTaken e s g) e 2 counts counts′ l h k ∙ G .counted-up;
+        }
+
+    pub gone-all : lineCount e ≤ l → (sums ≡ sumsWith sums₀ (blockTaken e s g)) × (counts ≡ countsWith counts₀ (blockTaken e s g))
+    unfolding sumsWith countsWith
+    gone-all h = (after-last _ (cellTaken e s g) e 2 sums l h ∙ G .summed-up, after-last _ (cellTaken e s g) e 2 counts l h ∙ G .counted-up)

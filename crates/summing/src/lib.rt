@@ -1,0 +1,262 @@
+// The pass that adds a block's readings to the totals, face cell by face cell, line by line.
+use findings::final_number;
+use lines::face_row;
+use lines::first_stride;
+use lines::first_x;
+use lowest::Start;
+use lowest::starts_by;
+use totals::reading_at;
+use totals::take_reading;
+ghost use mathlib.Core.Path.{_≡_};
+ghost use Prim.Native.Nat.{_+_, _-_, _*_, _<_};
+ghost use lib.ListN.{length};
+ghost use Rattle.cells.specs.Box.{triple, place};
+ghost use Rattle.cells.specs.Extents.{Sized};
+ghost use Rattle.cells.specs.Grid.{sides};
+ghost use Rattle.lines.specs.Lines.{lineCount};
+ghost use Rattle.surveys.specs.Surveys.{onLine};
+ghost use Rattle.lowest.specs.Lowest.{startOf};
+ghost use Rattle.totals.specs.Totals.{readingAt, sumsWith, countsWith};
+ghost use Rattle.strain_calls.specs.Adding.{gathered, voxelTaken, faceTaken};
+ghost use Rattle.summing.specs.Summing.{brought, Beside, Whole, Lies, OwnFace, cellTaken, blockTaken};
+
+// Takes in the reading of voxel v, of code u, at a cell of face n with the row `low` `high`.
+fn take_voxel(
+    sums: &mut [f64],
+    counts: &mut [u64],
+    values: &[f64],
+    kinds: &[u8],
+    n: u32,
+    low: u32,
+    high: u32,
+    u: u32,
+    v: usize,
+)
+    requires { ⌜ (0 < n) × (v < length (now values)) × (v < length (now kinds)) ⌝ }
+    ensures sum { λ r. ⌜ now (sums .exit) ≡ sumsWith (now (sums .entry)) (voxelTaken n low high u (readingAt (now (values .entry)) (now (kinds .entry)) v)) ⌝ }
+    ensures count { λ r. ⌜ now (counts .exit) ≡ countsWith (now (counts .entry)) (voxelTaken n low high u (readingAt (now (values .entry)) (now (kinds .entry)) v)) ⌝ }
+{
+    if u == 0 {
+        return;
+    }
+    if u == low {
+        take_reading(
+            sums,
+            counts,
+            2 * (n as usize - 1),
+            reading_at(values, kinds, v),
+        );
+        return;
+    }
+    if u == high {
+        take_reading(
+            sums,
+            counts,
+            2 * (n as usize - 1) + 1,
+            reading_at(values, kinds, v),
+        );
+    }
+}
+
+// Takes in the readings of both voxels at cell p of face n. They stand at places v and v + d of the lists.
+fn take_face(
+    sums: &mut [f64],
+    counts: &mut [u64],
+    values: &[f64],
+    kinds: &[u8],
+    map: &[u32],
+    nx: usize,
+    ny: usize,
+    nz: usize,
+    p: usize,
+    a: usize,
+    n: u32,
+    v: usize,
+    d: usize,
+)
+    requires { ⌜ (0 < n) × Beside (triple nx ny nz) (now map) (now values) (now kinds) p a v d ⌝ }
+    ensures sum { λ r. ⌜ now (sums .exit) ≡ sumsWith (now (sums .entry)) (faceTaken (triple nx ny nz) (now (map .entry)) (now (values .entry)) (now (kinds .entry)) n p) ⌝ }
+    ensures count { λ r. ⌜ now (counts .exit) ≡ countsWith (now (counts .entry)) (faceTaken (triple nx ny nz) (now (map .entry)) (now (values .entry)) (now (kinds .entry)) n p) ⌝ }
+{
+    let row = face_row(map, nx, ny, nz, p, a);
+    let low = row[0];
+    let high = row[1];
+    take_voxel(sums, counts, values, kinds, n, low, high, map[p - a], v);
+    take_voxel(sums, counts, values, kinds, n, low, high, map[p + a], v + d);
+}
+
+// The final number of the face that cell p shows, at place (x,y,z) of the block; 0 if it shows none, or does not count here.
+fn own_face(
+    map: &[u32],
+    numbers: &[u32],
+    s: Start,
+    from: u32,
+    p: usize,
+    x: usize,
+    y: usize,
+    z: usize,
+) -> u32
+    requires { ⌜ p < length (now map) ⌝ }
+    ensures { λ r. ⌜ OwnFace (startOf s) (now (map .entry)) (now (numbers .entry)) from p (triple x y z) r ⌝ }
+{
+    if !starts_by(s, x, y, z) {
+        return 0;
+    }
+    final_number(numbers, from, map[p])
+}
+
+// Takes in what is taken at face cell p.
+fn take_cell(
+    sums: &mut [f64],
+    counts: &mut [u64],
+    values: &[f64],
+    kinds: &[u8],
+    map: &[u32],
+    numbers: &[u32],
+    nx: usize,
+    ny: usize,
+    nz: usize,
+    s: Start,
+    from: u32,
+    p: usize,
+    a: usize,
+    v: usize,
+    d: usize,
+    x: usize,
+    y: usize,
+    z: usize,
+)
+    requires { ⌜ Beside (triple nx ny nz) (now map) (now values) (now kinds) p a v d × (place (sides (triple nx ny nz)) p ≡ triple x y z) ⌝ }
+    ensures sum { λ r. ⌜ now (sums .exit) ≡ sumsWith (now (sums .entry))
+        (cellTaken (triple nx ny nz) (startOf s) (brought (now (map .entry)) (now (numbers .entry)) from (now (values .entry)) (now (kinds .entry))) p) ⌝ }
+    ensures count { λ r. ⌜ now (counts .exit) ≡ countsWith (now (counts .entry))
+        (cellTaken (triple nx ny nz) (startOf s) (brought (now (map .entry)) (now (numbers .entry)) from (now (values .entry)) (now (kinds .entry))) p) ⌝ }
+{
+    let n = own_face(map, numbers, s, from, p, x, y, z);
+    if n == 0 {
+        return;
+    }
+    take_face(sums, counts, values, kinds, map, nx, ny, nz, p, a, n, v, d);
+}
+
+// A line of the cells: what its face cells are told by.
+pub struct Line {
+    pub y: usize,
+    pub z: usize,
+    pub start: usize,
+    pub stride: usize,
+    pub apart: usize,
+    pub base: usize,
+    pub first: usize,
+}
+
+// Line l.
+fn line_at(nx: usize, ny: usize, nz: usize, l: usize) -> Line
+    requires { ⌜ Sized 64 (triple nx ny nz) × (l < lineCount (triple nx ny nz)) ⌝ }
+    ensures { λ r. ⌜ Lies (triple nx ny nz) l r ⌝ }
+{
+    let w = 2 * nx - 1;
+    let h = 2 * ny - 1;
+    let y = l % h;
+    let z = l / h;
+    let start = first_x(1, y % 2 + z % 2, w);
+    Line {
+        y: y,
+        z: z,
+        start: start,
+        stride: first_stride(start, y % 2, w, w * h),
+        apart: first_stride(start, y % 2, nx, nx * ny),
+        base: l * w,
+        first: y / 2 * nx + z / 2 * (nx * ny),
+    }
+}
+
+// Takes in the face cells of line l.
+fn take_line(
+    sums: &mut [f64],
+    counts: &mut [u64],
+    values: &[f64],
+    kinds: &[u8],
+    map: &[u32],
+    numbers: &[u32],
+    nx: usize,
+    ny: usize,
+    nz: usize,
+    s: Start,
+    from: u32,
+    l: usize,
+)
+    requires { ⌜ Whole (triple nx ny nz) (now map) (now values) (now kinds) × (l < lineCount (triple nx ny nz)) ⌝ }
+    ensures sum { λ r. ⌜ now (sums .exit) ≡ sumsWith (now (sums .entry))
+        (gathered (cellTaken (triple nx ny nz) (startOf s) (brought (now (map .entry)) (now (numbers .entry)) from (now (values .entry)) (now (kinds .entry)))) (onLine (triple nx ny nz) 2 l)) ⌝ }
+    ensures count { λ r. ⌜ now (counts .exit) ≡ countsWith (now (counts .entry))
+        (gathered (cellTaken (triple nx ny nz) (startOf s) (brought (now (map .entry)) (now (numbers .entry)) from (now (values .entry)) (now (kinds .entry)))) (onLine (triple nx ny nz) 2 l)) ⌝ }
+{
+    let w = 2 * nx - 1;
+    let line = line_at(nx, ny, nz, l);
+    let mut x = line.start;
+    while x < w {
+        take_cell(
+            sums,
+            counts,
+            values,
+            kinds,
+            map,
+            numbers,
+            nx,
+            ny,
+            nz,
+            s,
+            from,
+            line.base + x,
+            line.stride,
+            x / 2 + line.first,
+            line.apart,
+            x,
+            line.y,
+            line.z,
+        );
+        x += 2;
+    }
+}
+
+// The summing pass: adds the readings of the block's own face cells to the totals, in cell order. Not an entry.
+pub fn sum_block(
+    sums: &mut [f64],
+    counts: &mut [u64],
+    values: &[f64],
+    kinds: &[u8],
+    map: &[u32],
+    numbers: &[u32],
+    nx: usize,
+    ny: usize,
+    nz: usize,
+    s: Start,
+    from: u32,
+)
+    requires { ⌜ Whole (triple nx ny nz) (now map) (now values) (now kinds) ⌝ }
+    ensures sum { λ r. ⌜ now (sums .exit) ≡ sumsWith (now (sums .entry))
+        (blockTaken (triple nx ny nz) (startOf s) (brought (now (map .entry)) (now (numbers .entry)) from (now (values .entry)) (now (kinds .entry)))) ⌝ }
+    ensures count { λ r. ⌜ now (counts .exit) ≡ countsWith (now (counts .entry))
+        (blockTaken (triple nx ny nz) (startOf s) (brought (now (map .entry)) (now (numbers .entry)) from (now (values .entry)) (now (kinds .entry)))) ⌝ }
+{
+    let lines = (2 * ny - 1) * (2 * nz - 1);
+    let mut l: usize = 0;
+    while l < lines {
+        take_line(
+            sums,
+            counts,
+            values,
+            kinds,
+            map,
+            numbers,
+            nx,
+            ny,
+            nz,
+            s,
+            from,
+            l,
+        );
+        l += 1;
+    }
+}

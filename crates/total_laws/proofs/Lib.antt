@@ -1,0 +1,9 @@
+-- The laws of the totals, from one place of the tables to a closed job (ClosedLaws, where the promises of item 1 stand).
+pub mod SlotLaws
+pub mod Reordering
+pub mod OwnCells
+pub mod OrderLaws
+pub mod SideLaws
+pub mod GoodLaws
+pub mod StandingLaws
+pub mod ClosedLaws
