@@ -73,4 +73,4 @@ pub record ExportedTotal (ns : List ℕ) (other : Stage) (cx cy cz : List ℕ) (
   pub step : (t : Tables) → StrainStep (stateOf (jobIn ns other) cx cy cz t) w (total n) (strainAnswer r found) w
   pub sums-stored : sums′ ≡ cond (eqb r 0) (found .lower .sum ∷ found .higher .sum ∷ []) sums
   pub counts-stored : counts′ ≡ cond (eqb r 0)
-    (found .lower .strains ∷ found .lower .clipped ∷ found .lower .missing ∷ found .higher .strains ∷ found .higher .clipped ∷ found .higher .missing ∷ []) counts
+      (found .lower .strains ∷ found .lower .clipped ∷ found .lower .missing ∷ found .higher .strains ∷ found .higher .clipped ∷ found .higher .missing ∷ []) counts
