@@ -18,6 +18,7 @@ use Rattle.job.specs.declared.Stage.{Stage}
 use Rattle.job.specs.Jobs.{stateOf}
 use Rattle.job_numbers.specs.Numbers.{jobIn, numbersOf, keptNumbers}
 use Rattle.job_numbers.proofs.NumberLaws.{job-back, kept-new, kept-old}
+use Rattle.strain_calls.specs.Tables.{TotalTables}
 use Rattle.exports.specs.Exports.{ExportedOpening, ExportedStep, ExportedLookup, ExportedRow}
 use Rattle.exports.specs.Calls.{Kept, keeps, stateKept, lookAnswer, rowAnswer, ExportedCall, stepped, looked, read, ExportedCalls, none, next}
 use Rattle.exports.proofs.Rows.{row-wide, six-front}
@@ -31,7 +32,7 @@ pub record OfJob (ns : List ℕ) : Type 0 where
 told-job : {ns : List ℕ} (N : OfJob ns) (other : Stage) → jobIn ns other ≡ N .job
 told-job N other = ap (λ l. jobIn l other) (N .numbers) ∙ job-back (N .job) other
 
-told-same : {ns : List ℕ} → OfJob ns → (other : Stage) → jobIn ns other ≡ jobIn ns Stage.Enrol
+pub told-same : {ns : List ℕ} → OfJob ns → (other : Stage) → jobIn ns other ≡ jobIn ns Stage.Enrol
 told-same N other = told-job N other ∙ sym (told-job N Stage.Enrol)
 
 -- the job of an accepted call is stored
@@ -40,7 +41,7 @@ stored ns j = sym (kept-new 0 ns j refl (numbersOf j) refl)
 
 -- ---- a call
 
-not-zero : (n : ℕ) → suc n ≡ 0 → ⊥
+pub not-zero : (n : ℕ) → suc n ≡ 0 → ⊥
 not-zero n e = omega (arith, e)
 
 -- the answer of a refused call
@@ -108,15 +109,15 @@ exported-run none N = Run.none
 exported-run (next C L) N = let S = exported-step C N in Run.next (S .0) (exported-run L (S .1))
 
 -- Statement 3 for the exports.
-pub exports3 : (o : Told) (lent left : Tables) (ns ns′ : List ℕ) (own : ℕ → List ℕ) (es : List Entry)
-    → ExportedOpening ns ns′ o lent left 0
+pub exports3 : (o : Told) (lent left : Tables) (w w′ : TotalTables) (ns ns′ : List ℕ) (own : ℕ → List ℕ) (es : List Entry)
+    → ExportedOpening ns ns′ o lent left w w′ 0
     → ((b : ℕ) → b < blocks (o .cutting) → Labelling (blockExtents (o .cutting) b) (own b))
     → ExportedCalls (keeps ns′ (o .cutting .cx) (o .cutting .cy) (o .cutting .cz) left) es
     → Fair own es
     → Measured own (begun o) es
-exports3 o lent left ns ns′ own es X labelled calls fair =
+exports3 o lent left w w′ ns ns′ own es X labelled calls fair =
     let N : OfJob ns′ = record { job = X .job; numbers = X .stored ∙ stored _ (X .job) } in
-    let O : Opened o lent (stateOf (X .job) (o .cutting .cx) (o .cutting .cy) (o .cutting .cz) left) = X .opening .opened (sym (X .opening .told)) in
+    let O : Opened o lent (stateOf (X .job) (o .cutting .cx) (o .cutting .cy) (o .cutting .cz) left) = X .opening .opened (sym (X .opening .told)) .opened in
     statement3 o lent (stateKept (keeps ns′ (o .cutting .cx) (o .cutting .cy) (o .cutting .cz) left)) own es
     (subst (λ j. Opened o lent (stateOf j (o .cutting .cx) (o .cutting .cy) (o .cutting .cz) left)) (sym (told-job N Stage.Enrol)) O)
     labelled (exported-run calls N) fair

@@ -1,3 +1,4 @@
--- Statement 3 for the exports.
+-- Statement 3 for the exports, and lists with the calls of item 1.
 pub mod Rows
 pub mod Exported
+pub mod StrainExported

@@ -6,22 +6,27 @@ use mathlib.Core.Path.{_≡_}
 use Prim.Native.Nat.{ℕ}
 use lib.Dec.{eqb}
 use lib.ListN.{getD}
+use lib.Ieee.{Float}
 use Rattle.joiner.specs.Job.{Kind, Face, Curve, Point, Told, Tables}
 use Rattle.joiner.specs.Calls.{Call, reading, answer}
-use Rattle.joiner.specs.Entries.{Opening, CallStep}
+use Rattle.joiner.specs.Entries.{CallStep}
 use Rattle.job.specs.declared.Job.{Job}
 use Rattle.job.specs.declared.Stage.{Stage}
 use Rattle.job.specs.Jobs.{stateOf, tablesOf, anyCuts}
 use Rattle.job_numbers.specs.Numbers.{jobIn, keptNumbers}
+use Rattle.totals.specs.declared.Totals.{Totals}
+use Rattle.strain_calls.specs.Tables.{TotalTables}
+use Rattle.strain_calls.specs.Calls.{StrainCall, total, strainAnswer, noTotals}
+use Rattle.strain_calls.specs.Entries.{TotalsOpening, StrainStep, anyTablesWith}
 
 -- What holds whatever the tables are. An export's contract takes out of them those that the call is not lent.
 abbrev pub anyTables : (Tables → Type 0) → Type 0
 anyTables P = (t : Tables) → P t
 
--- Of an opening: the joiner's `Opening`; its job is stored if it is accepted, and the numbers stay if it is refused.
-pub record ExportedOpening (ns ns′ : List ℕ) (o : Told) (t t′ : Tables) (r : ℕ) : Type 0 where
+-- Of an opening: `TotalsOpening`, with the tables of the readings; its job is stored if it is accepted, and the numbers stay if it is refused.
+pub record ExportedOpening (ns ns′ : List ℕ) (o : Told) (t t′ : Tables) (w w′ : TotalTables) (r : ℕ) : Type 0 where
   pub job : Job
-  pub opening : Opening o t r (stateOf job (o .cutting .cx) (o .cutting .cy) (o .cutting .cz) t′)
+  pub opening : TotalsOpening o t w r (stateOf job (o .cutting .cx) (o .cutting .cy) (o .cutting .cz) t′) w′
   pub stored : ns′ ≡ keptNumbers r ns job
 
 -- Of a step: the joiner's `CallStep`, on all nineteen tables, from the job that the numbers tell. A number that is no stage is read as `other`,
@@ -53,3 +58,19 @@ RowExported j κ n faces curves points r row row′ =
     anyCuts (λ cx cy cz. anyTables (λ t. ExportedRow j cx cy cz
     (tablesOf (t .ticks) (t .blocks) (t .links Face) (t .links Curve) (t .keys Face) (t .keys Curve) (t .keys Point) (t .rows Face) (t .rows Curve) (t .rows Point)
     (t .numbers Face) (t .numbers Curve) (t .numbers Point) (t .firsts Face) (t .firsts Curve) (t .firsts Point) faces curves points) κ n r row row′))
+
+-- ---- item 1
+
+-- Of the readings' step: `StrainStep`, from the job that the numbers tell. It is lent the block table and the final numbers of faces: the same whatever the
+-- other tables are.
+abbrev pub ExportedStrain : List ℕ → Stage → (cx cy cz blocks numbers : List ℕ) → TotalTables → TotalTables → StrainCall → ℕ → Type 0
+ExportedStrain ns other cx cy cz blocks numbers w v c r =
+    anyTablesWith blocks numbers (λ t. StrainStep (stateOf (jobIn ns other) cx cy cz t) w c (strainAnswer r noTotals) v)
+
+-- Of a total: `StrainStep`, whatever the joiner's tables are; two sums and six counts are stored if it is accepted, and the places stay if it is refused.
+pub record ExportedTotal (ns : List ℕ) (other : Stage) (cx cy cz : List ℕ) (w : TotalTables) (n r : ℕ) (sums sums′ : List Float) (counts counts′ : List ℕ) : Type 0 where
+  pub found : Totals
+  pub step : (t : Tables) → StrainStep (stateOf (jobIn ns other) cx cy cz t) w (total n) (strainAnswer r found) w
+  pub sums-stored : sums′ ≡ cond (eqb r 0) (found .lower .sum ∷ found .higher .sum ∷ []) sums
+  pub counts-stored : counts′ ≡ cond (eqb r 0)
+      (found .lower .strains ∷ found .lower .clipped ∷ found .lower .missing ∷ found .higher .strains ∷ found .higher .clipped ∷ found .higher .missing ∷ []) counts

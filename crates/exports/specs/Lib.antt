@@ -1,3 +1,4 @@
 -- The definitions of the crate.
 pub mod Exports
 pub mod Calls
+pub mod StrainCalls

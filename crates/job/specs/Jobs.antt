@@ -106,3 +106,7 @@ foundLengths w n keys rows = tray keys n ∷ tray rows (w * n) ∷ []
 -- All tables of one kind.
 abbrev pub kindLengths : ℕ → ℕ → ℕ → ℕ → ℕ → ℕ → ℕ → List Tray
 kindLengths w n keys rows numbers firsts listed = tray keys n ∷ tray rows (w * n) ∷ tray numbers n ∷ tray firsts n ∷ tray listed (w * n) ∷ []
+
+-- The tables of the readings, of b blocks and so many faces.
+abbrev pub totalLengths : ℕ → ℕ → ℕ → ℕ → ℕ → List Tray
+totalLengths b faces came sums counts = tray came b ∷ tray sums (2 * faces) ∷ tray counts (6 * faces) ∷ []

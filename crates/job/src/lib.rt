@@ -6,7 +6,7 @@ ghost use Prim.Native.Nat.{_*_, _≤_};
 ghost use lib.Dec.{eqb, leb};
 ghost use Rattle.joiner.specs.Job.{stageNumber, sameStage, tray, lengthsFit};
 ghost use Rattle.joiner.specs.Declines.{talliesFit};
-ghost use Rattle.job.specs.Jobs.{stageOf, jobOf, freshJob, anyCuts, NoJob, blockLengths, linkLengths, foundLengths, kindLengths};
+ghost use Rattle.job.specs.Jobs.{stageOf, jobOf, freshJob, anyCuts, NoJob, blockLengths, linkLengths, foundLengths, kindLengths, totalLengths};
 
 // "A job goes through stages."
 pub enum Stage {
@@ -194,5 +194,16 @@ pub fn kind_trays(
         ),
         keys,
         n,
+    )
+}
+
+// The lengths of the tables of readings: a tick for each block, two sums and six counts for each face entry.
+pub fn total_trays(blocks: usize, faces: u32, came: usize, sums: usize, counts: usize) -> bool
+    ensures { λ r. ⌜ r ≡ lengthsFit (totalLengths blocks faces came sums counts) ⌝ }
+{
+    also(
+        also(also(true, counts, places(6, faces)), sums, places(2, faces)),
+        came,
+        blocks as u64,
     )
 }

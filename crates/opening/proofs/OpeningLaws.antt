@@ -1,29 +1,35 @@
 -- The ways of the functions that open a job, over plain lists and numbers.
 -- Assumes nothing.
 use mathlib.Core.Path.{_≡_, refl, sym, ap, _∙_}
-use mathlib.Core.Bool.{Bool, false, not, _&&_}
-use mathlib.Core.List.{List, _++_}
+use mathlib.Core.Bool.{Bool, false, not, _&&_, and-assoc}
+use mathlib.Core.List.{List, _++_, map}
 use Prim.Native.Nat.{ℕ, _*_, _≤_}
 use lib.ListN.{length}
+use lib.Ieee.{Float}
 use borrow.Author.Tests.{not-false}
 use Rattle.lists.specs.Lists.{zeros}
 use Rattle.refusals.specs.Refusals.{number, table, first, givenBy, standsIn}
 use Rattle.cutting.specs.Cutting.{Cutting, intervals, blocks, goodCut}
 use Rattle.joiner.specs.Job.{Face, Curve, Point, Told, Tables, lengthsFit, blockTrays, linkTrays, foundTrays, numberTrays, firstTrays, listedTrays, kindTrays}
-use Rattle.joiner.specs.Entries.{allTrays, openDeclines, openRefusal, Opening}
+use Rattle.joiner.specs.Entries.{allTrays}
+use Rattle.strains.specs.Units.{plusZero}
 use Rattle.blocks.proofs.BlockLaws.{good-few}
 use Rattle.blocks.proofs.CodeLaws.{blocks-are}
 use Rattle.job.specs.declared.Job.{Job}
 use Rattle.job.specs.Jobs.{toldBy, toldOf, freshJob, stateOf, NoJob}
 use Rattle.job.proofs.JobLaws.{fits-append, fresh-of}
+use Rattle.strain_calls.specs.Tables.{TotalTables, totalTables, totalTrays, zeroed}
+use Rattle.strain_calls.specs.Declines.{openingDeclines, openingRefusal}
+use Rattle.strain_calls.specs.Entries.{TotalsOpening}
+use Rattle.strain_calls.proofs.OpeningLaws.{opening-fits}
 use Rattle.opening.specs.declared.Opened.{Opened}
 use Rattle.opening.specs.declared.Sizes.{Sizes}
 use Rattle.opening.specs.Inner.{kindsFit, tablesFit, refusalOf, accepted}
 
 -- ---- the tests by lengths are the joiner's
 
-abbrev pub sizesOf : Tables → Sizes
-sizesOf t =
+abbrev pub sizesOf : Tables → TotalTables → Sizes
+sizesOf t w =
     record {
       ticks = length (t .ticks);
       blocks = length (t .blocks);
@@ -44,12 +50,19 @@ sizesOf t =
       «face_listed» = length (t .listed Face);
       «curve_listed» = length (t .listed Curve);
       «point_listed» = length (t .listed Point);
+      came = length (w .came);
+      «face_sums» = length (w .sums);
+      «face_counts» = length (w .counts);
     }
 
-module _ (o : Told) (t : Tables) where
-  fitting-is : lengthsFit (allTrays o t) ≡ tablesFit (blocks (o .cutting)) (o .entries Face) (o .entries Curve) (o .entries Point) (sizesOf t)
-  unfolding allTrays blockTrays linkTrays kindTrays foundTrays numberTrays firstTrays listedTrays tablesFit kindsFit
-  fitting-is =
+-- a test more behind two, on either side of the brackets
+and-last : (p q r s : Bool) → ((p && (q && r)) && s) ≡ (p && (q && (r && s)))
+and-last p q r s = and-assoc p (q && r) s ∙ ap (λ (b : Bool). p && b) (and-assoc q r s)
+
+module _ (o : Told) (t : Tables) (w : TotalTables) where
+  joiner-fitting : lengthsFit (allTrays o t) ≡ (lengthsFit (blockTrays o t) && (lengthsFit (linkTrays o t) && kindsFit (o .entries Face) (o .entries Curve) (o .entries Point) (sizesOf t w)))
+  unfolding allTrays blockTrays linkTrays kindTrays foundTrays numberTrays firstTrays listedTrays kindsFit
+  joiner-fitting =
       let faces = kindTrays o t Face in
       let curves = kindTrays o t Curve in
       let points = kindTrays o t Point in
@@ -58,8 +71,14 @@ module _ (o : Told) (t : Tables) where
       (fits-append (linkTrays o t) (faces ++ curves ++ points) ∙
       ap (λ (b : Bool). lengthsFit (linkTrays o t) && b) (fits-append faces (curves ++ points) ∙ ap (λ (b : Bool). lengthsFit faces && b) (fits-append curves points)))
 
-  pub refusal-is : openRefusal o t ≡ refusalOf o (sizesOf t)
-  unfolding openRefusal openDeclines givenBy first table number standsIn refusalOf
+  fitting-is : (lengthsFit (allTrays o t) && lengthsFit (totalTrays o w)) ≡ tablesFit (blocks (o .cutting)) (o .entries Face) (o .entries Curve) (o .entries Point) (sizesOf t w)
+  unfolding blockTrays linkTrays totalTrays tablesFit
+  fitting-is =
+      ap (λ (b : Bool). b && lengthsFit (totalTrays o w)) joiner-fitting ∙
+      and-last (lengthsFit (blockTrays o t)) (lengthsFit (linkTrays o t)) (kindsFit (o .entries Face) (o .entries Curve) (o .entries Point) (sizesOf t w)) (lengthsFit (totalTrays o w))
+
+  pub refusal-is : openingRefusal o t w ≡ refusalOf o (sizesOf t w)
+  unfolding openingRefusal openingDeclines givenBy first table number standsIn refusalOf
   refusal-is = rw fitting-is
 
 -- ---- the ladder of refusals
@@ -92,40 +111,50 @@ ticksSet t ticks =
       listed = t .listed;
     }
 
-module _ (nx ny nz : ℕ) (cx cy cz : List ℕ) (faces curves points : ℕ) (t : Tables) (j : Job) (n : ℕ)
+pub all-cleared : (came : List ℕ) (sums : List Float) (counts came′ : List ℕ) (sums′ : List Float) (counts′ : List ℕ)
+    → came′ ≡ zeros (length came) → sums′ ≡ map (λ x. plusZero) sums → counts′ ≡ zeros (length counts)
+    → totalTables came′ sums′ counts′ ≡ zeroed (totalTables came sums counts)
+unfolding zeroed
+all-cleared came sums counts came′ sums′ counts′ e f g = rw (e, f, g)
+
+module _ (nx ny nz : ℕ) (cx cy cz : List ℕ) (faces curves points : ℕ) (t : Tables) (w : TotalTables) (j : Job) (n : ℕ)
     (e : j ≡ freshJob nx ny nz faces curves points)
-    (h : n ≡ refusalOf (toldOf j cx cy cz) (sizesOf t)) where
-  refusal-told : n ≡ openRefusal (toldBy nx ny nz cx cy cz faces curves points) t
-  refusal-told = rw (refusal-is (toldBy nx ny nz cx cy cz faces curves points) t) (rw e at h)
+    (h : n ≡ refusalOf (toldOf j cx cy cz) (sizesOf t w)) where
+  refusal-told : n ≡ openingRefusal (toldBy nx ny nz cx cy cz faces curves points) t w
+  refusal-told = rw (refusal-is (toldBy nx ny nz cx cy cz faces curves points) t w) (rw e at h)
 
   pub open-refused : (n ≡ 0 → ⊥) → (r : Opened) → (r .refusal ≡ n) × NoJob (r .job)
-      → Opening (toldBy nx ny nz cx cy cz faces curves points) t (r .refusal) (stateOf (r .job) cx cy cz t)
+      → TotalsOpening (toldBy nx ny nz cx cy cz faces curves points) t w (r .refusal) (stateOf (r .job) cx cy cz t) w
   open-refused z r u =
       record {
         told = u .0 ∙ refusal-told;
-        declined = λ _. u .1 (toldBy nx ny nz cx cy cz faces curves points) t;
+        declined = λ _. (u .1 (toldBy nx ny nz cx cy cz faces curves points) t, refl);
         opened = λ a. absurd (z (refusal-told ∙ a));
       }
 
-  pub open-accepted : n ≡ 0 → (r : Opened) (ticks : List ℕ) → (r ≡ accepted j) × (ticks ≡ zeros (length (t .ticks)))
-      → Opening (toldBy nx ny nz cx cy cz faces curves points) t (r .refusal) (stateOf (r .job) cx cy cz (ticksSet t ticks))
-  open-accepted z r ticks u =
+  pub open-accepted : n ≡ 0 → (r : Opened) (ticks : List ℕ) (v : TotalTables) → (r ≡ accepted j) × (ticks ≡ zeros (length (t .ticks))) × (v ≡ zeroed w)
+      → TotalsOpening (toldBy nx ny nz cx cy cz faces curves points) t w (r .refusal) (stateOf (r .job) cx cy cz (ticksSet t ticks)) v
+  open-accepted z r ticks v u =
       rw (u .0, e) (record {
         told = sym z ∙ refusal-told;
         declined = λ d. absurd (d (sym refusal-told ∙ z));
         opened = λ a. record {
           accepted = a;
-          told = refl;
-          fresh = fresh-of nx ny nz faces curves points cx cy cz;
-          tables = record {
-            ticks = u .1;
-            blocks = refl;
-            links = λ κ. refl;
-            keys = λ κ. refl;
-            rows = λ κ. refl;
-            numbers = λ κ. refl;
-            firsts = λ κ. refl;
-            listed = λ κ. refl;
+          opened = record {
+            accepted = opening-fits (toldBy nx ny nz cx cy cz faces curves points) t w a .0;
+            told = refl;
+            fresh = fresh-of nx ny nz faces curves points cx cy cz;
+            tables = record {
+              ticks = u .1;
+              blocks = refl;
+              links = λ κ. refl;
+              keys = λ κ. refl;
+              rows = λ κ. refl;
+              numbers = λ κ. refl;
+              firsts = λ κ. refl;
+              listed = λ κ. refl;
+            };
           };
+          totals = u .2;
         };
       })

@@ -6,7 +6,7 @@ use Rattle.cells.specs.Extents.{offSize}
 use Rattle.cutting.specs.Cutting.{blocks, goodCut}
 use Rattle.joiner.specs.Job.{Face, Curve, Point, Told, lengthsFit}
 use Rattle.job.specs.declared.Job.{Job}
-use Rattle.job.specs.Jobs.{blockLengths, linkLengths, kindLengths}
+use Rattle.job.specs.Jobs.{blockLengths, linkLengths, kindLengths, totalLengths}
 use Rattle.opening.specs.declared.Opened.{Opened}
 use Rattle.opening.specs.declared.Sizes.{Sizes}
 
@@ -17,12 +17,14 @@ kindsFit faces curves points z =
     (lengthsFit (kindLengths 4 curves (z .«curve_keys») (z .«curve_rows») (z .«curve_numbers») (z .«curve_firsts») (z .«curve_listed»)) &&
     lengthsFit (kindLengths 6 points (z .«point_keys») (z .«point_rows») (z .«point_numbers») (z .«point_firsts») (z .«point_listed»)))
 
--- 6 denies it: `lengthsFit` of the joiner's `allTrays`.
+-- 6 denies it: `lengthsFit` of the joiner's `allTrays`, and of `totalTrays`.
 unfoldable pub tablesFit : ℕ → ℕ → ℕ → ℕ → Sizes → Bool
 tablesFit b faces curves points z =
-    lengthsFit (blockLengths b (z .ticks) (z .blocks)) && (lengthsFit (linkLengths faces curves (z .«face_links») (z .«curve_links»)) && kindsFit faces curves points z)
+    lengthsFit (blockLengths b (z .ticks) (z .blocks)) &&
+    (lengthsFit (linkLengths faces curves (z .«face_links») (z .«curve_links»)) &&
+    (kindsFit faces curves points z && lengthsFit (totalLengths b faces (z .came) (z .«face_sums») (z .«face_counts»))))
 
--- The refusal, 0 for none: the joiner's `openRefusal`.
+-- The refusal, 0 for none: `openingRefusal`.
 unfoldable pub refusalOf : Told → Sizes → ℕ
 refusalOf o z =
     cond (offSize 1024 (o .cutting .extents)) 1

@@ -8,16 +8,20 @@ use job::empty;
 use job::fresh;
 use job::kind_trays;
 use job::link_trays;
+use job::total_trays;
 use refusals::BAD_CUT;
 use refusals::OFF_SIZE;
 use refusals::WRONG_TRAY;
 use union_find::clear;
+use zeroing::clear_counts;
+use zeroing::clear_sums;
 ghost use mathlib.Core.Path.{_≡_};
 ghost use Prim.Native.Nat.{_≤_};
 ghost use lib.ListN.{length};
 ghost use Rattle.lists.specs.Lists.{zeros};
-ghost use Rattle.joiner.specs.Entries.{Opening};
 ghost use Rattle.job.specs.Jobs.{toldBy, toldOf, tablesOf, stateOf, NoJob};
+ghost use Rattle.strain_calls.specs.Tables.{totalTables, zeroed};
+ghost use Rattle.strain_calls.specs.Entries.{TotalsOpening};
 ghost use Rattle.opening.specs.Inner.{kindsFit, tablesFit, refusalOf, accepted};
 
 // What an opening answers: the number of its refusal, 0 for none, and the job.
@@ -47,6 +51,9 @@ struct Sizes {
     face_listed: usize,
     curve_listed: usize,
     point_listed: usize,
+    came: usize,
+    face_sums: usize,
+    face_counts: usize,
 }
 
 // Whether the tables of each kind have the lengths that their entries state.
@@ -102,7 +109,16 @@ fn tables_fit(blocks: usize, job: Job, sizes: Sizes) -> bool
     ) {
         return false;
     }
-    kinds_fit(job, sizes)
+    if !kinds_fit(job, sizes) {
+        return false;
+    }
+    total_trays(
+        blocks,
+        job.face_entries,
+        sizes.came,
+        sizes.face_sums,
+        sizes.face_counts,
+    )
 }
 
 // The number of the refusal of an opening that would make this job, the lowest that applies, and 0 for none.
@@ -132,19 +148,30 @@ fn refuse(number: u32) -> Opened
     }
 }
 
-// Accepts: no step is ticked.
-fn accept(job: Job, ticks: &mut [u32]) -> Opened
-    ensures { λ r. ⌜ (r ≡ accepted job) × (now (ticks .exit) ≡ zeros (length (now (ticks .entry)))) ⌝ }
+// Accepts: no step is ticked, no readings have come, and the totals are zero.
+fn accept(
+    job: Job,
+    ticks: &mut [u32],
+    came: &mut [u32],
+    face_sums: &mut [f64],
+    face_counts: &mut [u64],
+) -> Opened
+    ensures { λ r. ⌜ (r ≡ accepted job) × (now (ticks .exit) ≡ zeros (length (now (ticks .entry)))) ×
+        (totalTables (now (came .exit)) (now («face_sums» .exit)) (now («face_counts» .exit))
+        ≡ zeroed (totalTables (now (came .entry)) (now («face_sums» .entry)) (now («face_counts» .entry)))) ⌝ }
 {
     clear(ticks);
+    clear(came);
+    clear_sums(face_sums);
+    clear_counts(face_counts);
     Opened {
         refusal: 0,
         job: job,
     }
 }
 
-// Opens a job: the volume's extents, the cut lists, the entries of each table, and the tables. An accepted opening leaves no step ticked;
-// the other tables stay as they are.
+// Opens a job: the volume's extents, the cut lists, the entries of each table, and the tables. An accepted opening leaves no step ticked
+// and zeroes the totals; the other tables stay as they are.
 pub fn open(
     nx: u32,
     ny: u32,
@@ -174,19 +201,24 @@ pub fn open(
     face_listed: &[u32],
     curve_listed: &[u32],
     point_listed: &[u32],
+    came: &mut [u32],
+    face_sums: &mut [f64],
+    face_counts: &mut [u64],
 ) -> Opened
-    ensures { λ r. ⌜ Opening
+    ensures { λ r. ⌜ TotalsOpening
         (toldBy nx ny nz (now (cx .entry)) (now (cy .entry)) (now (cz .entry)) «face_entries» «curve_entries» «point_entries»)
         (tablesOf (now (ticks .entry)) (now (blocks .entry)) (now («face_links» .entry)) (now («curve_links» .entry))
         (now («face_keys» .entry)) (now («curve_keys» .entry)) (now («point_keys» .entry)) (now («face_rows» .entry)) (now («curve_rows» .entry)) (now («point_rows» .entry))
         (now («face_numbers» .entry)) (now («curve_numbers» .entry)) (now («point_numbers» .entry)) (now («face_firsts» .entry)) (now («curve_firsts» .entry)) (now («point_firsts» .entry))
         (now («face_listed» .entry)) (now («curve_listed» .entry)) (now («point_listed» .entry)))
+        (totalTables (now (came .entry)) (now («face_sums» .entry)) (now («face_counts» .entry)))
         (r .refusal)
         (stateOf (r .job) (now (cx .entry)) (now (cy .entry)) (now (cz .entry))
         (tablesOf (now (ticks .exit)) (now (blocks .entry)) (now («face_links» .entry)) (now («curve_links» .entry))
         (now («face_keys» .entry)) (now («curve_keys» .entry)) (now («point_keys» .entry)) (now («face_rows» .entry)) (now («curve_rows» .entry)) (now («point_rows» .entry))
         (now («face_numbers» .entry)) (now («curve_numbers» .entry)) (now («point_numbers» .entry)) (now («face_firsts» .entry)) (now («curve_firsts» .entry)) (now («point_firsts» .entry))
-        (now («face_listed» .entry)) (now («curve_listed» .entry)) (now («point_listed» .entry)))) ⌝ }
+        (now («face_listed» .entry)) (now («curve_listed» .entry)) (now («point_listed» .entry))))
+        (totalTables (now (came .exit)) (now («face_sums» .exit)) (now («face_counts» .exit))) ⌝ }
 {
     let sizes = Sizes {
         ticks: ticks.len(),
@@ -208,11 +240,14 @@ pub fn open(
         face_listed: face_listed.len(),
         curve_listed: curve_listed.len(),
         point_listed: point_listed.len(),
+        came: came.len(),
+        face_sums: face_sums.len(),
+        face_counts: face_counts.len(),
     };
     let job = fresh(nx, ny, nz, face_entries, curve_entries, point_entries);
     let number = refusal(job, cx, cy, cz, sizes);
     if number != 0 {
         return refuse(number);
     }
-    accept(job, ticks)
+    accept(job, ticks, came, face_sums, face_counts)
 }

@@ -6,16 +6,18 @@ use Prim.Native.Nat.{ℕ, _<_}
 use Rattle.cutting.specs.Cutting.{blocks, blockExtents}
 use Rattle.joiner.specs.Job.{Told, Tables}
 use Rattle.joiner.specs.Calls.{Call, Answer, enrol, join, cross, point, look, reading}
-use Rattle.joiner.specs.Entries.{Opening, CallStep}
+use Rattle.joiner.specs.Entries.{CallStep}
 use Rattle.joiner.specs.Book.{begun}
 use Rattle.joiner.specs.Statement.{Entry, Run, Fair, Labelling, Measured}
 use Rattle.joiner.proofs.Statement3.{statement3}
+use Rattle.strain_calls.specs.Tables.{TotalTables}
+use Rattle.strain_calls.specs.Entries.{TotalsOpening}
 use Rattle.frames.specs.Frames.{noTables}
 use Rattle.frames.proofs.FrameLaws.{framed}
 use Rattle.tie.specs.Contracts.{Held, stateIn, CalledEntry, enrolled, joined, crossed, pointed, looked, read, OpenedBy, opened, Calls, none, next}
 
--- An opening through `open` is one of the joiner.
-pub opened-opening : {o : Told} {lent : Tables} {r : ℕ} {h : Held} → OpenedBy o lent r h → Opening o lent r (stateIn h)
+-- An opening through `open` is one of the joiner, with the tables of the readings.
+pub opened-opening : {o : Told} {lent : Tables} {w v : TotalTables} {r : ℕ} {h : Held} → OpenedBy o lent w r h v → TotalsOpening o lent w r (stateIn h) v
 opened-opening (opened O) = O
 
 -- A call through an entry is a step of the joiner, of all nineteen tables.
@@ -32,12 +34,12 @@ calls-run none = Run.none
 calls-run (next C L) = Run.next (called-step C) (calls-run L)
 
 -- Statement 3 for the entries.
-pub service3 : (o : Told) (lent : Tables) (h : Held) (own : ℕ → List ℕ) (es : List Entry)
-    → OpenedBy o lent 0 h
+pub service3 : (o : Told) (lent : Tables) (w v : TotalTables) (h : Held) (own : ℕ → List ℕ) (es : List Entry)
+    → OpenedBy o lent w 0 h v
     → ((b : ℕ) → b < blocks (o .cutting) → Labelling (blockExtents (o .cutting) b) (own b))
     → Calls h es
     → Fair own es
     → Measured own (begun o) es
-service3 o lent h own es by labelled calls fair =
+service3 o lent w v h own es by labelled calls fair =
     let O = opened-opening by in
-    statement3 o lent (stateIn h) own es (O .opened (sym (O .told))) labelled (calls-run calls) fair
+    statement3 o lent (stateIn h) own es (O .opened (sym (O .told)) .opened) labelled (calls-run calls) fair

@@ -6,10 +6,12 @@ use Prim.Native.Nat.{ℕ}
 use Rattle.cells.specs.Box.{Triple}
 use Rattle.joiner.specs.Job.{Kind, Told, Tables, State}
 use Rattle.joiner.specs.Calls.{Call, enrol, join, cross, point, look, reading, Answer, answer}
-use Rattle.joiner.specs.Entries.{Opening, CallStep}
+use Rattle.joiner.specs.Entries.{CallStep}
 use Rattle.joiner.specs.Statement.{Entry}
 use Rattle.job.specs.declared.Job.{Job}
 use Rattle.job.specs.Jobs.{toldBy, tablesOf, stateOf, anyCuts}
+use Rattle.strain_calls.specs.Tables.{TotalTables}
+use Rattle.strain_calls.specs.Entries.{TotalsOpening}
 
 -- The job as the code has it, the three cut lists and the nineteen tables: ticks, blocks, and by two letters the tables of faces (f), curves (c)
 -- and points (p), their links (l), keys (k), rows (r), numbers (n), first positions (f) and the closed tables of rows (s).
@@ -21,13 +23,14 @@ abbrev pub stateIn : Held → State
 stateIn (held j cx cy cz ticks blocks fl cl fk ck pk fr cr pr fn cn pn ff cf pf fs cs ps) =
     stateOf j cx cy cz (tablesOf ticks blocks fl cl fk ck pk fr cr pr fn cn pn ff cf pf fs cs ps)
 
--- An opening through `open`, with what it is told, lent and answers: the premise is its `ensures`. Of the tables it stores into the ticks alone.
-pub data OpenedBy : Told → Tables → ℕ → Held → Type 0 where
-  opened : {j : Job} {nx ny nz faces curves points r : ℕ} {cx cy cz ticks blocks fl cl fk ck pk fr cr pr fn cn pn ff cf pf fs cs ps ticks′ : List ℕ}
-      → Opening (toldBy nx ny nz cx cy cz faces curves points) (tablesOf ticks blocks fl cl fk ck pk fr cr pr fn cn pn ff cf pf fs cs ps) r
-      (stateOf j cx cy cz (tablesOf ticks′ blocks fl cl fk ck pk fr cr pr fn cn pn ff cf pf fs cs ps))
-      → OpenedBy (toldBy nx ny nz cx cy cz faces curves points) (tablesOf ticks blocks fl cl fk ck pk fr cr pr fn cn pn ff cf pf fs cs ps) r
-      (held j cx cy cz ticks′ blocks fl cl fk ck pk fr cr pr fn cn pn ff cf pf fs cs ps)
+-- An opening through `open`, with what it is told, lent and answers: the premise is its `ensures`. Of the tables it stores into the ticks and
+-- into those of the readings.
+pub data OpenedBy : Told → Tables → TotalTables → ℕ → Held → TotalTables → Type 0 where
+  opened : {j : Job} {nx ny nz faces curves points r : ℕ} {cx cy cz ticks blocks fl cl fk ck pk fr cr pr fn cn pn ff cf pf fs cs ps ticks′ : List ℕ} {w v : TotalTables}
+      → TotalsOpening (toldBy nx ny nz cx cy cz faces curves points) (tablesOf ticks blocks fl cl fk ck pk fr cr pr fn cn pn ff cf pf fs cs ps) w r
+      (stateOf j cx cy cz (tablesOf ticks′ blocks fl cl fk ck pk fr cr pr fn cn pn ff cf pf fs cs ps)) v
+      → OpenedBy (toldBy nx ny nz cx cy cz faces curves points) (tablesOf ticks blocks fl cl fk ck pk fr cr pr fn cn pn ff cf pf fs cs ps) w r
+      (held j cx cy cz ticks′ blocks fl cl fk ck pk fr cr pr fn cn pn ff cf pf fs cs ps) v
 
 -- A call through an entry, with its answer, from what is held before to what is held after: the premise is the entry's `ensures`. (The crate `jobs`
 -- proves each method out of its entry's contract by these constructors.)

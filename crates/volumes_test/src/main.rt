@@ -179,6 +179,9 @@ fn rings() {
 fn open_cut(name: &[u8], cx: &[u32], one: &[u32], none: &[u32], no_keys: &[u64]) {
     let mut ticks = [7u32; 12];
     let numbers = [7u32; 10];
+    let mut came = [7u32; 2];
+    let mut sums = [7.0f64; 1];
+    let mut counts = [7u64; 1];
     let r = open(
         65,
         1,
@@ -208,6 +211,9 @@ fn open_cut(name: &[u8], cx: &[u32], one: &[u32], none: &[u32], no_keys: &[u64])
         none,
         none,
         none,
+        &mut came,
+        &mut sums[..0],
+        &mut counts[..0],
     );
     io::write_all(1, name);
     tell(b"refusal", r.refusal);

@@ -14,7 +14,7 @@ refuse-requires : tie.Need-refuse-requires
 refuse-requires c κs = search needs
 
 returns : tie.Need-returns
-returns c = open-refused _ _ _ _ _ _ _ _ _ _ _ _ (c .before .before .before .fresh .ensures) (c .before .before .refusal .ensures) (c .before .if1 .taken) (c .refuse .result) (c .refuse .ensures)
+returns c = open-refused _ _ _ _ _ _ _ _ _ _ _ _ _ (c .before .before .before .fresh .ensures) (c .before .before .refusal .ensures) (c .before .if1 .taken) (c .refuse .result) (c .refuse .ensures)
 
 accept-requires : tie.Need-accept-requires
 accept-requires c κs = search needs
@@ -22,8 +22,20 @@ accept-requires c κs = search needs
 same-length : tie.Need-same-length
 same-length c = search needs
 
+same-length-2 : tie.Need-same-length-2
+same-length-2 c = search needs
+
+same-length-3 : tie.Need-same-length-3
+same-length-3 c = search needs
+
+same-length-4 : tie.Need-same-length-4
+same-length-4 c = search needs
+
 returns-2 : tie.Need-returns-2
-returns-2 c = open-accepted _ _ _ _ _ _ _ _ _ _ _ _ (c .before .before .before .before .before .before .fresh .ensures) (c .before .before .before .before .before .refusal .ensures) (c .before .before .before .before .if1 .left) (c .before .before .accept .result) _ (c .before .before .accept .ensures)
+returns-2 c =
+    let a = c .before .before .before .before .before .before .before .before in
+    let d = a .before .before .before .before .before in
+    open-accepted _ _ _ _ _ _ _ _ _ _ _ _ _ (d .before .before .fresh .ensures) (d .before .refusal .ensures) (d .if1 .left) (a .accept .result) _ _ (a .accept .ensures)
 
 pub open-spec : {M : Type 1} → statement M
 open-spec =
@@ -35,4 +47,7 @@ open-spec =
     returns
     accept-requires
     same-length
+    same-length-2
+    same-length-3
+    same-length-4
     returns-2)

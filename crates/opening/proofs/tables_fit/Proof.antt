@@ -24,7 +24,14 @@ kinds-fit-requires c κs = search needs
 
 returns-3 : tie.Need-returns-3
 unfolding tablesFit
-returns-3 c = search and-next depth 10
+returns-3 c = search (and-here, and-next) depth 10
+
+total-trays-requires : tie.Need-total-trays-requires
+total-trays-requires c κs = search needs
+
+returns-4 : tie.Need-returns-4
+unfolding tablesFit
+returns-4 c = search and-next depth 10
 
 pub tables-fit-spec : {M : Type 1} → statement M
 tables-fit-spec =
@@ -35,4 +42,6 @@ tables-fit-spec =
     link-trays-requires
     returns-2
     kinds-fit-requires
-    returns-3)
+    returns-3
+    total-trays-requires
+    returns-4)

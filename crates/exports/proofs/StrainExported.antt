@@ -1,0 +1,53 @@
+-- A list of exported calls, those of item 1 among them, is a run.
+-- Assumes nothing.
+use mathlib.Core.List.{List, []}
+use mathlib.Core.Path.{_≡_, _∙_, ap, ap₂, refl, subst, sym}
+use Prim.Native.Nat.{ℕ, zero, suc}
+use lib.Ieee.{Float}
+use borrow.Author.Tests.{ne-eqb}
+use Rattle.joiner.specs.Job.{Tables}
+use Rattle.job.specs.declared.Job.{Job}
+use Rattle.job.specs.declared.Stage.{Stage}
+use Rattle.job.specs.Jobs.{stateOf}
+use Rattle.extended.specs.Extended.{LongRun}
+use Rattle.strain_calls.specs.Tables.{TotalTables}
+use Rattle.strain_calls.specs.Calls.{StrainCall, total, StrainAnswer, strainAnswer, noTotals}
+use Rattle.strain_calls.specs.Entries.{StrainStep}
+use Rattle.strain_calls.specs.Statement.{StrainEntry}
+use Rattle.job_numbers.specs.Numbers.{jobIn}
+use Rattle.exports.specs.Exports.{ExportedTotal}
+use Rattle.exports.specs.Calls.{Kept, keeps, stateKept}
+use Rattle.exports.specs.StrainCalls.{totalsIn, totalAnswer, ExportedStrainCall, strained, totalled, LongExported, none, next, nextAdded}
+use Rattle.exports.proofs.Exported.{OfJob, told-same, not-zero, numbersKept, exported-step}
+
+module _ (ns cx cy cz : List ℕ) (other : Stage) (N : OfJob ns) (t : Tables) (w : TotalTables) where
+  -- a step from the job that the numbers tell
+  from-told : (v : TotalTables) (c : StrainCall) (a : StrainAnswer) → StrainStep (stateOf (jobIn ns other) cx cy cz t) w c a v
+      → StrainStep (stateKept (keeps ns cx cy cz t)) w c a v
+  from-told v c a S = subst (λ (j : Job). StrainStep (stateOf j cx cy cz t) w c a v) (told-same N other) S
+
+  -- the answer of a total is what is stored
+  answer-kept : (n r : ℕ) (sums sums′ : List Float) (counts counts′ : List ℕ) (X : ExportedTotal ns other cx cy cz w n r sums sums′ counts counts′)
+      → strainAnswer r (X .found) ≡ totalAnswer r sums′ counts′
+  answer-kept n zero sums sums′ counts counts′ X =
+      sym (ap₂ (λ (s : List Float) (c : List ℕ). strainAnswer 0 (totalsIn s c)) (X .sums-stored) (X .counts-stored))
+  answer-kept n (suc r) sums sums′ counts counts′ X =
+      let S = X .step t in
+      rw (ne-eqb (suc r) 0 (not-zero r)) (S .declined (λ z. not-zero r (S .told ∙ z)) .0 ∙ ap (λ (q : ℕ). strainAnswer q noTotals) (sym (S .told)))
+
+  total-kept : (n r : ℕ) (sums sums′ : List Float) (counts counts′ : List ℕ) → ExportedTotal ns other cx cy cz w n r sums sums′ counts counts′
+      → StrainStep (stateKept (keeps ns cx cy cz t)) w (total n) (totalAnswer r sums′ counts′) w
+  total-kept n r sums sums′ counts counts′ X =
+      subst (λ (a : StrainAnswer). StrainStep (stateKept (keeps ns cx cy cz t)) w (total n) a w) (answer-kept n r sums sums′ counts counts′ X)
+      (from-told w (total n) (strainAnswer r (X .found)) (X .step t))
+
+-- An exported call of item 1 is a step of the readings.
+pub exported-strain : {k : Kept} {w v : TotalTables} {c : StrainCall} {a : StrainAnswer} → ExportedStrainCall k w c a v → OfJob (numbersKept k) → StrainStep (stateKept k) w c a v
+exported-strain (strained other S) N = from-told _ _ _ _ other N _ _ _ _ _ (S _ refl refl)
+exported-strain (totalled X) N = total-kept _ _ _ _ _ N _ _ _ _ _ _ _ _ X
+
+-- A list of exported calls is a run.
+pub long-exported-run : {k : Kept} {w : TotalTables} {es : List StrainEntry} → LongExported k w es → OfJob (numbersKept k) → LongRun StrainStep (stateKept k) w es
+long-exported-run none N = LongRun.none
+long-exported-run (next C L) N = let S = exported-step C N in LongRun.next (S .0) (long-exported-run L (S .1))
+long-exported-run (nextAdded C L) N = LongRun.nextAdded (exported-strain C N) (long-exported-run L N)
