@@ -1,4 +1,4 @@
-//! Times of the proved labeller, writer and reader beside plain Rust, in one run: medians of several rounds, as ratios.
+//! Times of the proved labeller, writer and reader, and of the readings' step, beside plain Rust, in one run: medians of several rounds, as ratios.
 mod codec;
 mod joins;
 mod plain;
@@ -145,6 +145,10 @@ fn main() {
     println!("{:<22} {:>8} {:>10} {:>8} {:>12} {:>10} {:>8}", "records", "write", "plain", "ratio", "read", "plain", "ratio");
     for (name, map) in maps {
         records(name, &map);
+    }
+    println!("\n{:<22} {:>8} {:>10} {:>8} {:>12} {:>12} {:>20}", "readings", "proved", "plain", "ratio", "point step", "one pass", "proved/(both)");
+    for (name, codes) in volumes() {
+        volume::readings(name, &codes, SIDE, ROUNDS);
     }
     volume::growth();
 }

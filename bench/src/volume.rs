@@ -1,9 +1,9 @@
 //! A whole volume: labelled and joined by the proved library and by plain Rust, in one run.
-use crate::joins::{Job as Plain, Part};
-use crate::{plain, Random};
+use crate::joins::{strain, Job as Plain, Part, Totals};
+use crate::{median, plain, Random};
 use std::time::Instant;
 use tugrelis::joining::{block_codes, entries_for};
-use tugrelis::{Block, Counts, Cutting, Job, Kind};
+use tugrelis::{Block, Counts, Cutting, Job, Kind, Reading, Readings};
 
 /// Milliseconds of each stage.
 #[derive(Default, Clone, Copy)]
@@ -100,6 +100,48 @@ fn same(job: &Job, plain: &Plain) -> bool {
     [(Kind::Face, counts.faces), (Kind::Curve, counts.curves), (Kind::Point, counts.points)].into_iter().enumerate().all(|(k, (kind, many))| {
         plain.kinds[k].listed.len() == many as usize && (1..=many).all(|n| plain.kinds[k].listed[n as usize - 1] == (job.first(kind, n).unwrap(), job.row(kind, n).unwrap()))
     })
+}
+
+/// Readings: two in three strains, some clipped, some missing.
+fn any_readings(voxels: usize, random: &mut Random) -> Readings {
+    let value = |random: &mut Random| (random.below(4_194_305) as f64 - 2_097_152.0) / 1024.0;
+    (0..voxels)
+        .map(|_| match random.below(6) {
+            0 => Reading::Missing,
+            1 => Reading::Clipped(value(random)),
+            _ => Reading::Strain(value(random)),
+        })
+        .collect()
+}
+
+/// The readings of one block: the proved step beside plain Rust, and beside the block's point step with one pass over the values.
+pub fn readings(name: &str, codes: &[u32], side: usize, rounds: usize) {
+    let cutting = Cutting::even([side as u32; 3], side as u32);
+    let (block, counts) = Block::label(cutting.block_extents(0), codes).expect("a labelling");
+    let blocks = [(block, counts)];
+    let mut job = Job::open(cutting.clone(), entries_for(&blocks)).expect("an opening");
+    let map = &blocks[0].0.map[..];
+    job.enrol(0, map).expect("an enrolment");
+    job.crossing(0, map).expect("a crossing");
+    let readings = any_readings(codes.len(), &mut Random(3));
+    let part = Part { extents: [side; 3], origin: [0; 3], map };
+    let mut times = [Vec::new(), Vec::new(), Vec::new(), Vec::new()];
+    for _ in 0..rounds {
+        let mut closed = job.clone();
+        let mut took = [0.0; 4];
+        timed(&mut took[2], || closed.point(0, map).expect("a point step"));
+        timed(&mut took[0], || closed.strain(0, map, &readings).expect("good readings"));
+        let faces = counts.faces as usize;
+        let mut totals = Totals { sums: vec![0.0; 2 * faces], counts: vec![0; 6 * faces] };
+        let numbers = closed.tables.face_numbers.clone();
+        assert!(timed(&mut took[1], || strain(&part, [counts.faces, counts.curves, counts.points], &numbers, [0; 3], &readings.values, &readings.kinds, &mut totals)));
+        assert!(closed.tables.face_sums.0 == totals.sums && closed.tables.face_counts == totals.counts, "{name}: the totals differ");
+        let whole = timed(&mut took[3], || readings.values.iter().zip(&readings.kinds).filter(|(x, kind)| **kind == 2 || x.abs() <= 2048.0).count());
+        assert_eq!(whole, codes.len());
+        times.iter_mut().zip(took).for_each(|(all, one)| all.push(one));
+    }
+    let [a, b, point, pass] = times.map(median);
+    println!("{:<22} {:>8.2} {:>10.2} {:>8.2} {:>12.2} {:>12.2} {:>20.2}", name, a, b, a / b, point, pass, a / (point + pass));
 }
 
 /// A volume of k×k×k blocks of 32×32×32 voxels, for k = 1, 2, 4, 8.
