@@ -1,8 +1,7 @@
 -- An opening that is lent the tables of the readings is one of the joiner.
 -- Assumes nothing.
-use mathlib.Core.Path.{_≡_, refl}
+use mathlib.Core.Path.{_≡_}
 use mathlib.Core.Bool.{false, true}
-use Prim.Native.Nat.{ℕ}
 use borrow.Author.Tests.{not-false}
 use Rattle.lists.proofs.Cases.{and-first, and-second}
 use Rattle.refusals.specs.Refusals.{Refusal, off-size, bad-cut, wrong-tray, number, table, first, givenBy, standsIn}

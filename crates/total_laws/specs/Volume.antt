@@ -11,11 +11,7 @@ use Rattle.cutting.specs.Cutting.{Cutting, blockExtents}
 use Rattle.joiner.specs.Job.{Face, Tables, fromOf}
 use Rattle.joiner.specs.Stages.{local, lowestBlock}
 use lib.Ieee.{Float}
-use lib.ListN.{getD, length}
-use lib.Dec.{eqb}
-use Rattle.lists.specs.Lists.{keep}
-use Rattle.strains.specs.Readings.{kindOf}
-use Rattle.strains.specs.declared.Reading.{Reading}
+use lib.ListN.{getD}
 use Rattle.totals.specs.Totals.{Taken, sumsWith, countsWith}
 use Rattle.lowest.specs.Lowest.{starts}
 use Rattle.strain_calls.specs.Adding.{gathered}
