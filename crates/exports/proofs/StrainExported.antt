@@ -1,6 +1,6 @@
 -- A list of exported calls, those of item 1 among them, is a run.
 -- Assumes nothing.
-use mathlib.Core.List.{List, []}
+use mathlib.Core.List.{List}
 use mathlib.Core.Path.{_≡_, _∙_, ap, ap₂, refl, subst, sym}
 use Prim.Native.Nat.{ℕ, zero, suc}
 use lib.Ieee.{Float}

@@ -1,8 +1,9 @@
 use crate::Joining;
 use crate::Stepped;
 use opening::open;
-ghost use Rattle.joiner.specs.Entries.{Opening};
 ghost use Rattle.job.specs.Jobs.{toldBy, tablesOf, stateOf};
+ghost use Rattle.strain_calls.specs.Tables.{totalTables};
+ghost use Rattle.strain_calls.specs.Entries.{TotalsOpening};
 
 impl Joining {
     // Opens a job.
@@ -35,19 +36,24 @@ impl Joining {
         face_listed: &[u32],
         curve_listed: &[u32],
         point_listed: &[u32],
+        came: &mut [u32],
+        face_sums: &mut [f64],
+        face_counts: &mut [u64],
     ) -> Stepped
-        ensures { λ r. ⌜ Opening
+        ensures { λ r. ⌜ TotalsOpening
             (toldBy nx ny nz (now (cx .entry)) (now (cy .entry)) (now (cz .entry)) «face_entries» «curve_entries» «point_entries»)
             (tablesOf (now (ticks .entry)) (now (blocks .entry)) (now («face_links» .entry)) (now («curve_links» .entry))
             (now («face_keys» .entry)) (now («curve_keys» .entry)) (now («point_keys» .entry)) (now («face_rows» .entry)) (now («curve_rows» .entry)) (now («point_rows» .entry))
             (now («face_numbers» .entry)) (now («curve_numbers» .entry)) (now («point_numbers» .entry)) (now («face_firsts» .entry)) (now («curve_firsts» .entry)) (now («point_firsts» .entry))
             (now («face_listed» .entry)) (now («curve_listed» .entry)) (now («point_listed» .entry)))
+            (totalTables (now (came .entry)) (now («face_sums» .entry)) (now («face_counts» .entry)))
             (r .refusal)
             (stateOf (r .joining .job) (now (cx .entry)) (now (cy .entry)) (now (cz .entry))
             (tablesOf (now (ticks .exit)) (now (blocks .entry)) (now («face_links» .entry)) (now («curve_links» .entry))
             (now («face_keys» .entry)) (now («curve_keys» .entry)) (now («point_keys» .entry)) (now («face_rows» .entry)) (now («curve_rows» .entry)) (now («point_rows» .entry))
             (now («face_numbers» .entry)) (now («curve_numbers» .entry)) (now («point_numbers» .entry)) (now («face_firsts» .entry)) (now («curve_firsts» .entry)) (now («point_firsts» .entry))
-            (now («face_listed» .entry)) (now («curve_listed» .entry)) (now («point_listed» .entry)))) ⌝ }
+            (now («face_listed» .entry)) (now («curve_listed» .entry)) (now («point_listed» .entry))))
+            (totalTables (now (came .exit)) (now («face_sums» .exit)) (now («face_counts» .exit))) ⌝ }
     {
         let r = open(
             nx,
@@ -78,6 +84,9 @@ impl Joining {
             face_listed,
             curve_listed,
             point_listed,
+            came,
+            face_sums,
+            face_counts,
         );
         let job = r.job;
         let joining = Joining { job: job };

@@ -60,7 +60,10 @@ and-last : (p q r s : Bool) → ((p && (q && r)) && s) ≡ (p && (q && (r && s))
 and-last p q r s = and-assoc p (q && r) s ∙ ap (λ (b : Bool). p && b) (and-assoc q r s)
 
 module _ (o : Told) (t : Tables) (w : TotalTables) where
-  joiner-fitting : lengthsFit (allTrays o t) ≡ (lengthsFit (blockTrays o t) && (lengthsFit (linkTrays o t) && kindsFit (o .entries Face) (o .entries Curve) (o .entries Point) (sizesOf t w)))
+  abbrev kinds-fit : Bool
+  kinds-fit = kindsFit (o .entries Face) (o .entries Curve) (o .entries Point) (sizesOf t w)
+
+  joiner-fitting : lengthsFit (allTrays o t) ≡ (lengthsFit (blockTrays o t) && (lengthsFit (linkTrays o t) && kinds-fit))
   unfolding allTrays blockTrays linkTrays kindTrays foundTrays numberTrays firstTrays listedTrays kindsFit
   joiner-fitting =
       let faces = kindTrays o t Face in
@@ -75,7 +78,7 @@ module _ (o : Told) (t : Tables) (w : TotalTables) where
   unfolding blockTrays linkTrays totalTrays tablesFit
   fitting-is =
       ap (λ (b : Bool). b && lengthsFit (totalTrays o w)) joiner-fitting ∙
-      and-last (lengthsFit (blockTrays o t)) (lengthsFit (linkTrays o t)) (kindsFit (o .entries Face) (o .entries Curve) (o .entries Point) (sizesOf t w)) (lengthsFit (totalTrays o w))
+      and-last (lengthsFit (blockTrays o t)) (lengthsFit (linkTrays o t)) kinds-fit (lengthsFit (totalTrays o w))
 
   pub refusal-is : openingRefusal o t w ≡ refusalOf o (sizesOf t w)
   unfolding openingRefusal openingDeclines givenBy first table number standsIn refusalOf
@@ -111,6 +114,7 @@ ticksSet t ticks =
       listed = t .listed;
     }
 
+-- what `accept` leaves of the tables of readings
 pub all-cleared : (came : List ℕ) (sums : List Float) (counts came′ : List ℕ) (sums′ : List Float) (counts′ : List ℕ)
     → came′ ≡ zeros (length came) → sums′ ≡ map (λ x. plusZero) sums → counts′ ≡ zeros (length counts)
     → totalTables came′ sums′ counts′ ≡ zeroed (totalTables came sums counts)

@@ -16,6 +16,7 @@ ghost use Rattle.joiner.specs.Job.{Face, Curve, Point};
 ghost use Rattle.joiner.specs.Calls.{enrol, join, cross, point, look};
 ghost use Rattle.job.specs.declared.Stage.{Stage};
 ghost use Rattle.job.specs.Jobs.{toldBy, tablesOf};
+ghost use Rattle.strain_calls.specs.Tables.{totalTables};
 ghost use Rattle.cells.specs.Box.{triple};
 ghost use Rattle.labeller.specs.Labelling.{labelling};
 ghost use Rattle.writer.specs.Writing.{writing};
@@ -128,6 +129,9 @@ pub extern "C" fn tugrelis_open(
     face_listed: &[u32],
     curve_listed: &[u32],
     point_listed: &[u32],
+    came: &mut [u32],
+    face_sums: &mut [f64],
+    face_counts: &mut [u64],
 ) -> u32
     ensures { λ r. ⌜ ExportedOpening (now (job .entry)) (now (job .exit))
         (toldBy nx ny nz (now (cx .entry)) (now (cy .entry)) (now (cz .entry)) «face_entries» «curve_entries» «point_entries»)
@@ -138,7 +142,9 @@ pub extern "C" fn tugrelis_open(
         (tablesOf (now (ticks .exit)) (now (blocks .entry)) (now («face_links» .entry)) (now («curve_links» .entry))
         (now («face_keys» .entry)) (now («curve_keys» .entry)) (now («point_keys» .entry)) (now («face_rows» .entry)) (now («curve_rows» .entry)) (now («point_rows» .entry))
         (now («face_numbers» .entry)) (now («curve_numbers» .entry)) (now («point_numbers» .entry)) (now («face_firsts» .entry)) (now («curve_firsts» .entry)) (now («point_firsts» .entry))
-        (now («face_listed» .entry)) (now («curve_listed» .entry)) (now («point_listed» .entry))) r ⌝ }
+        (now («face_listed» .entry)) (now («curve_listed» .entry)) (now («point_listed» .entry)))
+        (totalTables (now (came .entry)) (now («face_sums» .entry)) (now («face_counts» .entry)))
+        (totalTables (now (came .exit)) (now («face_sums» .exit)) (now («face_counts» .exit))) r ⌝ }
 {
     let r = Joining::open(
         nx,
@@ -169,6 +175,9 @@ pub extern "C" fn tugrelis_open(
         face_listed,
         curve_listed,
         point_listed,
+        came,
+        face_sums,
+        face_counts,
     );
     let next = r.joining;
     keep(job, r.refusal, next.job);

@@ -1,7 +1,7 @@
 -- An opening that is lent the tables of the readings is one of the joiner.
 -- Assumes nothing.
 use mathlib.Core.Path.{_≡_}
-use mathlib.Core.Bool.{false, true}
+use mathlib.Core.Bool.{Bool, false, true}
 use borrow.Author.Tests.{not-false}
 use Rattle.lists.proofs.Cases.{and-first, and-second}
 use Rattle.refusals.specs.Refusals.{Refusal, off-size, bad-cut, wrong-tray, number, table, first, givenBy, standsIn}
@@ -18,12 +18,18 @@ module _ (o : Told) (lent : Tables) (w : TotalTables) (r : openingRefusal o lent
   unfolding openingRefusal
   none-stands = given-none (standsIn (openingDeclines o lent w)) .0 r
 
+  abbrev joined-fit : Bool
+  joined-fit = lengthsFit (allTrays o lent)
+
+  abbrev totals-fit : Bool
+  totals-fit = lengthsFit (totalTrays o w)
+
   -- what an accepted opening passed
-  opening-passed : (offSize 1024 (o .cutting .extents) ≡ false) × (goodCut (o .cutting) ≡ true) × (lengthsFit (allTrays o lent) ≡ true) × (lengthsFit (totalTrays o w) ≡ true)
+  opening-passed : (offSize 1024 (o .cutting .extents) ≡ false) × (goodCut (o .cutting) ≡ true) × (joined-fit ≡ true) × (totals-fit ≡ true)
   unfolding openingDeclines standsIn number
   opening-passed =
       let fit = not-false _ (none-stands wrong-tray) in
-      (none-stands off-size, not-false _ (none-stands bad-cut), and-first (lengthsFit (allTrays o lent)) (lengthsFit (totalTrays o w)) fit, and-second (lengthsFit (allTrays o lent)) (lengthsFit (totalTrays o w)) fit)
+      (none-stands off-size, not-false _ (none-stands bad-cut), and-first joined-fit totals-fit fit, and-second joined-fit totals-fit fit)
 
   -- The joiner's refusals do not stand either, and the tables of the readings have the stated lengths.
   pub opening-fits : (openRefusal o lent ≡ 0) × (lengthsFit (totalTrays o w) ≡ true)
