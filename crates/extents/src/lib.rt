@@ -4,7 +4,8 @@ ghost use Prim.Native.Nat.{_+_};
 ghost use lib.Dec.{ltb};
 ghost use Rattle.cells.specs.Box.{triple};
 ghost use Rattle.cells.specs.Codes.{blank};
-ghost use Rattle.cells.specs.Extents.{isExtent, offSize, offPlace};
+ghost use Rattle.cells.specs.Extents.{Sized, isExtent, offSize, offPlace};
+ghost use Rattle.cells.specs.Grid.{cells};
 
 fn is_extent(limit: usize, n: usize) -> bool
     ensures { λ r. ⌜ r ≡ isExtent limit n ⌝ }
@@ -48,6 +49,17 @@ pub fn off_place(nx: u16, ny: u16, nz: u16, ox: u16, oy: u16, oz: u16) -> bool
         return true;
     }
     beyond(nz, oz)
+}
+
+// How many cells the grid of a volume has. Not an entry.
+pub fn cell_count(nx: u32, ny: u32, nz: u32) -> u64
+    requires { ⌜ Sized 1024 (triple nx ny nz) ⌝ }
+    ensures { λ r. ⌜ r ≡ cells (triple nx ny nz) ⌝ }
+{
+    let w = 2 * nx as u64 - 1;
+    let h = 2 * ny as u64 - 1;
+    let d = 2 * nz as u64 - 1;
+    w * h * d
 }
 
 // Whether a code is 0.

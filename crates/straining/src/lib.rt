@@ -1,0 +1,1 @@
+// The readings' step of a job.
