@@ -12,12 +12,11 @@ use Rattle.joiner.specs.Calls.{Call, reading, answer}
 use Rattle.joiner.specs.Entries.{CallStep}
 use Rattle.job.specs.declared.Job.{Job}
 use Rattle.job.specs.declared.Stage.{Stage}
-use Rattle.job.specs.Jobs.{stateOf, tablesOf, anyCuts}
+use Rattle.job.specs.Jobs.{jobOf, stateOf, tablesOf, anyCuts}
 use Rattle.job_numbers.specs.Numbers.{jobIn, keptNumbers}
 use Rattle.totals.specs.declared.Totals.{Totals}
 use Rattle.strain_calls.specs.Tables.{TotalTables}
-use Rattle.strain_calls.specs.Calls.{StrainCall, total, strainAnswer, noTotals}
-use Rattle.strain_calls.specs.Entries.{TotalsOpening, StrainStep, anyTablesWith}
+use Rattle.strain_calls.specs.Entries.{TotalsOpening, StrainPromise, TotalPromise}
 
 -- What holds whatever the tables are. An export's contract takes out of them those that the call is not lent.
 abbrev pub anyTables : (Tables → Type 0) → Type 0
@@ -61,16 +60,14 @@ RowExported j κ n faces curves points r row row′ =
 
 -- ---- item 1
 
--- Of the readings' step: `StrainStep`, from the job that the numbers tell. It is lent the block table and the final numbers of faces: the same whatever the
--- other tables are.
-abbrev pub ExportedStrain : List ℕ → Stage → (cx cy cz blocks numbers : List ℕ) → TotalTables → TotalTables → StrainCall → ℕ → Type 0
-ExportedStrain ns other cx cy cz blocks numbers w v c r =
-    anyTablesWith blocks numbers (λ t. StrainStep (stateOf (jobIn ns other) cx cy cz t) w c (strainAnswer r noTotals) v)
+-- Of the readings' step: its promise, for the job that the numbers tell.
+abbrev pub ExportedStrain : List ℕ → Stage → (cx cy cz blocks numbers : List ℕ) → TotalTables → ℕ → List ℕ → List Float → List ℕ → ℕ → TotalTables → Type 0
+ExportedStrain ns other cx cy cz blocks numbers w b m values kinds r v = StrainPromise (jobOf (jobIn ns other) cx cy cz) blocks numbers w b m values kinds r v
 
--- Of a total: `StrainStep`, whatever the joiner's tables are; two sums and six counts are stored if it is accepted, and the places stay if it is refused.
+-- Of a total: its promise; two sums and six counts are stored if it is accepted, and the places stay if it is refused.
 pub record ExportedTotal (ns : List ℕ) (other : Stage) (cx cy cz : List ℕ) (w : TotalTables) (n r : ℕ) (sums sums′ : List Float) (counts counts′ : List ℕ) : Type 0 where
   pub found : Totals
-  pub step : (t : Tables) → StrainStep (stateOf (jobIn ns other) cx cy cz t) w (total n) (strainAnswer r found) w
+  pub step : TotalPromise (jobOf (jobIn ns other) cx cy cz) w n r found
   pub sums-stored : sums′ ≡ cond (eqb r 0) (found .lower .sum ∷ found .higher .sum ∷ []) sums
   pub counts-stored : counts′ ≡ cond (eqb r 0)
       (found .lower .strains ∷ found .lower .clipped ∷ found .lower .missing ∷ found .higher .strains ∷ found .higher .clipped ∷ found .higher .missing ∷ []) counts

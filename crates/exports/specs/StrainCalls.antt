@@ -13,7 +13,7 @@ use Rattle.strains.specs.Units.{plusZero}
 use Rattle.totals.specs.declared.Totals.{Totals}
 use Rattle.extended.specs.Extended.{base, added}
 use Rattle.strain_calls.specs.Tables.{TotalTables}
-use Rattle.strain_calls.specs.Calls.{StrainCall, total, StrainAnswer, strainAnswer, noTotals}
+use Rattle.strain_calls.specs.Calls.{StrainCall, strain, total, StrainAnswer, strainAnswer, noTotals}
 use Rattle.strain_calls.specs.Statement.{StrainEntry}
 use Rattle.exports.specs.Exports.{ExportedStrain, ExportedTotal}
 use Rattle.exports.specs.Calls.{Kept, keeps, stateKept, ExportedCall}
@@ -33,11 +33,11 @@ totalAnswer r sums counts = strainAnswer r (cond (eqb r 0) (totalsIn sums counts
 -- An exported call of item 1 with its answer, on what is kept and the tables of the readings, to those tables after it: the premise is the `ensures` of the
 -- export. What is kept stays.
 pub data ExportedStrainCall : Kept → TotalTables → StrainCall → StrainAnswer → TotalTables → Type 0 where
-  -- the readings of a block
-  strained : {ns cx cy cz : List ℕ} (other : Stage) {t : Tables} {w v : TotalTables} {c : StrainCall} {r : ℕ}
-      → ExportedStrain ns other cx cy cz (t .blocks) (t .numbers Face) w v c r
-      → ExportedStrainCall (keeps ns cx cy cz t) w c (strainAnswer r noTotals) v
-  -- a total
+  -- `tugrelis_strain`
+  strained : {ns cx cy cz m kinds : List ℕ} (other : Stage) {t : Tables} {w v : TotalTables} {b r : ℕ} {values : List Float}
+      → ExportedStrain ns other cx cy cz (t .blocks) (t .numbers Face) w b m values kinds r v
+      → ExportedStrainCall (keeps ns cx cy cz t) w (strain b m values kinds) (strainAnswer r noTotals) v
+  -- `tugrelis_total`
   totalled : {ns cx cy cz : List ℕ} {other : Stage} {t : Tables} {w : TotalTables} {n r : ℕ} {sums sums′ : List Float} {counts counts′ : List ℕ}
       → ExportedTotal ns other cx cy cz w n r sums sums′ counts counts′
       → ExportedStrainCall (keeps ns cx cy cz t) w (total n) (totalAnswer r sums′ counts′) w

@@ -6,9 +6,10 @@ use mathlib.Core.List.{List}
 use Prim.Native.Nat.{ℕ}
 use lib.ListN.{set}
 use lib.Ieee.{Float}
-use Rattle.joiner.specs.Job.{Face, Told, Tables, State}
+use Rattle.joiner.specs.Job.{Face, Told, Job, Tables, State}
 use Rattle.joiner.specs.Entries.{Opened, Unopened}
 use Rattle.totals.specs.Totals.{sumsWith, countsWith, totalsOf}
+use Rattle.totals.specs.declared.Totals.{Totals}
 use Rattle.strain_calls.specs.Tables.{TotalTables, totalTables, zeroed}
 use Rattle.strain_calls.specs.Adding.{blockAdds}
 use Rattle.strain_calls.specs.Calls.{StrainCall, strain, total, StrainAnswer, strainAnswer, noTotals}
@@ -52,3 +53,12 @@ pub record StrainStep (s : State) (w : TotalTables) (c : StrainCall) (a : Strain
 -- What holds whatever the other tables are: the readings' step is lent the block table and the final numbers of faces, a total no table of the joiner's.
 abbrev pub anyTablesWith : List ℕ → List ℕ → (Tables → Type 0) → Type 0
 anyTablesWith blocks numbers P = (t : Tables) → t .blocks ≡ blocks → t .numbers Face ≡ numbers → P t
+
+-- What the readings' step promises, for a job, the two tables that it is lent, the tables of the readings before and after, and what it brings and answers.
+abbrev pub StrainPromise : Job → List ℕ → List ℕ → TotalTables → ℕ → List ℕ → List Float → List ℕ → ℕ → TotalTables → Type 0
+StrainPromise j blocks numbers w b m values kinds r v =
+    anyTablesWith blocks numbers (λ t. StrainStep (record { job = j; tables = t }) w (strain b m values kinds) (strainAnswer r noTotals) v)
+
+-- .. and the reading of a total.
+abbrev pub TotalPromise : Job → TotalTables → ℕ → ℕ → Totals → Type 0
+TotalPromise j w n r T = (t : Tables) → StrainStep (record { job = j; tables = t }) w (total n) (strainAnswer r T) w
