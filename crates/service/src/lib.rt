@@ -24,7 +24,7 @@ ghost use Rattle.reader.specs.Reading.{reading};
 ghost use Rattle.maxima.specs.Maxima.{mostComponents};
 ghost use Rattle.service.specs.Exports.{exported, export, exportedMost, exportMost, exportedWriting, exportWriting, exportedReading, exportReading};
 ghost use Rattle.job_numbers.specs.Numbers.{jobIn};
-ghost use Rattle.exports.specs.Exports.{anyTables, ExportedOpening, ExportedStep, ExportedLookup, RowExported, sixOf};
+ghost use Rattle.exports.specs.Exports.{anyTables, ExportedOpening, ExportedStep, ExportedLookup, ExportedTotal, RowExported, sixOf};
 ghost use Rattle.row_reading.specs.Inner.{kindOf};
 
 // Labels a block; answers the refusal, 0 for none, and stores how many faces, curves and points there are.
@@ -446,6 +446,44 @@ pub extern "C" fn tugrelis_lookup(
     );
     if r.refusal == 0 {
         *number = r.number;
+    }
+    r.refusal
+}
+
+// The totals of a face; answers the refusal, 0 for none, and stores the sums and the counts of its two sides.
+#[no_mangle]
+pub extern "C" fn tugrelis_total(
+    job: &[u32; 13],
+    cx: &[u32],
+    cy: &[u32],
+    cz: &[u32],
+    came: &[u32],
+    face_sums: &[f64],
+    face_counts: &[u64],
+    number: u32,
+    sums: &mut [f64; 2],
+    counts: &mut [u64; 6],
+) -> u32
+    ensures { λ r. ⌜ ExportedTotal (now (job .entry)) Stage.Enrol (now (cx .entry)) (now (cy .entry)) (now (cz .entry))
+        (totalTables (now (came .entry)) (now («face_sums» .entry)) (now («face_counts» .entry))) number r
+        (now (sums .entry)) (now (sums .exit)) (now (counts .entry)) (now (counts .exit)) ⌝ }
+{
+    let joining = Joining {
+        job: job_in(job, Stage::Enrol),
+    };
+    let r = joining.total(cx, cy, cz, came, face_sums, face_counts, number);
+    if r.refusal == 0 {
+        let lower = r.totals.lower;
+        let higher = r.totals.higher;
+        *sums = [lower.sum, higher.sum];
+        *counts = [
+            lower.strains,
+            lower.clipped,
+            lower.missing,
+            higher.strains,
+            higher.clipped,
+            higher.missing,
+        ];
     }
     r.refusal
 }
