@@ -6,6 +6,7 @@ use mathlib.Core.Logic.{_≢_}
 use mathlib.Core.List.{List, [], _∷_}
 use Prim.Native.Nat.{ℕ}
 use lib.ListN.{set}
+use lib.Ieee.{Float}
 use native.Mathlib.Omega.{arith}
 use borrow.Author.Tests.{eq-eqb, ne-eqb}
 use Rattle.counts.specs.Counts.{storedCounts}
@@ -29,9 +30,12 @@ use Rattle.joiner.specs.Calls.{Call, reading, answer}
 use Rattle.joiner.specs.Entries.{CallStep}
 use Rattle.job.specs.declared.Job.{Job}
 use Rattle.job.specs.declared.Stage.{Stage}
-use Rattle.job.specs.Jobs.{anyCuts, stateOf, tablesOf}
+use Rattle.job.specs.Jobs.{anyCuts, jobOf, stateOf, tablesOf}
 use Rattle.job_numbers.specs.Numbers.{jobIn, keptNumbers}
-use Rattle.exports.specs.Exports.{ExportedStep, ExportedLookup, RowExported, anyTables, sixOf}
+use Rattle.totals.specs.declared.Totals.{Totals}
+use Rattle.strain_calls.specs.Tables.{TotalTables}
+use Rattle.strain_calls.specs.Entries.{TotalPromise}
+use Rattle.exports.specs.Exports.{ExportedStep, ExportedLookup, ExportedTotal, RowExported, anyTables, sixOf}
 
 pub label-exported : (r : Labelled) (m w c c′ : List ℕ) (o : Outcome) → outcome r m w ≡ o → c′ ≡ storedCounts (r .refusal) (r .faces) (r .curves) (r .points) c
     → exported (r .refusal) m w c′ ≡ export o c
@@ -93,6 +97,20 @@ module _ (ns : List ℕ) (other : Stage) (cx cy cz : List ℕ) (t : Tables) (c :
 
   pub lookup-refused : r ≢ 0 → ExportedLookup ns other cx cy cz t c r v v
   lookup-refused n = record { found = found; step = looked-up; number = rw (ne-eqb r 0 n) }
+
+-- the sums and counts of a total
+module _ (ns : List ℕ) (other : Stage) (cx cy cz : List ℕ) (w : TotalTables) (n r : ℕ) (found : Totals) (sums : List Float) (counts : List ℕ) (j : Job) (e : j ≡ jobIn ns other)
+    (s : TotalPromise (jobOf j cx cy cz) w n r found) where
+  total-step : TotalPromise (jobOf (jobIn ns other) cx cy cz) w n r found
+  total-step = subst (λ (k : Job). TotalPromise (jobOf k cx cy cz) w n r found) e s
+
+  pub total-stored : r ≡ 0
+      → ExportedTotal ns other cx cy cz w n r sums (found .lower .sum ∷ found .higher .sum ∷ []) counts
+      (found .lower .strains ∷ found .lower .clipped ∷ found .lower .missing ∷ found .higher .strains ∷ found .higher .clipped ∷ found .higher .missing ∷ [])
+  total-stored z = record { found = found; step = total-step; sums-stored = rw (eq-eqb r 0 z); counts-stored = rw (eq-eqb r 0 z) }
+
+  pub total-refused : r ≢ 0 → ExportedTotal ns other cx cy cz w n r sums sums counts counts
+  total-refused m = record { found = found; step = total-step; sums-stored = rw (ne-eqb r 0 m); counts-stored = rw (ne-eqb r 0 m) }
 
 -- all tables, the closed rows being these
 abbrev around : Tables → List ℕ → List ℕ → List ℕ → Tables
