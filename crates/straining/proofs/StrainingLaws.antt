@@ -55,8 +55,7 @@ whole-of count e faces z h =
     let l = and-first (listsIn e (z .cells) (z .values) (z .kinds)) _ h in
     let r = and-second (eqb (z .cells) (cells e)) _ l in
     let s = and-second (lengthsFit (tray (z .blocks) (5 * count) ∷ [])) (lengthsFit (tray (z .numbers) faces ∷ []) && totals) (and-second (listsIn e (z .cells) (z .values) (z .kinds)) _ h) in
-    let u = and-second (lengthsFit (tray (z .numbers) faces ∷ [])) totals s in
-    (
+    let u = and-second (lengthsFit (tray (z .numbers) faces ∷ [])) totals s in (
       eqb-true _ _ (and-first (eqb (z .cells) (cells e)) _ l),
       eqb-true _ _ (and-first (eqb (z .values) (volume e)) _ r),
       eqb-true _ _ (and-second (eqb (z .values) (volume e)) (eqb (z .kinds) (volume e)) r),

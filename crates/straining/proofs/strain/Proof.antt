@@ -21,7 +21,7 @@ returns c = search strain-refused
 
 accept-requires : tie.Need-accept-requires
 accept-requires c κs =
-    strain-ready (c .before .before .before .before .before .before .before .before .before .before .before .before .before .before .before .before .before .before .before .args .job) _ _ _ _ _ _ _ _ _ _ _ _ _ (c .before .before .before .before .before .before .before .judge .ensures) (c .before .before .before .if1 .left)
+    strain-ready (c .before .before .before .before .before .before .before .before .before .before .before .before .before .before .before .before .before .before .before .args .job) _ _ _ _ _ _ _ _ _ _ _ _ _ (c .before .before .before .before .judge .ensures) (c .before .before .before .if1 .left)
 
 same-length-4 : tie.Need-same-length-4
 same-length-4 c = search needs
