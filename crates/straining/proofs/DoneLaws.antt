@@ -5,11 +5,10 @@ use mathlib.Core.Bool.{Bool, true, false, not, cond, _&&_}
 use mathlib.Core.List.{List, [], _∷_, _++_}
 use Prim.Native.Nat.{ℕ, _+_, _*_, _<_}
 use native.Mathlib.Omega.{arith}
-use lib.Dec.{eqb, ltb}
-use lib.ListN.{getD, length, set}
+use lib.Dec.{ltb}
+use lib.ListN.{length}
 use lib.Ieee.{Float}
 use Rattle.refusals.specs.Refusals.{number, table, first, givenBy, standsIn}
-use Rattle.cells.specs.Box.{volume}
 use Rattle.cells.specs.Extents.{offSize}
 use Rattle.cells.specs.Grid.{cells}
 use Rattle.cutting.specs.Cutting.{Cutting, blocks, blockExtents, goodCut}
@@ -22,8 +21,7 @@ use Rattle.job.proofs.JobLaws.{fits-append}
 use Rattle.staging.specs.Staging.{tickedIn}
 use Rattle.steps.specs.Steps.{firstRefusal, openedOf, reachedOf, entryOf, numberStandsIn}
 use Rattle.steps.proofs.StepLaws.{or-none, reached-passed, Passed, stands-is}
-use Rattle.totals.specs.Totals.{Taken, bothStand, readingsFit, sumsWith, countsWith}
-use Rattle.summing.specs.Summing.{brought, blockTaken}
+use Rattle.totals.specs.Totals.{readingsFit}
 use Rattle.summing.proofs.AddingLaws.{block-adds}
 use Rattle.strain_calls.specs.Tables.{TotalTables, totalTables, totalTrays}
 use Rattle.strain_calls.specs.Adding.{blockAdds}

@@ -1,10 +1,9 @@
 -- The ways of the functions of the readings' step, over plain lists and numbers.
 -- Assumes nothing.
 use mathlib.Core.Path.{_≡_, refl, sym, _∙_}
-use mathlib.Core.Bool.{Bool, true, false, not, cond, _&&_}
+use mathlib.Core.Bool.{Bool, true, false, not, _&&_}
 use mathlib.Core.List.{List, [], _∷_}
 use Prim.Native.Nat.{ℕ, _*_, _≤_, _<_}
-use native.Mathlib.Omega.{arith}
 use lib.Dec.{eqb, leb, ltb}
 use lib.ListN.{getD, length, set}
 use lib.Ieee.{Float}
@@ -13,7 +12,7 @@ use Rattle.lists.proofs.Cases.{and-first, and-second}
 use Rattle.cells.specs.Box.{Triple, triple, volume}
 use Rattle.cells.specs.Extents.{Sized}
 use Rattle.cells.specs.Grid.{cells}
-use Rattle.cutting.specs.Cutting.{Cutting, intervals, blocks, blockExtents, goodCut}
+use Rattle.cutting.specs.Cutting.{Cutting, intervals, blocks, blockExtents}
 use Rattle.joiner.specs.Job.{Closed, tray, lengthsFit}
 use Rattle.joiner.specs.Declines.{talliesFit}
 use Rattle.blocks.specs.Blocks.{Tells, sizeOf, anyExtents}
@@ -24,7 +23,7 @@ use Rattle.steps.specs.declared.Entry.{Entry}
 use Rattle.steps.specs.Steps.{reachedOf, entryOf, mapStandsIn, numberStandsIn}
 use Rattle.steps.proofs.StepLaws.{or-first, or-then, reached-passed, Passed, few-of, count-few, block-sized}
 use Rattle.totals.specs.Totals.{bothStand, readingsFit, sumsWith, countsWith}
-use Rattle.lowest.specs.Lowest.{starts, startOf, anyDepth}
+use Rattle.lowest.specs.Lowest.{starts, startOf}
 use Rattle.lowest.specs.declared.Start.{Start}
 use Rattle.summing.specs.Summing.{brought, blockTaken, Whole}
 use Rattle.strain_calls.specs.Tables.{totalTables}
