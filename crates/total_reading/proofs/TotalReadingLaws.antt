@@ -22,7 +22,6 @@ use Rattle.joiner.specs.Declines.{talliesFit}
 use Rattle.blocks.specs.Blocks.{anyExtents}
 use Rattle.job.specs.declared.Job.{Job}
 use Rattle.job.specs.Jobs.{anyCuts, jobOf, stateOf, totalLengths}
-use Rattle.job.proofs.JobLaws.{cond-not-here, cond-not-next}
 use Rattle.staging.specs.Staging.{tickedIn}
 use Rattle.steps.specs.Steps.{firstRefusal, openedOf}
 use Rattle.steps.proofs.StepLaws.{or-first, or-then, or-none, opened-passed, few-of}

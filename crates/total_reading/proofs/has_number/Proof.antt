@@ -1,5 +1,4 @@
 -- `total_reading::has_number` meets its contract.
-use borrow.Author.Needs.{needs}
 use Rattle.total_reading.proofs.TotalReadingLaws.{number-some, number-none}
 use Rattle.total_reading.proofs.has_number.Statement.{statement}
 use Rattle.total_reading.proofs.has_number.Tie as tie
