@@ -7,6 +7,7 @@ mod open;
 mod point;
 mod row;
 mod seam;
+mod strain;
 mod total;
 
 use job::Job;

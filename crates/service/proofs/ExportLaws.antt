@@ -34,8 +34,8 @@ use Rattle.job.specs.Jobs.{anyCuts, jobOf, stateOf, tablesOf}
 use Rattle.job_numbers.specs.Numbers.{jobIn, keptNumbers}
 use Rattle.totals.specs.declared.Totals.{Totals}
 use Rattle.strain_calls.specs.Tables.{TotalTables}
-use Rattle.strain_calls.specs.Entries.{TotalPromise}
-use Rattle.exports.specs.Exports.{ExportedStep, ExportedLookup, ExportedTotal, RowExported, anyTables, sixOf}
+use Rattle.strain_calls.specs.Entries.{StrainPromise, TotalPromise}
+use Rattle.exports.specs.Exports.{ExportedStep, ExportedLookup, ExportedStrain, ExportedTotal, RowExported, anyTables, sixOf}
 
 pub label-exported : (r : Labelled) (m w c c′ : List ℕ) (o : Outcome) → outcome r m w ≡ o → c′ ≡ storedCounts (r .refusal) (r .faces) (r .curves) (r .points) c
     → exported (r .refusal) m w c′ ≡ export o c
@@ -97,6 +97,11 @@ module _ (ns : List ℕ) (other : Stage) (cx cy cz : List ℕ) (t : Tables) (c :
 
   pub lookup-refused : r ≢ 0 → ExportedLookup ns other cx cy cz t c r v v
   lookup-refused n = record { found = found; step = looked-up; number = rw (ne-eqb r 0 n) }
+
+-- the readings' step, from the job that the numbers tell
+pub strain-exported : (ns : List ℕ) (other : Stage) (cx cy cz blocks numbers : List ℕ) (w : TotalTables) (b : ℕ) (m : List ℕ) (values : List Float) (kinds : List ℕ) (r : ℕ) (v : TotalTables) (j : Job)
+    → j ≡ jobIn ns other → StrainPromise (jobOf j cx cy cz) blocks numbers w b m values kinds r v → ExportedStrain ns other cx cy cz blocks numbers w b m values kinds r v
+strain-exported ns other cx cy cz blocks numbers w b m values kinds r v j e s = subst (λ (k : Job). StrainPromise (jobOf k cx cy cz) blocks numbers w b m values kinds r v) e s
 
 -- the sums and counts of a total
 module _ (ns : List ℕ) (other : Stage) (cx cy cz : List ℕ) (w : TotalTables) (n r : ℕ) (found : Totals) (sums : List Float) (counts : List ℕ) (j : Job) (e : j ≡ jobIn ns other)

@@ -24,7 +24,7 @@ ghost use Rattle.reader.specs.Reading.{reading};
 ghost use Rattle.maxima.specs.Maxima.{mostComponents};
 ghost use Rattle.service.specs.Exports.{exported, export, exportedMost, exportMost, exportedWriting, exportWriting, exportedReading, exportReading};
 ghost use Rattle.job_numbers.specs.Numbers.{jobIn};
-ghost use Rattle.exports.specs.Exports.{anyTables, ExportedOpening, ExportedStep, ExportedLookup, ExportedTotal, RowExported, sixOf};
+ghost use Rattle.exports.specs.Exports.{anyTables, ExportedOpening, ExportedStep, ExportedLookup, ExportedStrain, ExportedTotal, RowExported, sixOf};
 ghost use Rattle.row_reading.specs.Inner.{kindOf};
 
 // Labels a block; answers the refusal, 0 for none, and stores how many faces, curves and points there are.
@@ -447,6 +447,49 @@ pub extern "C" fn tugrelis_lookup(
     if r.refusal == 0 {
         *number = r.number;
     }
+    r.refusal
+}
+
+// Adds the readings of a block to the totals of its faces; answers the refusal, 0 for none.
+#[no_mangle]
+pub extern "C" fn tugrelis_strain(
+    job: &[u32; 13],
+    cx: &[u32],
+    cy: &[u32],
+    cz: &[u32],
+    blocks: &[u32],
+    face_numbers: &[u32],
+    came: &mut [u32],
+    face_sums: &mut [f64],
+    face_counts: &mut [u64],
+    block: u32,
+    map: &[u32],
+    values: &[f64],
+    kinds: &[u8],
+) -> u32
+    ensures { λ r. ⌜ ExportedStrain (now (job .entry)) Stage.Enrol (now (cx .entry)) (now (cy .entry)) (now (cz .entry))
+        (now (blocks .entry)) (now («face_numbers» .entry))
+        (totalTables (now (came .entry)) (now («face_sums» .entry)) (now («face_counts» .entry)))
+        block (now (map .entry)) (now (values .entry)) (now (kinds .entry)) r
+        (totalTables (now (came .exit)) (now («face_sums» .exit)) (now («face_counts» .exit))) ⌝ }
+{
+    let joining = Joining {
+        job: job_in(job, Stage::Enrol),
+    };
+    let r = joining.strain(
+        cx,
+        cy,
+        cz,
+        blocks,
+        face_numbers,
+        came,
+        face_sums,
+        face_counts,
+        block,
+        map,
+        values,
+        kinds,
+    );
     r.refusal
 }
 
