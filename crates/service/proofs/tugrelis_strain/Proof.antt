@@ -20,7 +20,9 @@ same-length-3 : tie.Need-same-length-3
 same-length-3 c = search needs
 
 returns : tie.Need-returns
-returns c = ?
+returns c =
+    let called = c .before .before .before .before .before .before in
+    strain-exported _ _ _ _ _ _ _ _ _ _ _ _ _ _ _ (called .before .before .before .before .job-in .ensures) (called .strain .ensures .1)
 
 pub tugrelis-strain-spec : {M : Type 1} → statement M
 tugrelis-strain-spec = tie.close (tie.spec job-in-requires strain-requires same-length same-length-2 same-length-3 returns)
