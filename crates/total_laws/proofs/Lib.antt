@@ -1,4 +1,4 @@
--- The laws of the totals, from one place of the tables to a closed job (ClosedLaws, where the promises of item 1 stand).
+-- The laws of the totals, from one place of the tables to a closed job (ClosedLaws, SideReadings).
 pub mod SlotLaws
 pub mod Reordering
 pub mod OwnCells
@@ -7,3 +7,4 @@ pub mod SideLaws
 pub mod GoodLaws
 pub mod StandingLaws
 pub mod ClosedLaws
+pub mod SideReadings
