@@ -161,7 +161,7 @@ module _ (o : Told) (own : ℕ → List ℕ) (ext : offSize 1024 (o .cutting .ex
       number = own-face (blockExtents k b) (starts k b) (g b) p (own-starts k b p owned) ∙ final-is (s .tables) b (getD (own b) p 0) ∙ final
 
   -- a face has fewer than 2^32 cells, and no more than the volume has
-  few : (n : ℕ) → length (component (k .extents) (uncut B) 2 n) < 2 ^ 32
+  pub few : (n : ℕ) → length (component (k .extents) (uncut B) 2 n) < 2 ^ 32
   few n = component-cells-fit (k .extents) (uncut B) 2 n (sized-of 1024 (k .extents) ext)
 
   within-cells : (n : ℕ) → length (component (k .extents) (uncut B) 2 n) ≤ cells (k .extents)

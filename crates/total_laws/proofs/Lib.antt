@@ -8,3 +8,4 @@ pub mod GoodLaws
 pub mod StandingLaws
 pub mod ClosedLaws
 pub mod SideReadings
+pub mod Recorded
