@@ -9,3 +9,4 @@ pub mod StandingLaws
 pub mod ClosedLaws
 pub mod SideReadings
 pub mod Recorded
+pub mod StrainSteps
