@@ -10,3 +10,5 @@ pub mod ClosedLaws
 pub mod SideReadings
 pub mod Recorded
 pub mod StrainSteps
+pub mod StrainStatement
+pub mod TotalsRead
