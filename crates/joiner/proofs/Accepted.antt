@@ -65,6 +65,7 @@ passed s c e =
 
 -- ---- a tick
 
+-- what is ticked after one tick more
 pub tick-at : (l : List ℕ) (step i : ℕ) → step < length l → not (eqb (getD (set l step 1) i 0) 0) ≡ (eqb step i || not (eqb (getD l i 0) 0))
 tick-at l step i h =
     by-test (eqb step i)

@@ -25,20 +25,21 @@ pub record Sizes (o : Told) (t : Tables) : Type 0 where
   pub firsts-long : (κ : Kind) → length (t .firsts κ) ≡ o .entries κ
   pub listed-long : (κ : Kind) → length (t .listed κ) ≡ width κ * o .entries κ
 
+-- two lists of tables that fit
 pub fits-both : (xs ys : List Tray) → lengthsFit xs ≡ true → lengthsFit ys ≡ true → lengthsFit (xs ++ ys) ≡ true
 unfolding lengthsFit
 fits-both [] ys a b = b
 fits-both (x ∷ xs) ys a b =
     and-both (eqb (x .has) (x .states)) (lengthsFit (xs ++ ys)) (and-first (eqb (x .has) (x .states)) (lengthsFit xs) a) (fits-both xs ys (and-second (eqb (x .has) (x .states)) (lengthsFit xs) a) b)
 
-pub fits-parts : (xs ys : List Tray) → lengthsFit (xs ++ ys) ≡ true → (lengthsFit xs ≡ true) × (lengthsFit ys ≡ true)
+fits-parts : (xs ys : List Tray) → lengthsFit (xs ++ ys) ≡ true → (lengthsFit xs ≡ true) × (lengthsFit ys ≡ true)
 unfolding lengthsFit
 fits-parts [] ys a = (refl, a)
 fits-parts (x ∷ xs) ys a =
     let r = fits-parts xs ys (and-second (eqb (x .has) (x .states)) (lengthsFit (xs ++ ys)) a) in
     (and-both (eqb (x .has) (x .states)) (lengthsFit xs) (and-first (eqb (x .has) (x .states)) (lengthsFit (xs ++ ys)) a) (r .0), r .1)
 
-pub one-fits : (n m : ℕ) → n ≡ m → lengthsFit (tray n m ∷ []) ≡ true
+one-fits : (n m : ℕ) → n ≡ m → lengthsFit (tray n m ∷ []) ≡ true
 unfolding lengthsFit
 one-fits n m e = rw (eq-eqb n m e) refl
 
@@ -69,6 +70,7 @@ module _ (o : Told) (t : Tables) where
     unfolding foundTrays
     found-fit κ = two-fit _ _ _ _ (S .keys-long κ) (S .rows-long κ)
 
+    -- the final numbers of a kind fit
     pub numbers-fit : (κ : Kind) → lengthsFit (numberTrays o t κ) ≡ true
     unfolding numberTrays
     numbers-fit κ = one-fits _ _ (S .numbers-long κ)

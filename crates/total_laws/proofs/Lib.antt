@@ -1,4 +1,5 @@
--- The laws of the totals, from one place of the tables to a closed job (ClosedLaws, SideReadings).
+-- The laws of the totals, from one place of the tables over a closed job (ClosedLaws, SideReadings) to lists of calls (StrainStatement, TotalsRead, where
+-- the promises of item 1 stand).
 pub mod SlotLaws
 pub mod Reordering
 pub mod OwnCells

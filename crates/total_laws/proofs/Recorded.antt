@@ -1,28 +1,28 @@
 -- What holds between the tables of the readings and the book of readings after each call of a list.
 -- Assumes nothing.
 use mathlib.Core.Path.{_≡_, refl, sym, ap, ap₂, _∙_, subst}
-use mathlib.Core.Bool.{Bool, true, false, not, _&&_, _||_, true≢false}
+use mathlib.Core.Bool.{true, false, not, true≢false}
 use mathlib.Core.Logic.{_≢_, ⊎-elim}
-use mathlib.Core.List.{List, [], _∷_, _++_, map, List·Memᴰ, List·Memᴰ·not-nil, List·Memᴰ·append-cases, Memᴰ·append-left, Memᴰ·append-right}
-use Prim.Native.Nat.{ℕ, zero, suc, _+_, _-_, _*_, _^_, _≤_, _<_}
+use mathlib.Core.List.{List, [], _++_, List·Memᴰ, List·Memᴰ·append-cases, Memᴰ·append-left, Memᴰ·append-right}
+use Prim.Native.Nat.{ℕ, _+_, _*_, _^_, _≤_, _<_}
 use native.Mathlib.Omega.{arith}
 use lib.Dec.{eqb}
-use lib.IntN.{ℤ, pos, _+ℤ_, natAbs, +ℤ-idl}
+use lib.IntN.{pos, natAbs, +ℤ-idl}
 use lib.ListN.{getD, length, length-map, List·getD-map}
 use lib.Ieee.{Float}
-use borrow.Author.Tests.{eqb-true, not-true, not-false}
-use Rattle.lists.specs.Lists.{consecutive, keep, allOf, isIn, zeros}
+use borrow.Author.Tests.{eqb-true, not-true}
+use Rattle.lists.specs.Lists.{consecutive, keep, allOf, isIn}
 use Rattle.lists.proofs.Cases.{by-test, and-both, and-first, and-second}
 use Rattle.lists.proofs.Lists.{ascends-consecutive, ascends-keep, consecutive-in, consecutive-out, keep-in, keep-out, length-zeros, zeros-at}
 use Rattle.lists.proofs.Tests.{all-in, all-out, in-is, is-in}
-use Rattle.cells.specs.Box.{Triple, volume}
+use Rattle.cells.specs.Box.{volume}
 use Rattle.cells.specs.Extents.{offSize}
 use Rattle.cells.specs.Grid.{cells}
 use Rattle.labels.specs.Components.{component}
 use Rattle.cutting.specs.Cutting.{Cutting, blocks, goodCut, blockExtents}
 use Rattle.joiner.specs.Book.{Book, uncut}
 use Rattle.joiner.specs.Declines.{numberStands}
-use Rattle.joiner.specs.Job.{Face, State, Told, Tables, countOf, fromOf, lengthsFit, stageNumber, tray}
+use Rattle.joiner.specs.Job.{Face, State, Told, Tables, countOf, fromOf, lengthsFit, stageNumber}
 use Rattle.joiner.specs.Statement.{Labelling}
 use Rattle.joiner.proofs.Linking.{number-stands}
 use Rattle.joiner.proofs.Simulation.{Sim, enrolled-block}
@@ -33,7 +33,6 @@ use Rattle.strains.proofs.Sums.{size-summed}
 use Rattle.strains.proofs.Whole.{units-float}
 use Rattle.totals.specs.Totals.{slotOf, readingAt, readingsFor, sideAt, givenSide, totalsOf, standsAt, bothStand}
 use Rattle.totals.specs.declared.Side.{Side}
-use Rattle.totals.specs.declared.Totals.{Totals}
 use Rattle.strain_calls.specs.Tables.{TotalTables, totalTrays, zeroed}
 use Rattle.strain_calls.specs.Calls.{allCome}
 use Rattle.strain_calls.specs.Declines.{hasCome, totalStands, faceStands, facesStand}

@@ -58,7 +58,7 @@ module _ (n n′ side : ℕ) (h : 0 < n) (h′ : 0 < n′) (hs : side ≤ 1) (x 
   unfolding slotOf
   slot-other t ht e = ne-eqb (2 * (n - 1) + t) (2 * (n′ - 1) + side) (λ q. e (omega arith))
 
-  pub slot-here : (t : ℕ) → t ≤ 1 → n ≡ n′ → t ≡ side → eqb (slotOf n t) (slotOf n′ side) ≡ true
+  slot-here : (t : ℕ) → t ≤ 1 → n ≡ n′ → t ≡ side → eqb (slotOf n t) (slotOf n′ side) ≡ true
   unfolding slotOf
   slot-here t ht e f = eq-eqb (2 * (n - 1) + t) (2 * (n′ - 1) + side) (omega arith)
 

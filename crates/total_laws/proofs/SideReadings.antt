@@ -1,6 +1,6 @@
 -- The readings that the blocks take for a side of a face are those of the voxels on that side of the uncut face.
 -- Assumes nothing.
-use mathlib.Core.Path.{_≡_, refl, sym, ap, ap₂, _∙_, subst}
+use mathlib.Core.Path.{_≡_, refl, sym, ap, ap₂, _∙_}
 use mathlib.Core.Bool.{Bool, true, false, cond}
 use mathlib.Core.Logic.{_≢_}
 use mathlib.Core.List.{List, [], _∷_, _++_, map, map-map, List·Memᴰ, List·Memᴰ·head, List·Memᴰ·tail}
@@ -24,6 +24,7 @@ use Rattle.labels.specs.Components.{ofOrder, component}
 use Rattle.labels.proofs.ComponentLaws.{of-order-out}
 use Rattle.cutting.specs.Cutting.{Cutting, blocks, goodCut, blockExtents, embed}
 use Rattle.cutting.specs.Nodes.{part, uncutMap}
+use Rattle.cutting.proofs.RenameLaws.{keep-map}
 use Rattle.cutting.proofs.BlockLaws.{voxel-same, face-row}
 use Rattle.cutting.proofs.CutLaws.{embed-order, embed-up}
 use Rattle.joiner.specs.Book.{Book, uncut}
@@ -41,7 +42,7 @@ use Rattle.strain_calls.specs.Book.{onSide, sideReadings, readingFrom}
 use Rattle.summing.specs.Summing.{Brought}
 use Rattle.total_laws.specs.Volume.{takenAt, volumeTaken, Parted, Shows, broughtTo}
 use Rattle.total_laws.proofs.OwnCells.{embed-local}
-use Rattle.total_laws.proofs.SideLaws.{pair-up, pair-down, slot-here, slot-side, row-is, face-is, one-each, cell-zero, cell-other, for-split}
+use Rattle.total_laws.proofs.SideLaws.{pair-up, pair-down, slot-side, row-is, face-is, one-each, cell-zero, cell-other, for-split}
 use Rattle.total_laws.proofs.ClosedLaws.{closed-shows}
 
 -- ---- one of two
@@ -144,12 +145,8 @@ beside e m side p q hp i = upper-neighbour e p hp (keep-out _ (upperNeighbours e
 
 -- ---- the block's cell in the volume
 
-keep-map : (f : ℕ → Bool) (g : ℕ → ℕ) (l : List ℕ) → keep f (map g l) ≡ map g (keep (λ q. f (g q)) l)
-keep-map f g [] = refl
-keep-map f g (q ∷ l) =
-    by-test (f (g q)) (λ t. rw t (ap (λ (r : List ℕ). g q ∷ r) (keep-map f g l))) (λ t. rw t (keep-map f g l))
-
-map-alike : (f g : ℕ → Reading) (l : List ℕ) → ((q : ℕ) → List·Memᴰ q l → f q ≡ g q) → map f l ≡ map g l
+-- readings that are the same at each entry of a list
+pub map-alike : (f g : ℕ → Reading) (l : List ℕ) → ((q : ℕ) → List·Memᴰ q l → f q ≡ g q) → map f l ≡ map g l
 map-alike f g [] h = refl
 map-alike f g (q ∷ l) h = ap₂ (λ (x : Reading) (r : List Reading). x ∷ r) (h q (List·Memᴰ·head refl)) (map-alike f g l (λ q m. h q (List·Memᴰ·tail m)))
 

@@ -1,13 +1,13 @@
 -- One call of item 1 against the day book and the book of readings.
 -- Assumes nothing.
 use mathlib.Core.Path.{_≡_, refl, sym, ap, ap₂, _∙_, subst}
-use mathlib.Core.Bool.{Bool, true, false, not, cond, _&&_, _||_, true≢false}
-use mathlib.Core.Logic.{_↔_, _≢_, ⊎-elim}
-use mathlib.Core.List.{List, [], _∷_, _++_, List·Memᴰ, List·Memᴰ·head, List·Memᴰ·not-nil, List·Memᴰ·cases-cons, List·Memᴰ·append-cases}
+use mathlib.Core.Bool.{Bool, true, false, not, _&&_, _||_, true≢false}
+use mathlib.Core.Logic.{_≢_, ⊎-elim}
+use mathlib.Core.List.{List, [], _∷_, _++_, List·Memᴰ, List·Memᴰ·not-nil, List·Memᴰ·cases-cons, List·Memᴰ·append-cases}
 use Prim.Native.Nat.{ℕ, _*_, _≤_, _<_}
 use native.Mathlib.Omega.{arith}
 use lib.Dec.{eqb, leb, ltb}
-use lib.ListN.{getD, length, length-set, set}
+use lib.ListN.{length, length-set}
 use lib.Ieee.{Float}
 use borrow.Author.Tests.{eqb-true, eqb-false, eq-eqb, ne-eqb, leb-true, ltb-true, not-false}
 use Rattle.lists.specs.Lists.{consecutive, isIn, someOf}
@@ -18,7 +18,6 @@ use Rattle.refusals.proofs.RefusalLaws.{given-none}
 use Rattle.cells.specs.Box.{volume}
 use Rattle.cells.specs.Extents.{offSize}
 use Rattle.cells.specs.Grid.{cells}
-use Rattle.cells.specs.Row.{sameRow}
 use Rattle.cutting.specs.Cutting.{Cutting, blocks, goodCut, blockExtents}
 use Rattle.joiner.specs.Book.{Book, uncutCount}
 use Rattle.joiner.specs.Declines.{mapStands, talliesFit}
@@ -29,12 +28,11 @@ use Rattle.joiner.proofs.Inv.{Inv, and-so, fit, own-of, tallies-fit}
 use Rattle.joiner.proofs.Ladder.{Alongside, Bookish, EarlyOnly, given-agree, given-early, given-early-only, given-stray}
 use Rattle.joiner.proofs.Simulation.{Sim, maps-at, total-at}
 use Rattle.joiner.proofs.Sizes.{fits-both, numbers-fit}
-use Rattle.strains.specs.Readings.{isGood}
-use Rattle.totals.specs.Totals.{readingAt, readingsFit, sumsWith, countsWith, totalsOf}
+use Rattle.totals.specs.Totals.{sumsWith, countsWith}
 use Rattle.totals.proofs.TotalLaws.{fit-good}
 use Rattle.strain_calls.specs.Tables.{TotalTables, totalTrays}
 use Rattle.strain_calls.specs.Adding.{blockAdds, cellAdds, countedCells, gathered}
-use Rattle.strain_calls.specs.Calls.{StrainCall, strain, total, StrainAnswer, strainAnswer, noTotals, allCome, inStage, hasPlace, again, listsFit, badReading}
+use Rattle.strain_calls.specs.Calls.{StrainCall, strain, total, StrainAnswer, strainAnswer, allCome, inStage, hasPlace, again, listsFit, badReading}
 use Rattle.strain_calls.specs.Declines.{hasCome, lentFor, totalStands, facesStand, strainStands, strainDeclines, strainRefusal}
 use Rattle.strain_calls.specs.Entries.{StrainDone, StrainStep, withReadings}
 use Rattle.strain_calls.specs.Book.{ReadingBook, strainEarlyCases, strainBookDeclines, strainBookRefusal, strainBookEarly, bringsMap, strainAccepts, readingsAfter, turnedReadings, strainBookAnswer}
@@ -131,9 +129,9 @@ module _ (o : Told) (own : ℕ → List ℕ) (ext : offSize 1024 (o .cutting .ex
           f-record = refl;
           stage = ap not (stage-same c);
           early = λ t. (
-              ap not (place-same (closed-of t) c),
-              again-same c,
-              ap not (and-so o own ext good lab B s I (listsFit (s .job .told .cutting) c) (lengthsFit (lentFor (s .job .told) (s .tables) w c)) (ap (λ (z : Told). lengthsFit (lentFor z (s .tables) w c)) (I .told) ∙ lent-fits c) ∙ ap (λ (z : Told). listsFit (z .cutting) c) alike),
+            ap not (place-same (closed-of t) c),
+            again-same c,
+            ap not (and-so o own ext good lab B s I (listsFit (s .job .told .cutting) c) (lengthsFit (lentFor (s .job .told) (s .tables) w c)) (ap (λ (z : Told). lengthsFit (lentFor z (s .tables) w c)) (I .told) ∙ lent-fits c) ∙ ap (λ (z : Told). listsFit (z .cutting) c) alike),
           );
         }
 

@@ -4,7 +4,7 @@ use mathlib.Core.Path.{_≡_, refl, sym, ap, ap₂, _∙_, subst}
 use mathlib.Core.Bool.{true, false}
 use mathlib.Core.Logic.{⊎-elim}
 use mathlib.Core.List.{List, [], _∷_, _++_, map, List·Memᴰ, List·Memᴰ·head, List·Memᴰ·tail, List·Memᴰ·not-nil, List·Memᴰ·cases-cons, List·Memᴰ·append-cases}
-use Prim.Native.Nat.{ℕ, _+_, _≤_, _<_}
+use Prim.Native.Nat.{ℕ, _≤_, _<_}
 use native.Mathlib.Omega.{arith}
 use lib.Dec.{eqb, leb, ltb}
 use lib.ListN.{getD, length}
@@ -39,6 +39,7 @@ use Rattle.strain_calls.specs.Entries.{StrainStep}
 use Rattle.strain_calls.specs.Book.{ReadingBook, noReadings, strainAccepts, readingsAfter, turnedReadings, onSide, sideReadings, sideTotals, faceTotals, readingFrom, bookTotals}
 use Rattle.strain_calls.specs.Statement.{StrainEntry, LongFair, BringsLists, TotalRead, uncutMap, TotalsExact, countedOn, TotalsWhole, OrderFree}
 use Rattle.total_laws.proofs.SlotLaws.{kinds-all}
+use Rattle.total_laws.proofs.SideReadings.{map-alike}
 use Rattle.total_laws.proofs.Recorded.{Emptied, opened-empty, Recorded, each-come, side-long}
 use Rattle.total_laws.proofs.StrainSteps.{Passed, one-reading}
 use Rattle.total_laws.proofs.StrainStatement.{base-recorded, begun-recorded}
@@ -50,15 +51,11 @@ gathered-same f g [] h = refl
 gathered-same f g (t ∷ l) h = ap₂ (λ (a b : List Reading). a ++ b) (h t (List·Memᴰ·head refl)) (gathered-same f g l (λ q m. h q (List·Memᴰ·tail m)))
 
 module _ (e : Triple) (m : List ℕ) (f g : ℕ → ℕ → Reading) (n : ℕ) (h : (t : ℕ) → t < cells e → (q : ℕ) → f t q ≡ g t q) where
-  map-read : (t : ℕ) → t < cells e → (l : List ℕ) → map (f t) l ≡ map (g t) l
-  map-read t ht [] = refl
-  map-read t ht (q ∷ l) = ap₂ (λ (x : Reading) (r : List Reading). x ∷ r) (h t ht q) (map-read t ht l)
-
   side-same : (side : ℕ) → sideReadings e m f n side ≡ sideReadings e m g n side
   unfolding sideReadings component
   side-same side =
       gathered-same (λ t. map (f t) (onSide e m side t)) (λ t. map (g t) (onSide e m side t)) (component e m 2 n)
-      (λ t i. map-read t (of-order-out e 2 (keep-out (λ p. eqb (getD m p 0) n) (ofOrder e 2) i .0) .0) (onSide e m side t))
+      (λ t i. map-alike (f t) (g t) (onSide e m side t) (λ q j. h t (of-order-out e 2 (keep-out (λ p. eqb (getD m p 0) n) (ofOrder e 2) i .0) .0) q))
 
   face-same : faceTotals e m f n ≡ faceTotals e m g n
   unfolding faceTotals
