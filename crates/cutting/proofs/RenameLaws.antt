@@ -95,7 +95,8 @@ once-renamed g xs r x m =
     ap₂ (λ (s t : Bool). cond s false t) (ap (eqb (g x)) (sym (r .nought)) ∙ eqb-renamed g x 0 (λ q. r .zeros x m (q ∙ r .nought)))
     (ap (λ (n : ℕ). eqb n 1) (occurrences-renamed g x xs (λ y k. r .apart x y m k)))
 
-keep-map : (h : ℕ → Bool) (g : ℕ → ℕ) (l : List ℕ) → keep h (map g l) ≡ map g (keep (λ x. h (g x)) l)
+-- what is kept of renamed entries
+pub keep-map : (h : ℕ → Bool) (g : ℕ → ℕ) (l : List ℕ) → keep h (map g l) ≡ map g (keep (λ x. h (g x)) l)
 keep-map h g [] = refl
 keep-map h g (x ∷ l) = by-test (h (g x)) (λ t. rw t (ap {B = List ℕ} (λ r. g x ∷ r) (keep-map h g l))) (λ t. rw t (keep-map h g l))
 

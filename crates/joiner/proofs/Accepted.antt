@@ -65,7 +65,8 @@ passed s c e =
 
 -- ---- a tick
 
-tick-at : (l : List ℕ) (step i : ℕ) → step < length l → not (eqb (getD (set l step 1) i 0) 0) ≡ (eqb step i || not (eqb (getD l i 0) 0))
+-- what is ticked after one tick more
+pub tick-at : (l : List ℕ) (step i : ℕ) → step < length l → not (eqb (getD (set l step 1) i 0) 0) ≡ (eqb step i || not (eqb (getD l i 0) 0))
 tick-at l step i h =
     by-test (eqb step i)
     (λ t. let e : step ≡ i = eqb-true step i t in rw t (ap (λ (j : ℕ). not (eqb (getD (set l step 1) j 0) 0)) (sym e) ∙ ap (λ (x : ℕ). not (eqb x 0)) (getD-set-same l step 1 0 h) ∙ refl))

@@ -116,7 +116,8 @@ module _ (o : Told) (own : ℕ → List ℕ) (ext : offSize 1024 (o .cutting .ex
       and-both (leb (s .job .sofar κ) (s .job .told .entries κ)) (leb (s .job .numbered κ) (s .job .told .entries κ))
       (le-leb _ _ (tally-in κ)) (le-leb (s .job .numbered κ) (s .job .told .entries κ) (omega (arith, I .numbered κ, tally-in κ)))
 
-  tallies-fit : talliesFit (s .job) ≡ true
+  -- the tallies are within the tables
+  pub tallies-fit : talliesFit (s .job) ≡ true
   unfolding talliesFit
   tallies-fit =
       and-both (tallyFits (s .job) Face) (tallyFits (s .job) Curve && tallyFits (s .job) Point) (tally-fits Face)
@@ -182,7 +183,8 @@ module _ (o : Told) (own : ℕ → List ℕ) (ext : offSize 1024 (o .cutting .ex
   unfolding full overfull
   full-same e f g f′ g′ h k = rw (h Face, h Curve, h Point, k Face, k Curve, k Point) refl
 
-  and-so : (t u : Bool) → u ≡ true → (t && u) ≡ t
+  -- a test beside one that holds
+  pub and-so : (t u : Bool) → u ≡ true → (t && u) ≡ t
   and-so true u e = e
   and-so false u e = refl
 
@@ -278,7 +280,8 @@ module _ (o : Told) (own : ℕ → List ℕ) (ext : offSize 1024 (o .cutting .ex
   pub own-of : 0 < stageNumber (B .stage) → (b : ℕ) → b < blocks (o .cutting) → (m : List ℕ) → sameRow m (B .maps b) ≡ true → m ≡ own b
   own-of h b hb m e = same-row m (B .maps b) e ∙ I .maps b hb (enrolled h b hb)
 
-  fit : (b : ℕ) (m : List ℕ) → b < blocks (o .cutting) → 0 < stageNumber (B .stage) → sameRow m (B .maps b) ≡ true → mapStands s (blockExtents (s .job .told .cutting) b) b m ≡ true
+  -- a map that the book takes for the block's stands
+  pub fit : (b : ℕ) (m : List ℕ) → b < blocks (o .cutting) → 0 < stageNumber (B .stage) → sameRow m (B .maps b) ≡ true → mapStands s (blockExtents (s .job .told .cutting) b) b m ≡ true
   fit b m hb h e = ap₂ (λ (z : Told) (x : List ℕ). mapStands s (blockExtents (z .cutting) b) b x) (I .told) (own-of h b hb m e) ∙ map-stands b hb (enrolled h b hb)
 
   links-stand : (b : ℕ) → b < blocks (o .cutting) → 0 < stageNumber (B .stage) → linksStand s b ≡ true

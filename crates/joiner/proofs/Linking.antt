@@ -49,7 +49,8 @@ module _ (s : State) (faces : Sound s Face) (curves : Sound s Curve) where
       (at-below (s .tables .links Face) (s .job .sofar Face) faces) (at-below (s .tables .links Curve) (s .job .sofar Curve) curves)
 
 module _ (s : State) where
-  number-stands : (κ : Kind) → Within s κ → (x : ℕ) → x < s .job .sofar κ → numberStands s κ x ≡ true
+  -- the final number of an enrolled one stands
+  pub number-stands : (κ : Kind) → Within s κ → (x : ℕ) → x < s .job .sofar κ → numberStands s κ x ≡ true
   unfolding numberStands
   number-stands κ w x h = and-both (ltb 0 (getD (s .tables .numbers κ) x 0)) (leb (getD (s .tables .numbers κ) x 0) (s .job .numbered κ)) (lt-ltb _ _ (w x h .0)) (le-leb _ _ (w x h .1))
 

@@ -100,7 +100,8 @@ module _ (o : Told) (own : ℕ → List ℕ) (ext : offSize 1024 (o .cutting .ex
     abbrev I : Inv o own B s
     I = S .inv
 
-    total-at : stageNumber (B .stage) ≡ 4 → (κ : Kind) → s .job .numbered κ ≡ uncutCount B κ
+    -- a closed job's count is the uncut volume's
+    pub total-at : stageNumber (B .stage) ≡ 4 → (κ : Kind) → s .job .numbered κ ≡ uncutCount B κ
     unfolding uncutCount
     total-at q κ = closed-uncut B s S q κ .total
 
@@ -112,7 +113,8 @@ module _ (o : Told) (own : ℕ → List ℕ) (ext : offSize 1024 (o .cutting .ex
     places (look b m c) h = refl
     places (reading κ n) h = ap (λ (x : ℕ). ltb 0 n && leb n x) (total-at (h ∙ numbers-of .4) κ)
 
-    enrolled-block : 3 ≤ stageNumber (B .stage) → (b : ℕ) → b < blocks (o .cutting) → Enrolled s b Face × Enrolled s b Curve
+    -- after the crossings every block is enrolled
+    pub enrolled-block : 3 ≤ stageNumber (B .stage) → (b : ℕ) → b < blocks (o .cutting) → Enrolled s b Face × Enrolled s b Curve
     enrolled-block l b hb = block-in o own ext good lab B s I b hb (enrolled o own ext good lab B s I (omega (arith, l)) b hb)
 
     -- ---- the refusal of a call with its blocks' maps
@@ -145,10 +147,12 @@ module _ (o : Told) (own : ℕ → List ℕ) (ext : offSize 1024 (o .cutting .ex
     placed-at : (c : Call) → refusal s c ≡ 0 → placed (o .cutting) (s .job .numbered) c ≡ true
     placed-at c r = ap (λ (z : Told). placed (z .cutting) (s .job .numbered) c) (sym (I .told)) ∙ passed s c r .placed-in
 
-    book-stage : (c : Call) → refusal s c ≡ 0 → B .stage ≡ stageOf c
+    -- the book's stage is that of an accepted call
+    pub book-stage : (c : Call) → refusal s c ≡ 0 → B .stage ≡ stageOf c
     book-stage c r = sym (I .stage) ∙ passed s c r .stage
 
-    maps-at : (b : ℕ) → b < blocks (o .cutting) → 0 < stageNumber (B .stage) → (m : List ℕ) → m ≡ own b → sameRow m (B .maps b) ≡ true
+    -- a block's own map is the one that the book keeps
+    pub maps-at : (b : ℕ) → b < blocks (o .cutting) → 0 < stageNumber (B .stage) → (m : List ℕ) → m ≡ own b → sameRow m (B .maps b) ≡ true
     maps-at b hb h m e = ap₂ sameRow e (I .maps b hb (enrolled o own ext good lab B s I h b hb)) ∙ row-same (own b)
 
     past : (c : Call) → refusal s c ≡ 0 → 0 < stageNumber (stageOf c) → 0 < stageNumber (B .stage)

@@ -25,7 +25,8 @@ pub record Sizes (o : Told) (t : Tables) : Type 0 where
   pub firsts-long : (κ : Kind) → length (t .firsts κ) ≡ o .entries κ
   pub listed-long : (κ : Kind) → length (t .listed κ) ≡ width κ * o .entries κ
 
-fits-both : (xs ys : List Tray) → lengthsFit xs ≡ true → lengthsFit ys ≡ true → lengthsFit (xs ++ ys) ≡ true
+-- two lists of tables that fit
+pub fits-both : (xs ys : List Tray) → lengthsFit xs ≡ true → lengthsFit ys ≡ true → lengthsFit (xs ++ ys) ≡ true
 unfolding lengthsFit
 fits-both [] ys a b = b
 fits-both (x ∷ xs) ys a b =
@@ -69,7 +70,8 @@ module _ (o : Told) (t : Tables) where
     unfolding foundTrays
     found-fit κ = two-fit _ _ _ _ (S .keys-long κ) (S .rows-long κ)
 
-    numbers-fit : (κ : Kind) → lengthsFit (numberTrays o t κ) ≡ true
+    -- the final numbers of a kind fit
+    pub numbers-fit : (κ : Kind) → lengthsFit (numberTrays o t κ) ≡ true
     unfolding numberTrays
     numbers-fit κ = one-fits _ _ (S .numbers-long κ)
 

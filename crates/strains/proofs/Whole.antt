@@ -1,11 +1,11 @@
 -- A float that is not negative is a whole number of 1,024ths exactly where adding 2 ^ 42 and taking it away again gives it back.
 -- Assumes nothing.
 use mathlib.Core.Path.{_≡_, refl, sym, ap, ap₂, _∙_, subst}
-use Prim.Native.Nat.{ℕ, zero, suc, _+_, _-_, _*_, _%_, _^_, _≤_, _<_, zero-le}
-use native.Mathlib.Nat.{mul-assoc, mul-one, one-mul, mul-right-comm, mul-pos, mul-mod-left, zero-lt-suc, lt-of-lt-of-le, lt-of-le-of-lt, le-of-lt, le-trans, le-of-eq, mul-lt-mul-of-pos-right, mul-le-mul-right, lt-of-mul-lt-mul-right, le-of-mul-le-mul-right, not-le-of-lt, zero-mul, eq-of-mul-eq-mul-right}
+use Prim.Native.Nat.{ℕ, zero, suc, _+_, _-_, _*_, _/_, _%_, _^_, _≤_, _<_, zero-le}
+use native.Mathlib.Nat.{mul-assoc, mul-one, one-mul, mul-right-comm, mul-pos, mul-div-cancel, mul-mod-left, zero-lt-suc, lt-of-lt-of-le, lt-of-le-of-lt, le-of-lt, le-trans, le-of-eq, mul-lt-mul-of-pos-right, mul-le-mul-right, lt-of-mul-lt-mul-right, le-of-mul-le-mul-right, not-le-of-lt, zero-mul, eq-of-mul-eq-mul-right}
 use native.Mathlib.Omega.{arith}
 use mathlib.Core.Bool.{Bool, true, false, cond, _&&_, _||_, Bool·beq, true≢false}
-use lib.IntN.{ℤ, pos, negsuc, natAbs}
+use lib.IntN.{ℤ, pos, negsuc, negℤ, natAbs}
 use lib.Dec.{T, ltb, eqb, leb, ltb→lt, eqb→eq, leb→le, le→leb, eqb-refl, lit≤, lit<}
 use lib.Pow.{pow-add, pow-pos, pow-mono}
 use lib.Ieee.{Float, nan, inf, fin, binary64, up, down, round, sum, add, sub, neg, eq, le, lt, fits}
@@ -15,7 +15,7 @@ use lib.Ieee.Fits.{up-pos, down-pos, and-l, and-r, and-i, round-fits}
 use lib.Ieee.Order.{round-mono}
 use borrow.Author.Tests.{lt-ltb, le-ltb, ltb-true, ltb-false, eqb-true, eq-eqb, leb-true, leb-false}
 use Rattle.lists.proofs.Cases.{by-test}
-use Rattle.strains.specs.Units.{isUnits, floatOf}
+use Rattle.strains.specs.Units.{isUnits, unitsOf, floatOf}
 use Rattle.strains.proofs.Exact.{exact-size, exactly, signOf, sized, add-has}
 
 -- 2 ^ 42, from which on every float is a whole number of 1,024ths
@@ -332,3 +332,19 @@ has-units (fin t m e) s n most h l = units-true most t m e n (h .1) (le-trans (l
 
 pub float-units : (z : ℤ) (most : ℕ) → natAbs z < 2 ^ 53 → natAbs z ≤ most → isUnits most (floatOf z) ≡ true
 float-units z most h l = has-units (floatOf z) (signOf z) (natAbs z) most (exactly z h) l
+
+-- how many 1,024ths a float of such a value is
+units-has : (x : Float) (s : Bool) (n : ℕ) → HasValue x s n 1024 → unitsOf x ≡ cond s (negℤ (pos n)) (pos n)
+unfolding unitsOf
+units-has nan s n h = absurd h
+units-has (inf _) s n h = absurd h
+units-has (fin t m e) s n h = ap₂ (λ (b : Bool) (i : ℕ). cond b (negℤ (pos i)) (pos i)) (h .0) (ap (λ (i : ℕ). i / down e) (h .1) ∙ mul-div-cancel n (down-pos e))
+
+sign-back : (z : ℤ) → cond (signOf z) (negℤ (pos (natAbs z))) (pos (natAbs z)) ≡ z
+unfolding signOf
+sign-back (pos n) = refl
+sign-back (negsuc n) = refl
+
+-- .. and of the float of z 1,024ths it is z
+pub units-float : (z : ℤ) → natAbs z < 2 ^ 53 → unitsOf (floatOf z) ≡ z
+units-float z h = units-has (floatOf z) (signOf z) (natAbs z) (exactly z h) ∙ sign-back z

@@ -1,16 +1,14 @@
 -- What the definition adds for a block's readings is what is taken at its own face cells.
 -- Assumes nothing.
 use mathlib.Core.Path.{_≡_, refl, sym, ap, _∙_}
-use mathlib.Core.Bool.{true, false, cond}
+use mathlib.Core.Bool.{true, false}
 use mathlib.Core.List.{List, [], _∷_, _++_, List·Memᴰ, List·Memᴰ·head, List·Memᴰ·tail}
 use Prim.Native.Nat.{ℕ, _<_}
-use lib.Dec.{eqb}
 use lib.ListN.{getD}
 use lib.Ieee.{Float}
 use Rattle.lists.specs.Lists.{keep}
 use Rattle.lists.proofs.Cases.{by-test}
-use Rattle.cells.specs.Box.{place}
-use Rattle.cells.specs.Grid.{sides, cells}
+use Rattle.cells.specs.Grid.{cells}
 use Rattle.labels.specs.Components.{ofOrder}
 use Rattle.labels.proofs.ComponentLaws.{of-order-out}
 use Rattle.cutting.specs.Cutting.{Cutting, blocks, goodCut, blockExtents}
@@ -18,8 +16,8 @@ use Rattle.joiner.specs.Declines.{finalOf}
 use Rattle.joiner.specs.Job.{Face, Tables, fromOf, node}
 use Rattle.findings.specs.Findings.{finalIn}
 use Rattle.totals.specs.Totals.{Taken}
-use Rattle.strain_calls.specs.Adding.{gathered, faceTaken, isLowest, countedCells, cellAdds}
-use Rattle.lowest.specs.Lowest.{starts, startsBy, ownCell}
+use Rattle.strain_calls.specs.Adding.{gathered, isLowest, countedCells, cellAdds}
+use Rattle.lowest.specs.Lowest.{starts, ownCell}
 use Rattle.lowest.proofs.LowestLaws.{own-lowest}
 use Rattle.summing.specs.Summing.{Brought, brought, faceAt, ownFace, cellTaken, blockTaken}
 

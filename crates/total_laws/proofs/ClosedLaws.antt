@@ -30,7 +30,7 @@ use Rattle.cutting.proofs.CutLaws.{embed-order}
 use Rattle.joiner.specs.Book.{Book, uncut}
 use Rattle.joiner.specs.Declines.{finalOf}
 use Rattle.joiner.specs.Entries.{cellNumber, lookedUp}
-use Rattle.joiner.specs.Job.{Face, Point, State, Told, Tables, fromOf, node, stageNumber}
+use Rattle.joiner.specs.Job.{Face, Point, State, Told, Tables, stageNumber}
 use Rattle.joiner.specs.Stages.{hasCell, local, lowestBlock}
 use Rattle.joiner.specs.Statement.{Labelling}
 use Rattle.joiner.proofs.Codes.{has-held, lowest-has}
@@ -43,6 +43,7 @@ use Rattle.totals.specs.Totals.{slotOf, readingsFor, standsAt}
 use Rattle.lowest.specs.Lowest.{ownCell, starts, startsBy}
 use Rattle.lowest.proofs.LowestLaws.{own-lowest}
 use Rattle.summing.specs.Summing.{Brought, faceAt, ownFace}
+use Rattle.summing.proofs.AddingLaws.{final-is}
 use Rattle.total_laws.specs.Volume.{Parted, Shows, broughtTo, volumeTaken, sumsOver, countsOver}
 use Rattle.total_laws.proofs.OwnCells.{lowest-true}
 use Rattle.total_laws.proofs.SlotLaws.{kind-few}
@@ -98,10 +99,6 @@ parted e m L p hp o z =
 final-zero : (t : Tables) (b n : ℕ) → n ≡ 0 → finalOf t Face b n ≡ 0
 unfolding finalOf
 final-zero t b n z = rw (eq-eqb n 0 z)
-
-final-is : (t : Tables) (b n : ℕ) → finalIn (t .numbers Face) (fromOf t Face b) n ≡ finalOf t Face b n
-unfolding finalOf finalIn node
-final-is t b n = refl
 
 number-face : (k : Cutting) (t : Tables) (points b : ℕ) (m : List ℕ) (c : Triple) (p : ℕ) → order (blockExtents k b) p ≡ 2 → cellNumber k t points b m c p ≡ finalOf t Face b (getD m p 0)
 unfolding cellNumber
@@ -164,7 +161,7 @@ module _ (o : Told) (own : ℕ → List ℕ) (ext : offSize 1024 (o .cutting .ex
       number = own-face (blockExtents k b) (starts k b) (g b) p (own-starts k b p owned) ∙ final-is (s .tables) b (getD (own b) p 0) ∙ final
 
   -- a face has fewer than 2^32 cells, and no more than the volume has
-  few : (n : ℕ) → length (component (k .extents) (uncut B) 2 n) < 2 ^ 32
+  pub few : (n : ℕ) → length (component (k .extents) (uncut B) 2 n) < 2 ^ 32
   few n = component-cells-fit (k .extents) (uncut B) 2 n (sized-of 1024 (k .extents) ext)
 
   within-cells : (n : ℕ) → length (component (k .extents) (uncut B) 2 n) ≤ cells (k .extents)
@@ -178,35 +175,35 @@ module _ (o : Told) (own : ℕ → List ℕ) (ext : offSize 1024 (o .cutting .ex
       )
 
   -- Each side of face n has as many readings as the face has cells in the uncut map.
-  pub totals-whole : (n side : ℕ) → 0 < n → side ≤ 1 → length (readingsFor (slotOf n side) (volumeTaken k g)) ≡ length (component (k .extents) (uncut B) 2 n)
-  totals-whole n side hn hs = side-whole k g (uncut B) n side hn hs closed-shows
+  pub table-whole : (n side : ℕ) → 0 < n → side ≤ 1 → length (readingsFor (slotOf n side) (volumeTaken k g)) ≡ length (component (k .extents) (uncut B) 2 n)
+  table-whole n side hn hs = side-whole k g (uncut B) n side hn hs closed-shows
 
   -- With the readings of all blocks come, in any order, "sums are then exact, and .. equal the sum over whole 1,024ths" ..
   module _ (bs : List ℕ) (all : Reordered bs (consecutive 0 (blocks k))) (n side : ℕ) (hn : 0 < n) (hs : side ≤ 1) where
-    pub totals-exact : (sums : List Float) → slotOf n side < length sums → getD sums (slotOf n side) plusZero ≡ plusZero → allOf isGood (readingsFor (slotOf n side) (volumeTaken k g)) ≡ true
+    pub table-exact : (sums : List Float) → slotOf n side < length sums → getD sums (slotOf n side) plusZero ≡ plusZero → allOf isGood (readingsFor (slotOf n side) (volumeTaken k g)) ≡ true
         → getD (sumsOver k g sums bs) (slotOf n side) plusZero ≡ floatOf (unitsSum (readingsFor (slotOf n side) (volumeTaken k g)))
-    totals-exact sums h z ok = total-exact k good g bs all (slotOf n side) sums h z ok (omega (arith, few n, totals-whole n side hn hs))
+    table-exact sums h z ok = total-exact k good g bs all (slotOf n side) sums h z ok (omega (arith, few n, table-whole n side hn hs))
 
     -- .. and the counts are the numbers of strains, clipped and missing among the same readings.
-    pub totals-counted : (j : ℕ) → j ≤ 2 → (counts : List ℕ) → 3 * slotOf n side + j < length counts → getD counts (3 * slotOf n side + j) 0 ≡ 0
+    pub table-counted : (j : ℕ) → j ≤ 2 → (counts : List ℕ) → 3 * slotOf n side + j < length counts → getD counts (3 * slotOf n side + j) 0 ≡ 0
         → getD (countsOver k g counts bs) (3 * slotOf n side + j) 0 ≡ ofKind j (readingsFor (slotOf n side) (volumeTaken k g))
-    totals-counted j hj counts h z =
-        total-counted k good g bs all (slotOf n side) j hj counts h z (omega (arith, kind-few j (readingsFor (slotOf n side) (volumeTaken k g)), few n, totals-whole n side hn hs))
+    table-counted j hj counts h z =
+        total-counted k good g bs all (slotOf n side) j hj counts h z (omega (arith, kind-few j (readingsFor (slotOf n side) (volumeTaken k g)), few n, table-whole n side hn hs))
 
     -- "Once all blocks have come, strains, clipped and missing together are twice the face's cells": once for each side.
-    pub totals-together : (counts : List ℕ) → 3 * slotOf n side + 2 < length counts → ((j : ℕ) → j ≤ 2 → getD counts (3 * slotOf n side + j) 0 ≡ 0)
+    pub table-together : (counts : List ℕ) → 3 * slotOf n side + 2 < length counts → ((j : ℕ) → j ≤ 2 → getD counts (3 * slotOf n side + j) 0 ≡ 0)
         → getD (countsOver k g counts bs) (3 * slotOf n side + 0) 0 + getD (countsOver k g counts bs) (3 * slotOf n side + 1) 0 + getD (countsOver k g counts bs) (3 * slotOf n side + 2) 0
         ≡ length (component (k .extents) (uncut B) 2 n)
-    totals-together counts h z =
-        ap₂ _+_ (ap₂ _+_ (totals-counted 0 (omega arith) counts (omega arith) (z 0 (omega arith))) (totals-counted 1 (omega arith) counts (omega arith) (z 1 (omega arith)))) (totals-counted 2 (omega arith) counts (omega arith) (z 2 (omega arith)))
+    table-together counts h z =
+        ap₂ _+_ (ap₂ _+_ (table-counted 0 (omega arith) counts (omega arith) (z 0 (omega arith))) (table-counted 1 (omega arith) counts (omega arith) (z 1 (omega arith)))) (table-counted 2 (omega arith) counts (omega arith) (z 2 (omega arith)))
         ∙ total-whole k good g bs all (slotOf n side)
-        ∙ totals-whole n side hn hs
+        ∙ table-whole n side hn hs
 
   -- "For any order of blocks": two orders leave the same sum.
   module _ (bs cs : List ℕ) (one : Reordered bs (consecutive 0 (blocks k))) (two : Reordered cs (consecutive 0 (blocks k))) (n side : ℕ) (hn : 0 < n) (hs : side ≤ 1) where
-    pub order-free : (sums : List Float) → slotOf n side < length sums → getD sums (slotOf n side) plusZero ≡ plusZero → allOf isGood (readingsFor (slotOf n side) (volumeTaken k g)) ≡ true
+    pub table-order : (sums : List Float) → slotOf n side < length sums → getD sums (slotOf n side) plusZero ≡ plusZero → allOf isGood (readingsFor (slotOf n side) (volumeTaken k g)) ≡ true
         → getD (sumsOver k g sums bs) (slotOf n side) plusZero ≡ getD (sumsOver k g sums cs) (slotOf n side) plusZero
-    order-free sums h z ok = totals-exact bs one n side hn hs sums h z ok ∙ sym (totals-exact cs two n side hn hs sums h z ok)
+    table-order sums h z ok = table-exact bs one n side hn hs sums h z ok ∙ sym (table-exact cs two n side hn hs sums h z ok)
 
   -- While the readings come, in any order, every side of every face stands, so that 8 is not given for a total.
   module _ (came rest : List ℕ) (all : Reordered (came ++ rest) (consecutive 0 (blocks k))) (entries : ℕ) (sums : List Float) (counts : List ℕ) (ls : length sums ≡ 2 * entries) (lc : length counts ≡ 6 * entries)
@@ -217,7 +214,7 @@ module _ (o : Told) (own : ℕ → List ℕ) (ext : offSize 1024 (o .cutting .ex
         by-test (ltb (slotOf n side) (2 * entries))
         (λ t.
         let l : slotOf n side < 2 * entries = ltb-true (slotOf n side) (2 * entries) t in
-        let w = totals-whole n side hn hs in
+        let w = table-whole n side hn hs in
         stands-sofar k good g came rest all (slotOf n side) (cells (k .extents)) sums counts (omega arith) (omega arith) (zs (slotOf n side) (omega arith)) (λ j hj. zc (3 * slotOf n side + j) (omega arith)) (ok (slotOf n side))
         (omega (arith, few n)) (omega (arith, within-cells n)))
         (λ t.

@@ -1,4 +1,5 @@
--- The laws of the totals, from one place of the tables to a closed job (ClosedLaws, where the promises of item 1 stand).
+-- The laws of the totals, from one place of the tables over a closed job (ClosedLaws, SideReadings) to lists of calls (StrainStatement, TotalsRead, where
+-- the promises of item 1 stand).
 pub mod SlotLaws
 pub mod Reordering
 pub mod OwnCells
@@ -7,3 +8,8 @@ pub mod SideLaws
 pub mod GoodLaws
 pub mod StandingLaws
 pub mod ClosedLaws
+pub mod SideReadings
+pub mod Recorded
+pub mod StrainSteps
+pub mod StrainStatement
+pub mod TotalsRead

@@ -2,7 +2,7 @@
 -- Assumes nothing.
 use mathlib.Core.Path.{_≡_, refl, sym, ap, _∙_, subst}
 use mathlib.Core.Bool.{true}
-use mathlib.Core.List.{List, [], _∷_}
+use mathlib.Core.List.{List, [], _∷_, _++_, List·Memᴰ, List·Memᴰ·head, List·Memᴰ·tail}
 use Prim.Native.Nat.{ℕ, _+_, _*_, _^_, _≤_, _<_}
 use native.Mathlib.Omega.{arith}
 use lib.Dec.{eqb}
@@ -11,14 +11,15 @@ use lib.ListN.{getD, length}
 use lib.Ieee.{Float}
 use Rattle.lists.specs.Lists.{consecutive, allOf}
 use Rattle.lists.proofs.Lists.{consecutive-out}
-use Rattle.cutting.specs.Cutting.{Cutting, blocks, goodCut}
+use Rattle.cutting.specs.Cutting.{Cutting, blocks, goodCut, blockExtents}
 use Rattle.strains.specs.Units.{plusZero, floatOf}
 use Rattle.strains.specs.Readings.{isGood, unitsSum, kindOf, Reordered, then, ofKind}
 use Rattle.strains.specs.declared.Reading.{Reading}
 use Rattle.strains.proofs.Sums.{units-reordered, length-reordered, good-reordered, float-none}
 use Rattle.totals.specs.Totals.{Taken, after, sumsWith, countsWith, readingsFor}
 use Rattle.strain_calls.specs.Adding.{gathered}
-use Rattle.summing.specs.Summing.{Brought}
+use Rattle.lowest.specs.Lowest.{starts}
+use Rattle.summing.specs.Summing.{Brought, blockTaken}
 use Rattle.summing.proofs.TakenLaws.{after-append}
 use Rattle.total_laws.specs.Volume.{takenBy, takenAt, volumeTaken, sumsOver, countsOver}
 use Rattle.total_laws.proofs.SlotLaws.{sum-exact, count-at, kinds-all}
@@ -37,6 +38,22 @@ module _ (k : Cutting) (g : ℕ → Brought) where
   unfolding countsOver countsWith after gathered
   counts-over counts [] = refl
   counts-over counts (b ∷ bs) = counts-over (countsWith counts (takenBy k g b)) bs ∙ sym (after-append _ counts (takenBy k g b) (gathered (takenBy k g) bs))
+
+-- .. and of one block more, where what the others bring stays as it is
+module _ (k : Cutting) (g g′ : ℕ → Brought) (b : ℕ) where
+  pub sums-more : (sums : List Float) (bs : List ℕ) → ((d : ℕ) → List·Memᴰ d bs → g d ≡ g′ d) → sumsOver k g′ sums (bs ++ (b ∷ [])) ≡ sumsWith (sumsOver k g sums bs) (takenBy k g′ b)
+  unfolding sumsOver takenBy
+  sums-more sums [] h = refl
+  sums-more sums (d ∷ bs) h =
+      sums-more (sumsWith sums (blockTaken (blockExtents k d) (starts k d) (g′ d))) bs (λ c m. h c (List·Memᴰ·tail m))
+      ∙ ap (λ (x : Brought). sumsWith (sumsOver k g (sumsWith sums (blockTaken (blockExtents k d) (starts k d) x)) bs) (blockTaken (blockExtents k b) (starts k b) (g′ b))) (sym (h d (List·Memᴰ·head refl)))
+
+  pub counts-more : (counts bs : List ℕ) → ((d : ℕ) → List·Memᴰ d bs → g d ≡ g′ d) → countsOver k g′ counts (bs ++ (b ∷ [])) ≡ countsWith (countsOver k g counts bs) (takenBy k g′ b)
+  unfolding countsOver takenBy
+  counts-more counts [] h = refl
+  counts-more counts (d ∷ bs) h =
+      counts-more (countsWith counts (blockTaken (blockExtents k d) (starts k d) (g′ d))) bs (λ c m. h c (List·Memᴰ·tail m))
+      ∙ ap (λ (x : Brought). countsWith (countsOver k g (countsWith counts (blockTaken (blockExtents k d) (starts k d) x)) bs) (blockTaken (blockExtents k b) (starts k b) (g′ b))) (sym (h d (List·Memᴰ·head refl)))
 
 pub re-for : (s : ℕ) {ts us : List Taken} → Reordered ts us → Reordered (readingsFor s ts) (readingsFor s us)
 unfolding readingsFor

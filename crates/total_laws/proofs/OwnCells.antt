@@ -54,7 +54,7 @@ module _ (k : Cutting) (good : goodCut k ≡ true) where
   abbrev pub cellsOf : ℕ → List ℕ
   cellsOf b = map (embed k b) (ownOf b)
 
-  abbrev at : ℕ → Triple
+  abbrev pub at : ℕ → Triple
   at t = place (sides (k .extents)) t
 
   listed : {b : ℕ} → List·Memᴰ b allBlocks → b < blocks k
@@ -77,10 +77,11 @@ module _ (k : Cutting) (good : goodCut k ≡ true) where
     unfolding isLowest
     lowest-own = eqb-true (lowestBlock k (at (embed k b p))) b (sym (own-lowest k good b hb p hp) ∙ o)
 
-    pub own-local : local k b (at (embed k b p)) ≡ p
-    own-local =
-        let h = has-held k good b hb (at (embed k b p)) (held-has k good b hb (embed k b p) (record { p = p; within = hp; is = refl })) in
-        embed-same k good b hb (local k b (at (embed k b p))) p (h .0) hp (h .1 ∙ index-place (sides (k .extents)) (embed k b p))
+  -- a cell of a block stands there at `local`
+  pub embed-local : (b : ℕ) → b < blocks k → (p : ℕ) → p < cells (blockExtents k b) → local k b (at (embed k b p)) ≡ p
+  embed-local b hb p hp =
+      let h = has-held k good b hb (at (embed k b p)) (held-has k good b hb (embed k b p) (record { p = p; within = hp; is = refl })) in
+      embed-same k good b hb (local k b (at (embed k b p))) p (h .0) hp (h .1 ∙ index-place (sides (k .extents)) (embed k b p))
 
   pub own-cells : Reordered (spread cellsOf allBlocks) (ofOrder (k .extents) 2)
   own-cells =
@@ -133,7 +134,7 @@ module _ (k : Cutting) (good : goodCut k ≡ true) where
       unfolding takenAt
       here p hp o =
           sym (ap (λ (c : ℕ). cellTaken (blockExtents k c) (starts k c) (g c) (local k c (at (embed k b p)))) (lowest-own b hb p hp o)
-          ∙ ap (cellTaken (blockExtents k b) (starts k b) (g b)) (own-local b hb p hp o))
+          ∙ ap (cellTaken (blockExtents k b) (starts k b) (g b)) (embed-local b hb p hp))
 
       away : (p : ℕ) → ownCell k b p ≡ false → cellTaken (blockExtents k b) (starts k b) (g b) p ≡ []
       unfolding ownCell cellTaken ownFace

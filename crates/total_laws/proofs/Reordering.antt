@@ -146,7 +146,8 @@ unique-map f (p ∷ l) h u = (
   unique-map f l (λ a b m n. h a b (List·Memᴰ·tail m) (List·Memᴰ·tail n)) (u .1),
 )
 
-unique-append : (a b : List ℕ) → NoRepeats a → NoRepeats b → ((z : ℕ) → List·Memᴰ z a → List·Memᴰ z b → ⊥) → NoRepeats (a ++ b)
+-- two lists without repeats that share no entry
+pub unique-append : (a b : List ℕ) → NoRepeats a → NoRepeats b → ((z : ℕ) → List·Memᴰ z a → List·Memᴰ z b → ⊥) → NoRepeats (a ++ b)
 unique-append [] b u v h = v
 unique-append (x ∷ a) b u v h =
     (λ m. ⊎-elim (u .0) (h x (List·Memᴰ·head refl)) (List·Memᴰ·append-cases a m), unique-append a b (u .1) v (λ z m. h z (List·Memᴰ·tail m)))

@@ -35,17 +35,17 @@ row-two u v hu hv h = rw (ne-eqb u 0 hu, ne-eqb v 0 hv, eq-eqb u u refl, eq-eqb 
 
 -- the voxel of the smaller code is on the lower side, the other on the higher
 module _ (n u v : ℕ) (x y : Reading) (hu : u ≢ 0) (hv : v ≢ 0) (h : u ≢ v) where
-  abbrev pair : List Taken
+  abbrev pub pair : List Taken
   pair = voxelTaken n (min u v) (max u v) u x ++ voxelTaken n (min u v) (max u v) v y
 
-  pair-up : u < v → pair ≡ taken (slotOf n 0) x ∷ taken (slotOf n 1) y ∷ []
+  pub pair-up : u < v → pair ≡ taken (slotOf n 0) x ∷ taken (slotOf n 1) y ∷ []
   unfolding voxelTaken
   pair-up l =
       let a : min u v ≡ u = omega arith in
       let b : max u v ≡ v = omega arith in
       rw (a, b, ne-eqb u 0 hu, ne-eqb v 0 hv, eq-eqb u u refl, eq-eqb v v refl, ne-eqb v u (λ e. h (sym e))) refl
 
-  pair-down : v < u → pair ≡ taken (slotOf n 1) x ∷ taken (slotOf n 0) y ∷ []
+  pub pair-down : v < u → pair ≡ taken (slotOf n 1) x ∷ taken (slotOf n 0) y ∷ []
   unfolding voxelTaken
   pair-down l =
       let a : min u v ≡ v = omega arith in
@@ -62,7 +62,7 @@ module _ (n n′ side : ℕ) (h : 0 < n) (h′ : 0 < n′) (hs : side ≤ 1) (x 
   unfolding slotOf
   slot-here t ht e f = eq-eqb (2 * (n - 1) + t) (2 * (n′ - 1) + side) (omega arith)
 
-  slot-side : (t : ℕ) → t ≤ 1 → n ≡ n′ → t ≢ side → eqb (slotOf n t) (slotOf n′ side) ≡ false
+  pub slot-side : (t : ℕ) → t ≤ 1 → n ≡ n′ → t ≢ side → eqb (slotOf n t) (slotOf n′ side) ≡ false
   unfolding slotOf
   slot-side t ht e f = ne-eqb (2 * (n - 1) + t) (2 * (n′ - 1) + side) (λ q. f (omega arith))
 
@@ -83,23 +83,23 @@ module _ (n n′ side : ℕ) (h : 0 < n) (h′ : 0 < n′) (hs : side ≤ 1) (x 
 -- ---- one face cell
 
 module _ (e : Triple) (m : List ℕ) (values : List Float) (kinds : List ℕ) (n p : ℕ) (P : Parted e m p) where
-  abbrev u : ℕ
+  abbrev pub u : ℕ
   u = getD m (P .q) 0
 
-  abbrev v : ℕ
+  abbrev pub v : ℕ
   v = getD m (P .r) 0
 
-  abbrev x : Reading
+  abbrev pub x : Reading
   x = readingAt values kinds (voxel e (P .q))
 
-  abbrev y : Reading
+  abbrev pub y : Reading
   y = readingAt values kinds (voxel e (P .r))
 
-  row-is : row e m p ≡ min u v ∷ max u v ∷ 0 ∷ 0 ∷ 0 ∷ 0 ∷ []
+  pub row-is : row e m p ≡ min u v ∷ max u v ∷ 0 ∷ 0 ∷ 0 ∷ 0 ∷ []
   unfolding row
   row-is = rw (P .sides) (row-two u v (P .one) (P .two) (P .apart))
 
-  face-is : faceTaken e m values kinds n p ≡ voxelTaken n (min u v) (max u v) u x ++ voxelTaken n (min u v) (max u v) v y
+  pub face-is : faceTaken e m values kinds n p ≡ voxelTaken n (min u v) (max u v) u x ++ voxelTaken n (min u v) (max u v) v y
   unfolding faceTaken gathered
   face-is = rw (row-is, P .sides) (ap (λ (l : List Taken). voxelTaken n (min u v) (max u v) u x ++ l) (append-nil (voxelTaken n (min u v) (max u v) v y)))
 
@@ -119,11 +119,11 @@ none-for : (s : ℕ) → length (readingsFor s []) ≡ 0
 unfolding readingsFor
 none-for s = refl
 
-cell-zero : (e s : Triple) (g : Brought) (p : ℕ) → ownFace e s g p ≡ 0 → cellTaken e s g p ≡ []
+pub cell-zero : (e s : Triple) (g : Brought) (p : ℕ) → ownFace e s g p ≡ 0 → cellTaken e s g p ≡ []
 unfolding cellTaken
 cell-zero e s g p z = rw (eq-eqb (ownFace e s g p) 0 z)
 
-cell-other : (e s : Triple) (g : Brought) (p n : ℕ) → ownFace e s g p ≡ n → n ≢ 0 → cellTaken e s g p ≡ faceTaken e (g .numbered) (g .values) (g .kinds) n p
+pub cell-other : (e s : Triple) (g : Brought) (p n : ℕ) → ownFace e s g p ≡ n → n ≢ 0 → cellTaken e s g p ≡ faceTaken e (g .numbered) (g .values) (g .kinds) n p
 unfolding cellTaken
 cell-other e s g p n f w = rw (f, ne-eqb n 0 w)
 
