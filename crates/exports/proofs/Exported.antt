@@ -9,7 +9,7 @@ use borrow.Author.Tests.{ne-eqb}
 use Rattle.cutting.specs.Cutting.{blocks, blockExtents}
 use Rattle.joiner.specs.Job.{Kind, width, Told, Tables, State}
 use Rattle.joiner.specs.Calls.{Call, reading, Answer, answer}
-use Rattle.joiner.specs.Entries.{Opened, CallStep}
+use Rattle.joiner.specs.Entries.{CallStep}
 use Rattle.joiner.specs.Book.{begun}
 use Rattle.joiner.specs.Statement.{Entry, Run, Fair, Labelling, Measured}
 use Rattle.joiner.proofs.Statement3.{statement3}
@@ -19,6 +19,7 @@ use Rattle.job.specs.Jobs.{stateOf}
 use Rattle.job_numbers.specs.Numbers.{jobIn, numbersOf, keptNumbers}
 use Rattle.job_numbers.proofs.NumberLaws.{job-back, kept-new, kept-old}
 use Rattle.strain_calls.specs.Tables.{TotalTables}
+use Rattle.strain_calls.specs.Entries.{OpenedTotals}
 use Rattle.exports.specs.Exports.{ExportedOpening, ExportedStep, ExportedLookup, ExportedRow}
 use Rattle.exports.specs.Calls.{Kept, keeps, stateKept, lookAnswer, rowAnswer, ExportedCall, stepped, looked, read, ExportedCalls, none, next}
 use Rattle.exports.proofs.Rows.{row-wide, six-front}
@@ -108,6 +109,16 @@ pub exported-run : {k : Kept} {es : List Entry} → ExportedCalls k es → OfJob
 exported-run none N = Run.none
 exported-run (next C L) N = let S = exported-step C N in Run.next (S .0) (exported-run L (S .1))
 
+-- the numbers and the opening that an accepted opening leaves
+pub opened-numbers : {o : Told} {lent left : Tables} {w w′ : TotalTables} {ns ns′ : List ℕ} → ExportedOpening ns ns′ o lent left w w′ 0 → OfJob ns′
+opened-numbers X = record { job = X .job; numbers = X .stored ∙ stored _ (X .job) }
+
+pub opened-kept : {o : Told} {lent left : Tables} {w w′ : TotalTables} {ns ns′ : List ℕ} (X : ExportedOpening ns ns′ o lent left w w′ 0)
+    → OpenedTotals o lent w (stateKept (keeps ns′ (o .cutting .cx) (o .cutting .cy) (o .cutting .cz) left)) w′
+opened-kept {o = o} {lent = lent} {left = left} {w = w} {w′ = w′} X =
+    let O = X .opening .opened (sym (X .opening .told)) in
+    subst (λ j. OpenedTotals o lent w (stateOf j (o .cutting .cx) (o .cutting .cy) (o .cutting .cz) left) w′) (sym (told-job (opened-numbers X) Stage.Enrol)) O
+
 -- Statement 3 for the exports.
 pub exports3 : (o : Told) (lent left : Tables) (w w′ : TotalTables) (ns ns′ : List ℕ) (own : ℕ → List ℕ) (es : List Entry)
     → ExportedOpening ns ns′ o lent left w w′ 0
@@ -116,8 +127,5 @@ pub exports3 : (o : Told) (lent left : Tables) (w w′ : TotalTables) (ns ns′ 
     → Fair own es
     → Measured own (begun o) es
 exports3 o lent left w w′ ns ns′ own es X labelled calls fair =
-    let N : OfJob ns′ = record { job = X .job; numbers = X .stored ∙ stored _ (X .job) } in
-    let O : Opened o lent (stateOf (X .job) (o .cutting .cx) (o .cutting .cy) (o .cutting .cz) left) = X .opening .opened (sym (X .opening .told)) .opened in
     statement3 o lent (stateKept (keeps ns′ (o .cutting .cx) (o .cutting .cy) (o .cutting .cz) left)) own es
-    (subst (λ j. Opened o lent (stateOf j (o .cutting .cx) (o .cutting .cy) (o .cutting .cz) left)) (sym (told-job N Stage.Enrol)) O)
-    labelled (exported-run calls N) fair
+    (opened-kept X .opened) labelled (exported-run calls (opened-numbers X)) fair

@@ -1,11 +1,14 @@
--- A list of exported calls, those of item 1 among them, is a run.
+-- Lists of exported calls, those of item 1 among them: the whole list is what the day book and the book of readings say.
 -- Assumes nothing.
 use mathlib.Core.List.{List}
 use mathlib.Core.Path.{_≡_, _∙_, ap, ap₂, refl, subst, sym}
-use Prim.Native.Nat.{ℕ, zero, suc}
+use Prim.Native.Nat.{ℕ, zero, suc, _<_}
 use lib.Ieee.{Float}
 use borrow.Author.Tests.{ne-eqb}
-use Rattle.joiner.specs.Job.{Tables}
+use Rattle.cutting.specs.Cutting.{blocks, blockExtents}
+use Rattle.joiner.specs.Job.{Told, Tables}
+use Rattle.joiner.specs.Book.{begun}
+use Rattle.joiner.specs.Statement.{Labelling}
 use Rattle.job.specs.declared.Job.{Job}
 use Rattle.job.specs.declared.Stage.{Stage}
 use Rattle.job.specs.Jobs.{stateOf}
@@ -13,12 +16,14 @@ use Rattle.extended.specs.Extended.{LongRun}
 use Rattle.strain_calls.specs.Tables.{TotalTables}
 use Rattle.strain_calls.specs.Calls.{StrainCall, total, StrainAnswer, strainAnswer, noTotals}
 use Rattle.strain_calls.specs.Entries.{StrainStep}
-use Rattle.strain_calls.specs.Statement.{StrainEntry}
+use Rattle.strain_calls.specs.Book.{noReadings}
+use Rattle.strain_calls.specs.Statement.{StrainEntry, LongFair, StrainMeasured}
+use Rattle.total_laws.proofs.StrainStatement.{strain-statement}
 use Rattle.job_numbers.specs.Numbers.{jobIn}
-use Rattle.exports.specs.Exports.{ExportedTotal}
+use Rattle.exports.specs.Exports.{ExportedOpening, ExportedTotal}
 use Rattle.exports.specs.Calls.{Kept, keeps, stateKept}
 use Rattle.exports.specs.StrainCalls.{totalsIn, totalAnswer, ExportedStrainCall, strained, totalled, LongExported, none, next, nextAdded}
-use Rattle.exports.proofs.Exported.{OfJob, told-same, not-zero, numbersKept, exported-step}
+use Rattle.exports.proofs.Exported.{OfJob, told-same, not-zero, numbersKept, exported-step, opened-numbers, opened-kept}
 
 module _ (ns cx cy cz : List ℕ) (other : Stage) (N : OfJob ns) (t : Tables) (w : TotalTables) where
   -- a step from the job that the numbers tell
@@ -51,3 +56,14 @@ pub long-exported-run : {k : Kept} {w : TotalTables} {es : List StrainEntry} →
 long-exported-run none N = LongRun.none
 long-exported-run (next C L) N = let S = exported-step C N in LongRun.next (S .0) (long-exported-run L (S .1))
 long-exported-run (nextAdded C L) N = LongRun.nextAdded (exported-strain C N) (long-exported-run L N)
+
+-- Statement 3's calls and item 1's, for the exports: every opening through `tugrelis_open` that answers 0, every list of calls through the other exports.
+pub exports-totals : (o : Told) (lent left : Tables) (w v : TotalTables) (ns ns′ : List ℕ) (own : ℕ → List ℕ) (es : List StrainEntry)
+    → ExportedOpening ns ns′ o lent left w v 0
+    → ((b : ℕ) → b < blocks (o .cutting) → Labelling (blockExtents (o .cutting) b) (own b))
+    → LongExported (keeps ns′ (o .cutting .cx) (o .cutting .cy) (o .cutting .cz) left) v es
+    → LongFair own es
+    → StrainMeasured own (begun o) noReadings es
+exports-totals o lent left w v ns ns′ own es X labelled calls fair =
+    strain-statement o lent w v (stateKept (keeps ns′ (o .cutting .cx) (o .cutting .cy) (o .cutting .cz) left)) own es
+    (opened-kept X) labelled (long-exported-run calls (opened-numbers X)) fair

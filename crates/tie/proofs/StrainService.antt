@@ -1,15 +1,22 @@
--- Lists of calls through the entries, those of item 1 among them, are runs.
+-- Lists of calls through the entries, those of item 1 among them: the whole list is what the day book and the book of readings say.
 -- Assumes nothing.
 use mathlib.Core.List.{List}
-use mathlib.Core.Path.{refl}
+use mathlib.Core.Path.{refl, sym}
+use Prim.Native.Nat.{ℕ, _<_}
+use Rattle.cutting.specs.Cutting.{blocks, blockExtents}
+use Rattle.joiner.specs.Job.{Told, Tables}
+use Rattle.joiner.specs.Book.{begun}
+use Rattle.joiner.specs.Statement.{Labelling}
 use Rattle.extended.specs.Extended.{LongRun}
 use Rattle.strain_calls.specs.Tables.{TotalTables}
 use Rattle.strain_calls.specs.Calls.{StrainCall, StrainAnswer}
 use Rattle.strain_calls.specs.Entries.{StrainStep}
-use Rattle.strain_calls.specs.Statement.{StrainEntry}
-use Rattle.tie.specs.Contracts.{Held, stateIn}
+use Rattle.strain_calls.specs.Book.{noReadings}
+use Rattle.strain_calls.specs.Statement.{StrainEntry, LongFair, StrainMeasured}
+use Rattle.total_laws.proofs.StrainStatement.{strain-statement}
+use Rattle.tie.specs.Contracts.{Held, stateIn, OpenedBy}
 use Rattle.tie.specs.StrainContracts.{CalledStrain, strained, totalled, LongCalls, none, next, nextAdded}
-use Rattle.tie.proofs.Service.{called-step}
+use Rattle.tie.proofs.Service.{opened-opening, called-step}
 
 -- A call of item 1 through its entry is a step of the readings.
 pub called-strain : {h : Held} {w v : TotalTables} {c : StrainCall} {a : StrainAnswer} → CalledStrain h w c a v → StrainStep (stateIn h) w c a v
@@ -21,3 +28,14 @@ pub long-run : {h : Held} {w : TotalTables} {es : List StrainEntry} → LongCall
 long-run none = LongRun.none
 long-run (next C L) = LongRun.next (called-step C) (long-run L)
 long-run (nextAdded C L) = LongRun.nextAdded (called-strain C) (long-run L)
+
+-- Statement 3's calls and item 1's, for the entries: every opening through `open` that is accepted, every list of calls through the other entries.
+pub service-totals : (o : Told) (lent : Tables) (w v : TotalTables) (h : Held) (own : ℕ → List ℕ) (es : List StrainEntry)
+    → OpenedBy o lent w 0 h v
+    → ((b : ℕ) → b < blocks (o .cutting) → Labelling (blockExtents (o .cutting) b) (own b))
+    → LongCalls h v es
+    → LongFair own es
+    → StrainMeasured own (begun o) noReadings es
+service-totals o lent w v h own es by labelled calls fair =
+    let O = opened-opening by in
+    strain-statement o lent w v (stateIn h) own es (O .opened (sym (O .told))) labelled (long-run calls) fair
