@@ -115,6 +115,7 @@ opened-numbers X = record { job = X .job; numbers = X .stored ∙ stored _ (X .j
 
 pub opened-kept : {o : Told} {lent left : Tables} {w w′ : TotalTables} {ns ns′ : List ℕ} (X : ExportedOpening ns ns′ o lent left w w′ 0)
     → OpenedTotals o lent w (stateKept (keeps ns′ (o .cutting .cx) (o .cutting .cy) (o .cutting .cz) left)) w′
+unfolding opened-numbers
 opened-kept {o = o} {lent = lent} {left = left} {w = w} {w′ = w′} X =
     let O = X .opening .opened (sym (X .opening .told)) in
     subst (λ j. OpenedTotals o lent w (stateOf j (o .cutting .cx) (o .cutting .cy) (o .cutting .cz) left) w′) (sym (told-job (opened-numbers X) Stage.Enrol)) O

@@ -20,15 +20,6 @@ impl Joining {
         ensures { λ r. ⌜ TotalPromise (jobOf (self .job) (now (cx .entry)) (now (cy .entry)) (now (cz .entry)))
             (totalTables (now (came .entry)) (now («face_sums» .entry)) (now («face_counts» .entry))) number (r .refusal) (r .totals) ⌝ }
     {
-        total(
-            self.job,
-            cx,
-            cy,
-            cz,
-            came,
-            face_sums,
-            face_counts,
-            number,
-        )
+        total(self.job, cx, cy, cz, came, face_sums, face_counts, number)
     }
 }
