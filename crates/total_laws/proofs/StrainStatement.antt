@@ -17,18 +17,19 @@ use Rattle.joiner.specs.Book.{Book, accepts, begun, bookAfter, turned}
 use Rattle.joiner.specs.Calls.{Answer, Call, cross, enrol, join, look, point, reading, stageOf}
 use Rattle.joiner.specs.Declines.{refusal}
 use Rattle.joiner.specs.Entries.{CallStep, Done}
-use Rattle.joiner.specs.Job.{State, Told, stageNumber}
-use Rattle.joiner.specs.Statement.{Brings, Entry, Labelling}
+use Rattle.joiner.specs.Job.{State, Tables, Told, stageNumber}
+use Rattle.joiner.specs.Statement.{Brings, Entry, Fair, Labelling, Measured}
 use Rattle.joiner.proofs.Simulation.{Sim, OneCall, book-stage, one-call}
-use Rattle.joiner.proofs.Statement3.{begun-sim, opened-passed}
-use Rattle.extended.specs.Extended.{base, added, LongRun}
+use Rattle.joiner.proofs.Statement3.{begun-sim, opened-passed, statement3}
+use Rattle.extended.specs.Extended.{base, added, LongRun, baseCalls}
+use Rattle.extended.proofs.ExtendedLaws.{base-run}
 use Rattle.strains.specs.Units.{isUnits}
 use Rattle.strains.specs.Readings.{isGood}
 use Rattle.strains.proofs.Sums.{float-none}
 use Rattle.strains.proofs.Whole.{float-units}
 use Rattle.totals.specs.Totals.{readingAt, readingOf}
 use Rattle.strain_calls.specs.Tables.{TotalTables}
-use Rattle.strain_calls.specs.Entries.{StrainStep}
+use Rattle.strain_calls.specs.Entries.{OpenedTotals, StrainStep}
 use Rattle.strain_calls.specs.Book.{ReadingBook, noReadings, turnedReadings}
 use Rattle.strain_calls.specs.Statement.{StrainEntry, LongFair, StrainMeasured, StrainStatement}
 use Rattle.summing.specs.Summing.{Brought}
@@ -153,3 +154,21 @@ strain-statement o lent w v s own es P lab L F =
     let p = opened-passed o lent (P .opened .accepted) in
     let Z : Emptied o v = opened-empty o lent w s v P in
     measured o own (p .0) (p .1) lab v Z (begun o) s noReadings v es (begun-sim o lent s own (P .opened) lab) (begun-recorded o own v s Z) L F
+
+-- ---- statement 3, cited
+
+-- leaving out the two calls keeps what statement 3 supposes
+base-fair : (own : ℕ → List ℕ) (es : List StrainEntry) → LongFair own es → Fair own (baseCalls es)
+unfolding baseCalls
+base-fair own [] f = tt
+base-fair own (base e ∷ es) f = (f .0, base-fair own es (f .1))
+base-fair own (added c a w ∷ es) f = base-fair own es (f .1)
+
+-- Statement 3's calls of the longer list are a list of statement 3: cutting still leaves no trace.
+pub base-measured : (o : Told) (lent : Tables) (w v : TotalTables) (s : State) (own : ℕ → List ℕ) (es : List StrainEntry)
+    → OpenedTotals o lent w s v
+    → ((b : ℕ) → b < blocks (o .cutting) → Labelling (blockExtents (o .cutting) b) (own b))
+    → LongRun StrainStep s v es
+    → LongFair own es
+    → Measured own (begun o) (baseCalls es)
+base-measured o lent w v s own es O labelled run fair = statement3 o lent s own (baseCalls es) (O .opened) labelled (base-run run) (base-fair own es fair)
