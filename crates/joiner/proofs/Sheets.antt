@@ -35,7 +35,7 @@ use Rattle.joiner.proofs.Simulation.{Sim, closed-uncut, finals-at, simu
 use Rattle.joiner.proofs.Statement3.{begun-sim, opened-passed}
 
 -- the codes of the blocks' maps are those of the volume
-codes-back : (k : Cutting) (good : goodCut k ≡ true) (codes : List ℕ) (own : ℕ → List ℕ) → length codes ≡ volume (k .extents) → ((b : ℕ) → b < blocks k → own b ≡ part k codes b) → codesOf k own ≡ codes
+pub codes-back : (k : Cutting) (good : goodCut k ≡ true) (codes : List ℕ) (own : ℕ → List ℕ) → length codes ≡ volume (k .extents) → ((b : ℕ) → b < blocks k → own b ≡ part k codes b) → codesOf k own ≡ codes
 unfolding codesOf
 codes-back k good codes own many h =
     ext-getD 0 (tabulate (volume (k .extents)) (λ v. codeIn k own (place (sides (k .extents)) (voxelCell (k .extents) v)))) codes

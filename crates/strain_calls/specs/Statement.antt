@@ -7,14 +7,18 @@ use mathlib.Core.List.{List, [], _∷_, List·Memᴰ}
 use Prim.Native.Nat.{ℕ, _+_, _*_, _<_, _≤_}
 use lib.ListN.{length}
 use lib.Ieee.{Float}
+use Rattle.cells.specs.Box.{volume}
+use Rattle.cells.specs.Grid.{voxel, voxelCell}
 use Rattle.labels.specs.Number.{labels}
 use Rattle.labels.specs.Components.{component}
-use Rattle.cutting.specs.Cutting.{Cutting, blocks, blockExtents}
+use Rattle.cutting.specs.Cutting.{Cutting, blocks, blockExtents, blockCodes, embed}
 use Rattle.joiner.specs.Job.{Told, Tables, State}
 use Rattle.joiner.specs.Stages.{codesOf}
 use Rattle.joiner.specs.Book.{Book, begun, turned}
 use Rattle.joiner.specs.Statement.{Entry, Labelling, Brings, Agrees}
 use Rattle.extended.specs.Extended.{LongEntry, base, added, LongRun}
+use Rattle.strains.specs.declared.Reading.{Reading}
+use Rattle.totals.specs.Totals.{readingAt}
 use Rattle.totals.specs.declared.Side.{Side}
 use Rattle.totals.specs.declared.Totals.{Totals}
 use Rattle.strain_calls.specs.Tables.{TotalTables}
@@ -93,15 +97,15 @@ pub record TotalRead (o : Told) (own : ℕ → List ℕ) (values : ℕ → List 
   pub read : List·Memᴰ (added (total n) (strainAnswer 0 T) left) calls
 
 -- The uncut map of a cutting with these maps of its blocks.
-abbrev pub uncutMap : Cutting → (ℕ → List ℕ) → List ℕ
-uncutMap k own = labels (k .extents) (codesOf k own)
+abbrev pub uncutFrom : Cutting → (ℕ → List ℕ) → List ℕ
+uncutFrom k own = labels (k .extents) (codesOf k own)
 
 -- "Sums are then exact, and are to equal the sum over whole 1,024ths for any order of blocks": the totals of the uncut face.
 abbrev pub TotalsExact : Type 0
 TotalsExact =
     (o : Told) (own : ℕ → List ℕ) (values : ℕ → List Float) (kinds : ℕ → List ℕ) (n : ℕ) (T : Totals)
     → TotalRead o own values kinds n T
-    → T ≡ faceTotals (o .cutting .extents) (uncutMap (o .cutting) own) (readingFrom (o .cutting) values kinds) n
+    → T ≡ faceTotals (o .cutting .extents) (uncutFrom (o .cutting) own) (readingFrom (o .cutting) values kinds) n
 
 -- How many readings a side counts.
 abbrev pub countedOn : Side → ℕ
@@ -112,9 +116,9 @@ abbrev pub TotalsWhole : Type 0
 TotalsWhole =
     (o : Told) (own : ℕ → List ℕ) (values : ℕ → List Float) (kinds : ℕ → List ℕ) (n : ℕ) (T : Totals)
     → TotalRead o own values kinds n T
-    → (countedOn (T .lower) ≡ length (component (o .cutting .extents) (uncutMap (o .cutting) own) 2 n))
-    × (countedOn (T .higher) ≡ length (component (o .cutting .extents) (uncutMap (o .cutting) own) 2 n))
-    × (countedOn (T .lower) + countedOn (T .higher) ≡ 2 * length (component (o .cutting .extents) (uncutMap (o .cutting) own) 2 n))
+    → (countedOn (T .lower) ≡ length (component (o .cutting .extents) (uncutFrom (o .cutting) own) 2 n))
+    × (countedOn (T .higher) ≡ length (component (o .cutting .extents) (uncutFrom (o .cutting) own) 2 n))
+    × (countedOn (T .lower) + countedOn (T .higher) ≡ 2 * length (component (o .cutting .extents) (uncutFrom (o .cutting) own) 2 n))
 
 -- ".. for any order of blocks": two lists of calls with the same readings give the same totals, bit for bit.
 abbrev pub OrderFree : Type 0
@@ -123,3 +127,15 @@ OrderFree =
     → TotalRead o own values kinds n T
     → TotalRead o own values kinds n T′
     → T ≡ T′
+
+-- Cutting leaves no trace in the totals: where the blocks are those of one volume with these codes, and each voxel's reading is `reading` of its number in the volume in every block that has
+-- it, the totals are those of the uncut volume, whatever the cutting and the order of blocks.
+abbrev pub CuttingFree : Type 0
+CuttingFree =
+    (o : Told) (codes : List ℕ) (reading : ℕ → Reading) (own : ℕ → List ℕ) (values : ℕ → List Float) (kinds : ℕ → List ℕ) (n : ℕ) (T : Totals)
+    → length codes ≡ volume (o .cutting .extents)
+    → ((b : ℕ) → b < blocks (o .cutting) → own b ≡ labels (blockExtents (o .cutting) b) (blockCodes (o .cutting) b codes))
+    → ((b v : ℕ) → b < blocks (o .cutting) → v < volume (blockExtents (o .cutting) b)
+    → readingAt (values b) (kinds b) v ≡ reading (voxel (o .cutting .extents) (embed (o .cutting) b (voxelCell (blockExtents (o .cutting) b) v))))
+    → TotalRead o own values kinds n T
+    → T ≡ faceTotals (o .cutting .extents) (labels (o .cutting .extents) codes) (λ t q. reading (voxel (o .cutting .extents) q)) n

@@ -13,3 +13,4 @@ pub mod Recorded
 pub mod StrainSteps
 pub mod StrainStatement
 pub mod TotalsRead
+pub mod CuttingFree

@@ -15,7 +15,8 @@ use Rattle.lists.proofs.Cases.{by-test, and-first, and-second, picked}
 use Rattle.lists.proofs.Lists.{keep-out}
 use Rattle.cells.specs.Box.{Triple, place}
 use Rattle.cells.specs.Extents.{offSize}
-use Rattle.cells.specs.Grid.{sides, cells, voxel}
+use Rattle.cells.specs.Grid.{sides, cells, order, upperNeighbours, voxel}
+use Rattle.cells.specs.Row.{row}
 use Rattle.labels.specs.Components.{component, ofOrder}
 use Rattle.labels.proofs.ComponentLaws.{of-order-out}
 use Rattle.cutting.specs.Cutting.{Cutting, blocks, goodCut, blockExtents}
@@ -37,7 +38,7 @@ use Rattle.strain_calls.specs.Adding.{gathered}
 use Rattle.strain_calls.specs.Calls.{StrainCall, strain, total, StrainAnswer, allCome}
 use Rattle.strain_calls.specs.Entries.{StrainStep}
 use Rattle.strain_calls.specs.Book.{ReadingBook, noReadings, strainAccepts, readingsAfter, turnedReadings, onSide, sideReadings, sideTotals, faceTotals, readingFrom, bookTotals}
-use Rattle.strain_calls.specs.Statement.{StrainEntry, LongFair, BringsLists, TotalRead, uncutMap, TotalsExact, countedOn, TotalsWhole, OrderFree}
+use Rattle.strain_calls.specs.Statement.{StrainEntry, LongFair, BringsLists, TotalRead, uncutFrom, TotalsExact, countedOn, TotalsWhole, OrderFree}
 use Rattle.total_laws.proofs.SlotLaws.{kinds-all}
 use Rattle.total_laws.proofs.SideReadings.{map-alike}
 use Rattle.total_laws.proofs.Recorded.{Emptied, opened-empty, Recorded, each-come, side-long}
@@ -50,22 +51,25 @@ unfolding gathered
 gathered-same f g [] h = refl
 gathered-same f g (t ∷ l) h = ap₂ (λ (a b : List Reading). a ++ b) (h t (List·Memᴰ·head refl)) (gathered-same f g l (λ q m. h q (List·Memᴰ·tail m)))
 
-module _ (e : Triple) (m : List ℕ) (f g : ℕ → ℕ → Reading) (n : ℕ) (h : (t : ℕ) → t < cells e → (q : ℕ) → f t q ≡ g t q) where
+-- readings that are the same at the two voxels of each face cell give the same totals
+module _ (e : Triple) (m : List ℕ) (f g : ℕ → ℕ → Reading) (n : ℕ) (h : (t : ℕ) → t < cells e → order e t ≡ 2 → (q : ℕ) → List·Memᴰ q (upperNeighbours e t) → f t q ≡ g t q) where
   side-same : (side : ℕ) → sideReadings e m f n side ≡ sideReadings e m g n side
-  unfolding sideReadings component
+  unfolding sideReadings component onSide
   side-same side =
       gathered-same (λ t. map (f t) (onSide e m side t)) (λ t. map (g t) (onSide e m side t)) (component e m 2 n)
-      (λ t i. map-alike (f t) (g t) (onSide e m side t) (λ q j. h t (of-order-out e 2 (keep-out (λ p. eqb (getD m p 0) n) (ofOrder e 2) i .0) .0) q))
+      (λ t i.
+      let c = of-order-out e 2 (keep-out (λ p. eqb (getD m p 0) n) (ofOrder e 2) i .0) in
+      map-alike (f t) (g t) (onSide e m side t) (λ q j. h t (c .0) (c .1) q (keep-out (λ p. eqb (getD m p 0) (getD (row e m t) side 0)) (upperNeighbours e t) j .0)))
 
-  face-same : faceTotals e m f n ≡ faceTotals e m g n
+  pub face-same : faceTotals e m f n ≡ faceTotals e m g n
   unfolding faceTotals
   face-same = ap₂ (λ (x y : List Reading). record { lower = sideTotals x; higher = sideTotals y }) (side-same 0) (side-same 1)
 
 module _ (o : Told) (own : ℕ → List ℕ) (values : ℕ → List Float) (kinds : ℕ → List ℕ) where
   -- What is shown of totals T that are read for face n.
   record ReadFor (n : ℕ) (T : Totals) : Type 0 where
-    exact : T ≡ faceTotals (o .cutting .extents) (uncutMap (o .cutting) own) (readingFrom (o .cutting) values kinds) n
-    long : (side : ℕ) → side ≤ 1 → length (sideReadings (o .cutting .extents) (uncutMap (o .cutting) own) (readingFrom (o .cutting) values kinds) n side) ≡ length (component (o .cutting .extents) (uncutMap (o .cutting) own) 2 n)
+    exact : T ≡ faceTotals (o .cutting .extents) (uncutFrom (o .cutting) own) (readingFrom (o .cutting) values kinds) n
+    long : (side : ℕ) → side ≤ 1 → length (sideReadings (o .cutting .extents) (uncutFrom (o .cutting) own) (readingFrom (o .cutting) values kinds) n side) ≡ length (component (o .cutting .extents) (uncutFrom (o .cutting) own) 2 n)
 
   -- .. by a call of the list
   abbrev Reads : StrainEntry → Type 0
@@ -112,13 +116,13 @@ module _ (o : Told) (own : ℕ → List ℕ) (values : ℕ → List Float) (kind
       most = omega (arith, leb-true n (s .job .numbered Face) (and-second (ltb 0 n) (leb n (s .job .numbered Face)) (p .placed)), S .inv .numbered Face, S .inv .sofar Face, S .inv .room Face)
 
       -- the uncut volume is that of the blocks' maps
-      same-map : uncut B ≡ uncutMap k own
+      same-map : uncut B ≡ uncutFrom k own
       same-map = uncut-is o own good lab B s (S .inv) (omega (arith, p .closed))
 
       -- all lists are those that the blocks brought
-      same-reading : (t : ℕ) → t < cells (k .extents) → (q : ℕ) → readingFrom k (R .values) (R .kinds) t q ≡ readingFrom k values kinds t q
+      same-reading : (t : ℕ) → t < cells (k .extents) → order (k .extents) t ≡ 2 → (q : ℕ) → List·Memᴰ q (upperNeighbours (k .extents) t) → readingFrom k (R .values) (R .kinds) t q ≡ readingFrom k values kinds t q
       unfolding readingFrom
-      same-reading t ht q =
+      same-reading t ht ot q i =
           let b : ℕ = lowestBlock k (place (sides (k .extents)) t) in
           let l = H b (each-come o own ext good lab v Z B s S R w Q (p .closed) all b (lowest-has k good t ht .0)) in
           ap₂ (λ (x : List Float) (y : List ℕ). readingAt x y (voxel (blockExtents k b) (local k b (place (sides (k .extents)) q)))) (l .0) (l .1)
@@ -128,9 +132,9 @@ module _ (o : Told) (own : ℕ → List ℕ) (values : ℕ → List Float) (kind
       book-read =
           record {
             exact = ap₂ (λ (z : Told) (m : List ℕ). faceTotals (z .cutting .extents) m (readingFrom (z .cutting) (R .values) (R .kinds)) n) (S .inv .btold) same-map
-                ∙ face-same (k .extents) (uncutMap k own) (readingFrom k (R .values) (R .kinds)) (readingFrom k values kinds) n same-reading;
+                ∙ face-same (k .extents) (uncutFrom k own) (readingFrom k (R .values) (R .kinds)) (readingFrom k values kinds) n same-reading;
             long = λ side hs.
-                ap length (sym (side-same (k .extents) (uncutMap k own) (readingFrom k (R .values) (R .kinds)) (readingFrom k values kinds) n same-reading side))
+                ap length (sym (side-same (k .extents) (uncutFrom k own) (readingFrom k (R .values) (R .kinds)) (readingFrom k values kinds) n same-reading side))
                 ∙ ap (λ (m : List ℕ). length (sideReadings (k .extents) m (readingFrom k (R .values) (R .kinds)) n side)) (sym same-map)
                 ∙ side-long o own ext good lab v Z B s S R w Q (p .closed) all n positive most side hs
                 ∙ ap (λ (m : List ℕ). length (component (k .extents) m 2 n)) same-map;
@@ -175,7 +179,7 @@ counted-all e m f n = (kinds-all (sideReadings e m f n 0), kinds-all (sideReadin
 pub totals-whole : TotalsWhole
 totals-whole o own values kinds n T X =
     let r = read-of o own values kinds n T X in
-    let c = counted-all (o .cutting .extents) (uncutMap (o .cutting) own) (readingFrom (o .cutting) values kinds) n in
+    let c = counted-all (o .cutting .extents) (uncutFrom (o .cutting) own) (readingFrom (o .cutting) values kinds) n in
     let low = ap (λ (t : Totals). countedOn (t .lower)) (r .exact) ∙ c .0 ∙ r .long 0 (omega arith) in
     let high = ap (λ (t : Totals). countedOn (t .higher)) (r .exact) ∙ c .1 ∙ r .long 1 (omega arith) in
     (low, high, omega (arith, low, high))
