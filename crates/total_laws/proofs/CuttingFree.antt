@@ -5,7 +5,7 @@ use mathlib.Core.Bool.{true}
 use mathlib.Core.List.{List, List·Memᴰ, Memᴰ·of-map}
 use Prim.Native.Nat.{ℕ, suc, _<_}
 use lib.Ieee.{Float}
-use Rattle.cells.specs.Box.{Triple, place, index, volume}
+use Rattle.cells.specs.Box.{place, index, volume}
 use Rattle.cells.specs.Grid.{sides, cells, order, upperNeighbours, voxel, voxelCell}
 use Rattle.cells.proofs.BoxLaws.{index-place}
 use Rattle.cells.proofs.GridLaws.{Upper, upper-neighbour, voxel-inside, cell-voxel}
