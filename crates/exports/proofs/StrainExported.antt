@@ -16,8 +16,8 @@ use Rattle.extended.specs.Extended.{LongRun}
 use Rattle.strain_calls.specs.Tables.{TotalTables}
 use Rattle.strain_calls.specs.Calls.{StrainCall, total, StrainAnswer, strainAnswer, noTotals}
 use Rattle.strain_calls.specs.Entries.{StrainStep}
-use Rattle.strain_calls.specs.Book.{noReadings}
-use Rattle.strain_calls.specs.Statement.{StrainEntry, LongFair, StrainMeasured}
+use Rattle.total_laws.specs.Book.{noReadings}
+use Rattle.total_laws.specs.Statement.{StrainEntry, LongFair, StrainMeasured}
 use Rattle.total_laws.proofs.StrainStatement.{strain-statement}
 use Rattle.job_numbers.specs.Numbers.{jobIn}
 use Rattle.exports.specs.Exports.{ExportedOpening, ExportedTotal}

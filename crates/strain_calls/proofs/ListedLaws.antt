@@ -1,14 +1,12 @@
--- The numbers that the opening, the two calls and the book of readings list, in the order of the table.
+-- The numbers that the opening and the two calls list, in the order of the table.
 -- Assumes nothing.
 use mathlib.Core.List.{[], _∷_}
 use mathlib.Core.Path.{_≡_, refl}
 use Rattle.refusals.specs.Refusals.{listedNumbers, number}
 use Rattle.joiner.specs.Job.{Told, Tables, State}
-use Rattle.joiner.specs.Book.{Book}
 use Rattle.strain_calls.specs.Tables.{TotalTables}
 use Rattle.strain_calls.specs.Calls.{StrainCall}
 use Rattle.strain_calls.specs.Declines.{openingDeclines, strainDeclines}
-use Rattle.strain_calls.specs.Book.{ReadingBook, strainBookDeclines}
 
 pub opening-listed : (o : Told) (t : Tables) (w : TotalTables) → listedNumbers (openingDeclines o t w) ≡ 1 ∷ 2 ∷ 6 ∷ []
 unfolding listedNumbers openingDeclines number
@@ -17,7 +15,3 @@ opening-listed o t w = refl
 pub strain-listed : (s : State) (w : TotalTables) (c : StrainCall) → listedNumbers (strainDeclines s w c) ≡ 1 ∷ 2 ∷ 3 ∷ 4 ∷ 5 ∷ 6 ∷ 8 ∷ 12 ∷ []
 unfolding listedNumbers strainDeclines number
 strain-listed s w c = refl
-
-pub strain-book-listed : (B : Book) (R : ReadingBook) (c : StrainCall) → listedNumbers (strainBookDeclines B R c) ≡ 3 ∷ 4 ∷ 5 ∷ 6 ∷ 12 ∷ []
-unfolding listedNumbers strainBookDeclines number
-strain-book-listed B R c = refl

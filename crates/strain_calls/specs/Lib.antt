@@ -4,5 +4,3 @@ pub mod Adding
 pub mod Calls
 pub mod Declines
 pub mod Entries
-pub mod Book
-pub mod Statement

@@ -11,8 +11,8 @@ use Rattle.extended.specs.Extended.{LongRun}
 use Rattle.strain_calls.specs.Tables.{TotalTables}
 use Rattle.strain_calls.specs.Calls.{StrainCall, StrainAnswer}
 use Rattle.strain_calls.specs.Entries.{StrainStep}
-use Rattle.strain_calls.specs.Book.{noReadings}
-use Rattle.strain_calls.specs.Statement.{StrainEntry, LongFair, StrainMeasured}
+use Rattle.total_laws.specs.Book.{noReadings}
+use Rattle.total_laws.specs.Statement.{StrainEntry, LongFair, StrainMeasured}
 use Rattle.total_laws.proofs.StrainStatement.{strain-statement}
 use Rattle.tie.specs.Contracts.{Held, stateIn, OpenedBy}
 use Rattle.tie.specs.StrainContracts.{CalledStrain, strained, totalled, LongCalls, none, next, nextAdded}

@@ -11,7 +11,7 @@ use Rattle.extended.specs.Extended.{base, added}
 use Rattle.strain_calls.specs.Tables.{TotalTables}
 use Rattle.strain_calls.specs.Calls.{StrainCall, strain, total, StrainAnswer, strainAnswer, noTotals}
 use Rattle.strain_calls.specs.Entries.{StrainPromise, TotalPromise}
-use Rattle.strain_calls.specs.Statement.{StrainEntry}
+use Rattle.total_laws.specs.Statement.{StrainEntry}
 use Rattle.tie.specs.Contracts.{Held, held, stateIn, CalledEntry}
 
 -- A call of item 1 with its answer, on what is held and the tables of the readings, to those tables after it: the premise is what the entry promises,

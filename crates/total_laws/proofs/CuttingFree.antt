@@ -18,8 +18,8 @@ use Rattle.joiner.proofs.Sheets.{codes-back}
 use Rattle.joiner.proofs.Statement3.{opened-passed}
 use Rattle.strains.specs.declared.Reading.{Reading}
 use Rattle.totals.specs.Totals.{readingAt}
-use Rattle.strain_calls.specs.Book.{faceTotals, readingFrom}
-use Rattle.strain_calls.specs.Statement.{CuttingFree}
+use Rattle.total_laws.specs.Book.{faceTotals, readingFrom}
+use Rattle.total_laws.specs.Statement.{CuttingFree}
 use Rattle.total_laws.proofs.OwnCells.{embed-local}
 use Rattle.total_laws.proofs.TotalsRead.{face-same, totals-exact}
 

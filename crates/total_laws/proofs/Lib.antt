@@ -14,3 +14,4 @@ pub mod StrainSteps
 pub mod StrainStatement
 pub mod TotalsRead
 pub mod CuttingFree
+pub mod ListedLaws

@@ -37,7 +37,7 @@ use Rattle.strain_calls.specs.Tables.{TotalTables, totalTrays, zeroed}
 use Rattle.strain_calls.specs.Calls.{allCome}
 use Rattle.strain_calls.specs.Declines.{hasCome, totalStands, faceStands, facesStand}
 use Rattle.strain_calls.specs.Entries.{OpenedTotals}
-use Rattle.strain_calls.specs.Book.{ReadingBook, sideReadings, sideTotals, faceTotals, readingFrom, bookTotals}
+use Rattle.total_laws.specs.Book.{ReadingBook, sideReadings, sideTotals, faceTotals, readingFrom, bookTotals}
 use Rattle.strain_calls.proofs.OpeningLaws.{opening-fits}
 use Rattle.summing.specs.Summing.{Brought}
 use Rattle.total_laws.specs.Volume.{broughtTo, volumeTaken, sumsOver, countsOver}

@@ -38,7 +38,7 @@ use Rattle.strains.specs.declared.Reading.{Reading}
 use Rattle.totals.specs.Totals.{Taken, taken, slotOf, readingAt, readingsFor}
 use Rattle.lowest.specs.Lowest.{starts}
 use Rattle.strain_calls.specs.Adding.{gathered, faceTaken}
-use Rattle.strain_calls.specs.Book.{onSide, sideReadings, readingFrom}
+use Rattle.total_laws.specs.Book.{onSide, sideReadings, readingFrom}
 use Rattle.summing.specs.Summing.{Brought}
 use Rattle.total_laws.specs.Volume.{takenAt, volumeTaken, Parted, Shows, broughtTo}
 use Rattle.total_laws.proofs.OwnCells.{embed-local}

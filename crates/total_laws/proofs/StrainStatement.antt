@@ -30,8 +30,8 @@ use Rattle.strains.proofs.Whole.{float-units}
 use Rattle.totals.specs.Totals.{readingAt, readingOf}
 use Rattle.strain_calls.specs.Tables.{TotalTables}
 use Rattle.strain_calls.specs.Entries.{OpenedTotals, StrainStep}
-use Rattle.strain_calls.specs.Book.{ReadingBook, noReadings, turnedReadings}
-use Rattle.strain_calls.specs.Statement.{StrainEntry, LongFair, StrainMeasured, StrainStatement}
+use Rattle.total_laws.specs.Book.{ReadingBook, noReadings, turnedReadings}
+use Rattle.total_laws.specs.Statement.{StrainEntry, LongFair, StrainMeasured, StrainStatement}
 use Rattle.summing.specs.Summing.{Brought}
 use Rattle.total_laws.specs.Volume.{sumsOver, countsOver}
 use Rattle.total_laws.proofs.Recorded.{Emptied, opened-empty, Recorded}

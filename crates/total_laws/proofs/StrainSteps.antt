@@ -35,8 +35,8 @@ use Rattle.strain_calls.specs.Adding.{blockAdds, cellAdds, countedCells, gather
 use Rattle.strain_calls.specs.Calls.{StrainCall, strain, total, StrainAnswer, strainAnswer, allCome, inStage, hasPlace, again, listsFit, badReading}
 use Rattle.strain_calls.specs.Declines.{hasCome, lentFor, totalStands, facesStand, strainStands, strainDeclines, strainRefusal}
 use Rattle.strain_calls.specs.Entries.{StrainDone, StrainStep, withReadings}
-use Rattle.strain_calls.specs.Book.{ReadingBook, strainEarlyCases, strainBookDeclines, strainBookRefusal, strainBookEarly, bringsMap, strainAccepts, readingsAfter, turnedReadings, strainBookAnswer}
-use Rattle.strain_calls.specs.Statement.{StrainBrings, StrainAgrees}
+use Rattle.total_laws.specs.Book.{ReadingBook, strainEarlyCases, strainBookDeclines, strainBookRefusal, strainBookEarly, bringsMap, strainAccepts, readingsAfter, turnedReadings, strainBookAnswer}
+use Rattle.total_laws.specs.Statement.{StrainBrings, StrainAgrees}
 use Rattle.lowest.specs.Lowest.{starts}
 use Rattle.summing.specs.Summing.{Brought, brought, blockTaken}
 use Rattle.summing.proofs.AddingLaws.{block-adds}

@@ -37,8 +37,8 @@ use Rattle.strain_calls.specs.Tables.{TotalTables}
 use Rattle.strain_calls.specs.Adding.{gathered}
 use Rattle.strain_calls.specs.Calls.{StrainCall, strain, total, StrainAnswer, allCome}
 use Rattle.strain_calls.specs.Entries.{StrainStep}
-use Rattle.strain_calls.specs.Book.{ReadingBook, noReadings, strainAccepts, readingsAfter, turnedReadings, onSide, sideReadings, sideTotals, faceTotals, readingFrom, bookTotals}
-use Rattle.strain_calls.specs.Statement.{StrainEntry, LongFair, BringsLists, TotalRead, uncutFrom, TotalsExact, countedOn, TotalsWhole, OrderFree}
+use Rattle.total_laws.specs.Book.{ReadingBook, noReadings, strainAccepts, readingsAfter, turnedReadings, onSide, sideReadings, sideTotals, faceTotals, readingFrom, bookTotals}
+use Rattle.total_laws.specs.Statement.{StrainEntry, LongFair, BringsLists, TotalRead, uncutFrom, TotalsExact, countedOn, TotalsWhole, OrderFree}
 use Rattle.total_laws.proofs.SlotLaws.{kinds-all}
 use Rattle.total_laws.proofs.SideReadings.{map-alike}
 use Rattle.total_laws.proofs.Recorded.{Emptied, opened-empty, Recorded, each-come, side-long}

@@ -1,2 +1,4 @@
--- The definitions that the laws cite: what all blocks of a volume add to the totals.
+-- The definitions of the crate: the book of readings and what holds of lists of calls (start at Statement). `Volume` holds what only the laws speak of.
+pub mod Book
+pub mod Statement
 pub mod Volume

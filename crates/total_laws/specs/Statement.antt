@@ -21,10 +21,10 @@ use Rattle.strains.specs.declared.Reading.{Reading}
 use Rattle.totals.specs.Totals.{readingAt}
 use Rattle.totals.specs.declared.Side.{Side}
 use Rattle.totals.specs.declared.Totals.{Totals}
 use Rattle.strain_calls.specs.Tables.{TotalTables}
 use Rattle.strain_calls.specs.Calls.{StrainCall, strain, total, StrainAnswer, strainAnswer}
 use Rattle.strain_calls.specs.Entries.{OpenedTotals, StrainStep}
-use Rattle.strain_calls.specs.Book.{ReadingBook, noReadings, strainBookRefusal, strainBookEarly, bringsMap, strainAccepts, turnedReadings, strainBookAnswer, faceTotals, readingFrom}
+use Rattle.total_laws.specs.Book.{ReadingBook, noReadings, strainBookRefusal, strainBookEarly, bringsMap, strainAccepts, turnedReadings, strainBookAnswer, faceTotals, readingFrom}
 
 -- A call of the longer list.
 abbrev pub StrainEntry : Type 0
