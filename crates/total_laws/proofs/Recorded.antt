@@ -201,8 +201,8 @@ module _ (o : Told) (own : ℕ → List ℕ) (ext : offSize 1024 (o .cutting .ex
         pub side-long : length on-side ≡ length (component (k .extents) (uncut B) 2 n)
         side-long = sym (ap length same-readings) ∙ table-whole o own ext good lab B s S four (R .values) (R .kinds) n side hn hs
 
-        size : natAbs (unitsSum taken) < 2 ^ 53
-        size =
+        taken-size : natAbs (unitsSum taken) < 2 ^ 53
+        taken-size =
             omega (
               arith,
               ap natAbs (+ℤ-idl (unitsSum taken)),
@@ -211,12 +211,16 @@ module _ (o : Told) (own : ℕ → List ℕ) (ext : offSize 1024 (o .cutting .ex
               few o own ext good lab B s S four (R .values) (R .kinds) n,
             )
 
+        -- .. and their sum is below the bound of exactness
+        pub side-size : natAbs (unitsSum on-side) < 2 ^ 53
+        side-size = subst (λ (l : List Reading). natAbs (unitsSum l) < 2 ^ 53) same-readings taken-size
+
         sum-is : floatOf (unitsOf (getD (w .sums) slot plusZero)) ≡ floatOf (unitsSum on-side)
         sum-is =
             ap (λ (x : Float). floatOf (unitsOf x))
             (ap (λ (l : List Float). getD l slot plusZero) (Q .sums)
             ∙ table-exact o own ext good lab B s S four (R .values) (R .kinds) (R .came) came-all n side hn hs (v .sums) (slot-in .0) (Z .no-sums slot (slot-in .0)) (readings-all slot))
-            ∙ ap floatOf (units-float (unitsSum taken) size ∙ ap unitsSum same-readings)
+            ∙ ap floatOf (units-float (unitsSum taken) taken-size ∙ ap unitsSum same-readings)
 
         count-is : (j : ℕ) → j ≤ 2 → getD (w .counts) (3 * slot + j) 0 ≡ ofKind j on-side
         count-is j hj =

@@ -4,10 +4,11 @@ use mathlib.Core.Path.{_≡_, refl, sym, ap, ap₂, _∙_, subst}
 use mathlib.Core.Bool.{true, false}
 use mathlib.Core.Logic.{⊎-elim}
 use mathlib.Core.List.{List, [], _∷_, _++_, map, List·Memᴰ, List·Memᴰ·head, List·Memᴰ·tail, List·Memᴰ·not-nil, List·Memᴰ·cases-cons, List·Memᴰ·append-cases}
-use Prim.Native.Nat.{ℕ, _≤_, _<_}
+use Prim.Native.Nat.{ℕ, _^_, _≤_, _<_}
 use native.Mathlib.Omega.{arith}
 use lib.Dec.{eqb, leb, ltb}
 use lib.ListN.{getD, length}
+use lib.IntN.{ℤ, natAbs}
 use lib.Ieee.{Float}
 use borrow.Author.Tests.{eqb-true, eqb-false, leb-true, ltb-true}
 use Rattle.lists.specs.Lists.{isIn}
@@ -30,7 +31,10 @@ use Rattle.joiner.proofs.Final.{uncut-is}
 use Rattle.joiner.proofs.Simulation.{Sim, one-call}
 use Rattle.joiner.proofs.Statement3.{begun-sim, opened-passed}
 use Rattle.extended.specs.Extended.{base, added, LongRun}
+use Rattle.strains.specs.Units.{isUnits, unitsOf, floatOf}
+use Rattle.strains.specs.Readings.{unitsSum}
 use Rattle.strains.specs.declared.Reading.{Reading}
+use Rattle.strains.proofs.Whole.{float-units, units-float}
 use Rattle.totals.specs.Totals.{readingAt}
 use Rattle.totals.specs.declared.Totals.{Totals}
 use Rattle.strain_calls.specs.Tables.{TotalTables}
@@ -38,10 +42,10 @@ use Rattle.strain_calls.specs.Adding.{gathered}
 use Rattle.strain_calls.specs.Calls.{StrainCall, strain, total, StrainAnswer, allCome}
 use Rattle.strain_calls.specs.Entries.{StrainStep}
 use Rattle.total_laws.specs.Book.{ReadingBook, noReadings, strainAccepts, readingsAfter, turnedReadings, onSide, sideReadings, sideTotals, faceTotals, readingFrom, bookTotals}
-use Rattle.total_laws.specs.Statement.{StrainEntry, LongFair, BringsLists, TotalRead, uncutFrom, TotalsExact, countedOn, TotalsWhole, OrderFree}
+use Rattle.total_laws.specs.Statement.{StrainEntry, LongFair, BringsLists, TotalRead, uncutFrom, IsUnits, SumsExact, TotalsExact, countedOn, TotalsWhole, OrderFree}
 use Rattle.total_laws.proofs.SlotLaws.{kinds-all}
 use Rattle.total_laws.proofs.SideReadings.{map-alike}
-use Rattle.total_laws.proofs.Recorded.{Emptied, opened-empty, Recorded, each-come, side-long}
+use Rattle.total_laws.proofs.Recorded.{Emptied, opened-empty, Recorded, each-come, side-long, side-size}
 use Rattle.total_laws.proofs.StrainSteps.{Passed, one-reading}
 use Rattle.total_laws.proofs.StrainStatement.{base-recorded, begun-recorded}
 
@@ -70,6 +74,7 @@ module _ (o : Told) (own : ℕ → List ℕ) (values : ℕ → List Float) (kind
   record ReadFor (n : ℕ) (T : Totals) : Type 0 where
     exact : T ≡ faceTotals (o .cutting .extents) (uncutFrom (o .cutting) own) (readingFrom (o .cutting) values kinds) n
     long : (side : ℕ) → side ≤ 1 → length (sideReadings (o .cutting .extents) (uncutFrom (o .cutting) own) (readingFrom (o .cutting) values kinds) n side) ≡ length (component (o .cutting .extents) (uncutFrom (o .cutting) own) 2 n)
+    small : (side : ℕ) → side ≤ 1 → natAbs (unitsSum (sideReadings (o .cutting .extents) (uncutFrom (o .cutting) own) (readingFrom (o .cutting) values kinds) n side)) < 2 ^ 53
 
   -- .. by a call of the list
   abbrev Reads : StrainEntry → Type 0
@@ -138,6 +143,11 @@ module _ (o : Told) (own : ℕ → List ℕ) (values : ℕ → List Float) (kind
                 ∙ ap (λ (m : List ℕ). length (sideReadings (k .extents) m (readingFrom k (R .values) (R .kinds)) n side)) (sym same-map)
                 ∙ side-long o own ext good lab v Z B s S R w Q (p .closed) all n positive most side hs
                 ∙ ap (λ (m : List ℕ). length (component (k .extents) m 2 n)) same-map;
+            small = λ side hs.
+                subst (λ (l : List Reading). natAbs (unitsSum l) < 2 ^ 53)
+                (ap (λ (m : List ℕ). sideReadings (k .extents) m (readingFrom k (R .values) (R .kinds)) n side) same-map
+                ∙ side-same (k .extents) (uncutFrom k own) (readingFrom k (R .values) (R .kinds)) (readingFrom k values kinds) n same-reading side)
+                (side-size o own ext good lab v Z B s S R w Q (p .closed) all n positive most side hs);
           }
 
     -- every total that a list of calls reads
@@ -168,6 +178,22 @@ read-of o own values kinds n T X =
 -- "Sums are then exact, and are to equal the sum over whole 1,024ths for any order of blocks": totals that are read are those of the uncut face.
 pub totals-exact : TotalsExact
 totals-exact o own values kinds n T X = read-of o own values kinds n T X .exact
+
+-- a sum below the bound is so many 1,024ths exactly
+sum-units : (z : ℤ) (x : Float) → natAbs z < 2 ^ 53 → x ≡ floatOf z → IsUnits x z
+sum-units z x h e = (
+  ap (isUnits 9007199254740992) e ∙ float-units z 9007199254740992 h (omega (arith, h)),
+  ap unitsOf e ∙ units-float z h,
+)
+
+-- "Sums are then exact."
+pub sums-exact : SumsExact
+unfolding faceTotals sideTotals
+sums-exact o own values kinds n T X =
+    let r = read-of o own values kinds n T X in (
+      sum-units _ (T .lower .sum) (r .small 0 (omega arith)) (ap (λ (t : Totals). t .lower .sum) (r .exact)),
+      sum-units _ (T .higher .sum) (r .small 1 (omega arith)) (ap (λ (t : Totals). t .higher .sum) (r .exact)),
+    )
 
 -- how many readings each side of a face counts
 counted-all : (e : Triple) (m : List ℕ) (f : ℕ → ℕ → Reading) (n : ℕ)

@@ -6,6 +6,7 @@ use mathlib.Core.Bool.{true}
 use mathlib.Core.List.{List, [], _∷_, List·Memᴰ}
 use Prim.Native.Nat.{ℕ, _+_, _*_, _<_, _≤_}
 use lib.ListN.{length}
+use lib.IntN.{ℤ}
 use lib.Ieee.{Float}
 use Rattle.cells.specs.Box.{volume}
 use Rattle.cells.specs.Grid.{voxel, voxelCell}
@@ -17,6 +18,8 @@ use Rattle.joiner.specs.Stages.{codesOf}
 use Rattle.joiner.specs.Book.{Book, begun, turned}
 use Rattle.joiner.specs.Statement.{Entry, Labelling, Brings, Agrees}
 use Rattle.extended.specs.Extended.{LongEntry, base, added, LongRun}
+use Rattle.strains.specs.Units.{isUnits, unitsOf}
+use Rattle.strains.specs.Readings.{unitsSum}
 use Rattle.strains.specs.declared.Reading.{Reading}
 use Rattle.totals.specs.Totals.{readingAt}
 use Rattle.totals.specs.declared.Side.{Side}
@@ -24,7 +27,7 @@ use Rattle.totals.specs.declared.Totals.{Totals}
 use Rattle.strain_calls.specs.Tables.{TotalTables}
 use Rattle.strain_calls.specs.Calls.{StrainCall, strain, total, StrainAnswer, strainAnswer}
 use Rattle.strain_calls.specs.Entries.{OpenedTotals, StrainStep}
-use Rattle.total_laws.specs.Book.{ReadingBook, noReadings, strainBookRefusal, strainBookEarly, bringsMap, strainAccepts, turnedReadings, strainBookAnswer, faceTotals, readingFrom}
+use Rattle.total_laws.specs.Book.{ReadingBook, noReadings, strainBookRefusal, strainBookEarly, bringsMap, strainAccepts, turnedReadings, strainBookAnswer, sideReadings, faceTotals, readingFrom}
 
 -- A call of the longer list.
 abbrev pub StrainEntry : Type 0
@@ -100,7 +103,19 @@ pub record TotalRead (o : Told) (own : ℕ → List ℕ) (values : ℕ → List 
 abbrev pub uncutFrom : Cutting → (ℕ → List ℕ) → List ℕ
 uncutFrom k own = labels (k .extents) (codesOf k own)
 
--- "Sums are then exact, and are to equal the sum over whole 1,024ths for any order of blocks": the totals of the uncut face.
+-- A float that is so many 1,024ths, neither more nor less.
+abbrev pub IsUnits : Float → ℤ → Type 0
+IsUnits x z = (isUnits 9007199254740992 x ≡ true) × (unitsOf x ≡ z)
+
+-- "Sums are then exact": the sum of each side is the sum over whole 1,024ths of the readings on that side of the uncut face, and no float beside it.
+abbrev pub SumsExact : Type 0
+SumsExact =
+    (o : Told) (own : ℕ → List ℕ) (values : ℕ → List Float) (kinds : ℕ → List ℕ) (n : ℕ) (T : Totals)
+    → TotalRead o own values kinds n T
+    → IsUnits (T .lower .sum) (unitsSum (sideReadings (o .cutting .extents) (uncutFrom (o .cutting) own) (readingFrom (o .cutting) values kinds) n 0))
+    × IsUnits (T .higher .sum) (unitsSum (sideReadings (o .cutting .extents) (uncutFrom (o .cutting) own) (readingFrom (o .cutting) values kinds) n 1))
+
+-- ".. and are to equal the sum over whole 1,024ths for any order of blocks": sums and counts are the totals of the uncut face.
 abbrev pub TotalsExact : Type 0
 TotalsExact =
     (o : Told) (own : ℕ → List ℕ) (values : ℕ → List Float) (kinds : ℕ → List ℕ) (n : ℕ) (T : Totals)
