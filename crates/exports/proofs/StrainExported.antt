@@ -1,6 +1,6 @@
 -- Lists of exported calls, those of item 1 among them: the whole list is what the day book and the book of readings say.
 -- Assumes nothing.
-use mathlib.Core.List.{List}
+use mathlib.Core.List.{List, List·Memᴰ}
 use mathlib.Core.Path.{_≡_, _∙_, ap, ap₂, refl, subst, sym}
 use Prim.Native.Nat.{ℕ, zero, suc, _<_}
 use lib.Ieee.{Float}
@@ -12,12 +12,13 @@ use Rattle.joiner.specs.Statement.{Labelling}
 use Rattle.job.specs.declared.Job.{Job}
 use Rattle.job.specs.declared.Stage.{Stage}
 use Rattle.job.specs.Jobs.{stateOf}
-use Rattle.extended.specs.Extended.{LongRun}
+use Rattle.totals.specs.declared.Totals.{Totals}
+use Rattle.extended.specs.Extended.{LongRun, added}
 use Rattle.strain_calls.specs.Tables.{TotalTables}
 use Rattle.strain_calls.specs.Calls.{StrainCall, total, StrainAnswer, strainAnswer, noTotals}
 use Rattle.strain_calls.specs.Entries.{StrainStep}
 use Rattle.total_laws.specs.Book.{noReadings}
-use Rattle.total_laws.specs.Statement.{StrainEntry, LongFair, StrainMeasured}
+use Rattle.total_laws.specs.Statement.{StrainEntry, LongFair, StrainMeasured, BringsLists, TotalRead}
 use Rattle.total_laws.proofs.StrainStatement.{strain-statement}
 use Rattle.job_numbers.specs.Numbers.{jobIn}
 use Rattle.exports.specs.Exports.{ExportedOpening, ExportedTotal}
@@ -56,6 +57,19 @@ pub long-exported-run : {k : Kept} {w : TotalTables} {es : List StrainEntry} →
 long-exported-run none N = LongRun.none
 long-exported-run (next C L) N = let S = exported-step C N in LongRun.next (S .0) (long-exported-run L (S .1))
 long-exported-run (nextAdded C L) N = LongRun.nextAdded (exported-strain C N) (long-exported-run L N)
+
+-- Totals that are read in such a list are totals that are read: `sums-exact`, `totals-exact`, `totals-whole`, `order-free` and `cutting-free` (total_laws) hold of them.
+pub exported-read : (o : Told) (lent left : Tables) (w v : TotalTables) (ns ns′ : List ℕ) (own : ℕ → List ℕ) (es : List StrainEntry) (values : ℕ → List Float) (kinds : ℕ → List ℕ) (n : ℕ) (T : Totals) (u : TotalTables)
+    → ExportedOpening ns ns′ o lent left w v 0
+    → ((b : ℕ) → b < blocks (o .cutting) → Labelling (blockExtents (o .cutting) b) (own b))
+    → LongExported (keeps ns′ (o .cutting .cx) (o .cutting .cy) (o .cutting .cz) left) v es
+    → LongFair own es
+    → BringsLists values kinds es
+    → List·Memᴰ (added (total n) (strainAnswer 0 T) u) es
+    → TotalRead o own values kinds n T
+exported-read o lent left w v ns ns′ own es values kinds n T u X labelled calls fair lists read =
+    record { lent = lent; before = w; after = v; begin = stateKept (keeps ns′ (o .cutting .cx) (o .cutting .cy) (o .cutting .cz) left); calls = es; opened = opened-kept X; labelled = labelled;
+      run = long-exported-run calls (opened-numbers X); fair = fair; lists = lists; left = u; read = read }
 
 -- Statement 3's calls and item 1's, for the exports: every opening through `tugrelis_open` that answers 0, every list of calls through the other exports.
 pub exports-totals : (o : Told) (lent left : Tables) (w v : TotalTables) (ns ns′ : List ℕ) (own : ℕ → List ℕ) (es : List StrainEntry)

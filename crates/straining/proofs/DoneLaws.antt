@@ -137,8 +137,8 @@ module _ (j : Job) (cx cy cz lent-blocks lent-numbers came : List ℕ) (sums : L
           whole = record { sized = block-sized cut-as (passed .0 .good) b (passed .1); whole = l .0; valued = l .1; kinded = l .2 };
         }
 
-    pub strain-accepted : (v : TotalTables) → v ≡ storedIn cut-as lent-blocks lent-numbers (totalTables came sums counts) b m values kinds → Steps 0 v
+    pub strain-accepted : (v : TotalTables) → v ≡ storedIn cut-as lent-blocks lent-numbers (totalTables came sums counts) b m values kinds → Steps n v
     strain-accepted v s t p q =
         let o = told-number t p q in
         let i = stored-is j cx cy cz came sums counts b m values kinds t (passed .0 .good) (passed .1) in
-        record { told = sym none ∙ o; declined = λ h. absurd (h (sym o ∙ none)); accepted = λ _. (refl, rw (i, p, q) s) }
+        record { told = o; declined = λ h. absurd (h (sym o ∙ none)); accepted = λ _. (ap (λ (r : ℕ). strainAnswer r noTotals) none, rw (i, p, q) s) }

@@ -320,5 +320,5 @@ pub fn strain(
         values,
         kinds,
     );
-    0
+    refusal
 }

@@ -1,18 +1,20 @@
 -- Lists of calls through the entries, those of item 1 among them: the whole list is what the day book and the book of readings say.
 -- Assumes nothing.
-use mathlib.Core.List.{List}
+use mathlib.Core.List.{List, List·Memᴰ}
 use mathlib.Core.Path.{refl, sym}
 use Prim.Native.Nat.{ℕ, _<_}
 use Rattle.cutting.specs.Cutting.{blocks, blockExtents}
 use Rattle.joiner.specs.Job.{Told, Tables}
 use Rattle.joiner.specs.Book.{begun}
 use Rattle.joiner.specs.Statement.{Labelling}
-use Rattle.extended.specs.Extended.{LongRun}
+use lib.Ieee.{Float}
+use Rattle.totals.specs.declared.Totals.{Totals}
+use Rattle.extended.specs.Extended.{LongRun, added}
 use Rattle.strain_calls.specs.Tables.{TotalTables}
-use Rattle.strain_calls.specs.Calls.{StrainCall, StrainAnswer}
+use Rattle.strain_calls.specs.Calls.{StrainCall, total, StrainAnswer, strainAnswer}
 use Rattle.strain_calls.specs.Entries.{StrainStep}
 use Rattle.total_laws.specs.Book.{noReadings}
-use Rattle.total_laws.specs.Statement.{StrainEntry, LongFair, StrainMeasured}
+use Rattle.total_laws.specs.Statement.{StrainEntry, LongFair, StrainMeasured, BringsLists, TotalRead}
 use Rattle.total_laws.proofs.StrainStatement.{strain-statement}
 use Rattle.tie.specs.Contracts.{Held, stateIn, OpenedBy}
 use Rattle.tie.specs.StrainContracts.{CalledStrain, strained, totalled, LongCalls, none, next, nextAdded}
@@ -28,6 +30,19 @@ pub long-run : {h : Held} {w : TotalTables} {es : List StrainEntry} → LongCall
 long-run none = LongRun.none
 long-run (next C L) = LongRun.next (called-step C) (long-run L)
 long-run (nextAdded C L) = LongRun.nextAdded (called-strain C) (long-run L)
+
+-- Totals that are read in such a list are totals that are read: `sums-exact`, `totals-exact`, `totals-whole`, `order-free` and `cutting-free` (total_laws) hold of them.
+pub called-read : (o : Told) (lent : Tables) (w v : TotalTables) (h : Held) (own : ℕ → List ℕ) (es : List StrainEntry) (values : ℕ → List Float) (kinds : ℕ → List ℕ) (n : ℕ) (T : Totals) (u : TotalTables)
+    → OpenedBy o lent w 0 h v
+    → ((b : ℕ) → b < blocks (o .cutting) → Labelling (blockExtents (o .cutting) b) (own b))
+    → LongCalls h v es
+    → LongFair own es
+    → BringsLists values kinds es
+    → List·Memᴰ (added (total n) (strainAnswer 0 T) u) es
+    → TotalRead o own values kinds n T
+called-read o lent w v h own es values kinds n T u by labelled calls fair lists read =
+    let O = opened-opening by in
+    record { lent = lent; before = w; after = v; begin = stateIn h; calls = es; opened = O .opened (sym (O .told)); labelled = labelled; run = long-run calls; fair = fair; lists = lists; left = u; read = read }
 
 -- Statement 3's calls and item 1's, for the entries: every opening through `open` that is accepted, every list of calls through the other entries.
 pub service-totals : (o : Told) (lent : Tables) (w v : TotalTables) (h : Held) (own : ℕ → List ℕ) (es : List StrainEntry)

@@ -7,10 +7,10 @@ use mathlib.Core.List.{List, [], _∷_}
 use Prim.Native.Nat.{ℕ, zero, suc, _+_, _-_, _*_, _≤_, _<_}
 use native.Mathlib.Omega.{arith}
 use lib.Dec.{leb, lit<}
-use lib.IntN.{pos, +ℤ-idl}
+use lib.IntN.{ℤ, pos, +ℤ-idl}
 use lib.ListN.{getD, set, length, List·getD-eq-default}
 use lib.Seq.{set-out, set-getD}
-use lib.Ieee.{Float, nan, binary64, add}
+use lib.Ieee.{Float, nan, fin, binary64, add}
 use borrow.Author.Tests.{eq-eqb, ne-eqb, le-leb, lt-leb, not-true, not-false}
 use Rattle.lists.specs.Lists.{consecutive}
 use Rattle.lists.proofs.Cases.{and-first, and-second}
@@ -18,6 +18,7 @@ use Rattle.lists.proofs.Lists.{consecutive-in}
 use Rattle.lists.proofs.Tests.{all-out, Held, held-broken, held-all}
 use Rattle.strains.specs.Units.{isUnits, unitsOf, floatOf, plusZero}
 use Rattle.strains.proofs.Exact.{add-units}
+use Rattle.strains.proofs.Signs.{given-signed}
 use Rattle.strains.proofs.Sums.{float-none}
 use Rattle.strains.specs.Readings.{isGood, sumWith, kindOf}
 use Rattle.strains.specs.declared.Reading.{Reading}
@@ -177,6 +178,14 @@ module _ (most : ℕ) (sums : List Float) (counts : List ℕ) (n : ℕ) (h : bot
   pub higher-units : (d : Side) → d ≡ sideAt sums counts (2 * (n - 1) + 1) → isUnits 9007199254740992 (d .sum) ≡ true
   unfolding bothStand slotOf
   higher-units d e = side-units (2 * (n - 1) + 1) (and-second (standsAt most sums counts (2 * (n - 1) + 0)) (standsAt most sums counts (2 * (n - 1) + 1)) h) d e
+
+  -- "Minus zero counts as zero": no total that is given is minus zero, whatever the tables hold.
+  pub totals-signed : (e : ℤ) → (totalsOf sums counts n .lower .sum ≢ fin true 0 e) × (totalsOf sums counts n .higher .sum ≢ fin true 0 e)
+  unfolding totalsOf givenSide bothStand
+  totals-signed e =
+      let low = side-units (slotOf n 0) (and-first (standsAt most sums counts (slotOf n 0)) (standsAt most sums counts (slotOf n 1)) h) _ refl in
+      let high = side-units (slotOf n 1) (and-second (standsAt most sums counts (slotOf n 0)) (standsAt most sums counts (slotOf n 1)) h) _ refl in
+      (given-signed (sideAt sums counts (slotOf n 0) .sum) low e, given-signed (sideAt sums counts (slotOf n 1) .sum) high e)
 
 pub totals-are : (sums : List Float) (counts : List ℕ) (n : ℕ) (a b c d : Side) → a ≡ sideAt sums counts (2 * (n - 1)) → b ≡ sideAt sums counts (2 * (n - 1) + 1)
     → c ≡ givenSide a → d ≡ givenSide b → _≡_ {A = Totals} (record { lower = c; higher = d }) (totalsOf sums counts n)

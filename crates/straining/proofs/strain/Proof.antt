@@ -33,7 +33,10 @@ same-length-6 : tie.Need-same-length-6
 same-length-6 c = search needs
 
 returns-2 : tie.Need-returns-2
-returns-2 c = search strain-accepted
+returns-2 c =
+    let called = c .before .before .before .before .before .before in
+    let judged = called .before .before .before .before in
+    strain-accepted (judged .before .before .before .before .before .before .before .before .before .before .before .before .before .before .before .before .args .job) _ _ _ _ _ _ _ _ _ _ _ _ _ (judged .before .judge .ensures) (judged .if1 .left) _ (called .accept .ensures)
 
 pub strain-spec : {M : Type 1} → statement M
 strain-spec =
