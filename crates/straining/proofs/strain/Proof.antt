@@ -1,4 +1,5 @@
 -- `straining::strain` meets its contract.
+use native.Mathlib.Omega.{arith}
 use borrow.Author.Needs.{needs}
 use Rattle.straining.proofs.DoneLaws.{strain-refused, strain-ready, strain-accepted}
 use Rattle.straining.proofs.strain.Statement.{statement}
@@ -17,7 +18,8 @@ same-length-3 : tie.Need-same-length-3
 same-length-3 c = search needs
 
 returns : tie.Need-returns
-returns c = search strain-refused
+returns c =
+    strain-refused (c .before .before .before .before .before .before .before .before .before .before .before .before .before .before .before .before .args .job) _ _ _ _ _ _ _ _ _ _ _ _ _ (c .before .judge .ensures) (λ z. omega (arith, z, c .if1 .taken))
 
 accept-requires : tie.Need-accept-requires
 accept-requires c κs =
