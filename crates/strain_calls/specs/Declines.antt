@@ -44,7 +44,7 @@ lentFor o t w (total n) = totalTrays o w
 unfoldable pub totalStands : Cutting → TotalTables → ℕ → Bool
 totalStands k w n = bothStand (cells (k .extents)) (w .sums) (w .counts) n
 
--- A face of the block, by its place: its final number is one of the closed table's, so that it has a total, and its total stands.
+-- A face of the block, by its place: its final number is that of a face of the job, 1 to the numbered, and its total stands.
 unfoldable pub faceStands : State → TotalTables → ℕ → Bool
 faceStands s w x = numberStands s Face x && totalStands (s .job .told .cutting) w (getD (s .tables .numbers Face) x 0)
 
