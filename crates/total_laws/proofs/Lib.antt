@@ -15,3 +15,4 @@ pub mod StrainStatement
 pub mod TotalsRead
 pub mod CuttingFree
 pub mod ListedLaws
+pub mod Examples
