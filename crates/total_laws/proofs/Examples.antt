@@ -8,8 +8,7 @@ use Prim.Native.Nat.{ℕ}
 use lib.Dec.{eqb}
 use lib.ListN.{set}
 use lib.IntN.{pos, negsuc}
-use lib.Ieee.{Float, nan, fin, add, sum as float-sum, round, size, span, climb, units, odd}
-use lib.Count.{trailingZeros}
+use lib.Ieee.{Float, nan, fin, add}
 use Rattle.lists.specs.Lists.{consecutive, tabulate, zeros}
 use Rattle.closure.specs.Joined.{mergeIds, joinClasses, joins, rep}
 use Rattle.closure.specs.Numbered.{countBelow, leader, numberBy, label}
@@ -94,7 +93,7 @@ fresh = zeroed (totalTables (7 ∷ 7 ∷ []) (nan ∷ nan ∷ nan ∷ nan ∷ []
 
 -- What a call is refused with.
 unfoldable pub refused : TotalTables → StrainCall → ℕ
-unfolding span climb size odd units round float-sum add trailingZeros consecutive tabulate zeros number table first givenBy standsIn stride volume index place isExtent offSize sides cells parity order voxel along upperNeighbours rowOf row ofOrder largest component ascends cutList intervals lowEnd highEnd blockSides blocks goodCut interval origin blockExtents embed stageNumber sameStage countOf fromOf node lengthsFit numberTrays hasOn hasCell local lowestBlock tallyFits talliesFit filled counted standing mapStands numberStands finalOf isUnits unitsOf floatOf isGood sumWith unitsIn unitsSum kindOf ofKind slotOf after sumAdded sumsWith more countAdded countsWith readingOf readingAt fitsAt readingsFit sideAt givenSide totalsOf sideStands standsAt bothStand totalTrays zeroed gathered voxelTaken faceTaken isLowest countedCells cellAdds blockAdds allCome hasCome totalStands faceStands facesStand strainDeclines strainRefusal withReadings onSide sideReadings sideTotals faceTotals readingFrom
+unfolding add consecutive tabulate zeros number table first givenBy standsIn stride volume index place isExtent offSize sides cells parity order voxel along upperNeighbours rowOf row ofOrder largest component ascends cutList intervals lowEnd highEnd blockSides blocks goodCut interval origin blockExtents embed stageNumber sameStage countOf fromOf node lengthsFit numberTrays hasOn hasCell local lowestBlock tallyFits talliesFit filled counted standing mapStands numberStands finalOf isUnits unitsOf floatOf isGood sumWith unitsIn unitsSum kindOf ofKind slotOf after sumAdded sumsWith more countAdded countsWith readingOf readingAt fitsAt readingsFit sideAt givenSide totalsOf sideStands standsAt bothStand totalTrays zeroed gathered voxelTaken faceTaken isLowest countedCells cellAdds blockAdds allCome hasCome totalStands faceStands facesStand strainDeclines strainRefusal withReadings onSide sideReadings sideTotals faceTotals readingFrom
 refused w c = strainRefusal closed w c
 
 -- The tables after a block's readings.
@@ -254,11 +253,12 @@ pub sum-just-beyond : refused (forgedSum (fin false 4503599627370497 (negsuc 8))
 unfolding refused
 sum-just-beyond = refl
 
--- A sum of 2^43, and of minus 2^43.
+-- A sum of 2^43 stands.
 pub sum-largest : refused (forgedSum (fin false 1 (pos 43))) (total 1) ≡ 0
 unfolding refused
 sum-largest = refl
 
+-- .. and one of minus 2^43.
 pub sum-least : refused (forgedSum (fin true 1 (pos 43))) (total 1) ≡ 0
 unfolding refused
 sum-least = refl
