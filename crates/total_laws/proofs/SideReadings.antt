@@ -150,18 +150,18 @@ pub map-alike : (f g : ℕ → Reading) (l : List ℕ) → ((q : ℕ) → List·
 map-alike f g [] h = refl
 map-alike f g (q ∷ l) h = ap₂ (λ (x : Reading) (r : List Reading). x ∷ r) (h q (List·Memᴰ·head refl)) (map-alike f g l (λ q m. h q (List·Memᴰ·tail m)))
 
-module _ (k : Cutting) (good : goodCut k ≡ true) (codes : List ℕ) (b : ℕ) (hb : b < blocks k) (p : ℕ) (hp : p < cells (blockExtents k b)) (level : order (blockExtents k b) p ≡ 2) (side : ℕ) where
+module _ (k : Cutting) (good : goodCut k ≡ true) (codes : List ℕ) (b : ℕ) (hb : b < blocks k) (p : ℕ) (hp : p < cells (blockExtents k b)) (cell-level : order (blockExtents k b) p ≡ 2) (side : ℕ) where
   -- the voxels on a side of a block's face cell are those on that side of it in the volume
   on-side-embed : onSide (k .extents) (uncutMap k codes) side (embed k b p) ≡ map (embed k b) (onSide (blockExtents k b) (part k codes b) side p)
   unfolding onSide
   on-side-embed =
-      ap₂ (λ (r l : List ℕ). keep (λ q. eqb (getD (uncutMap k codes) q 0) (getD r side 0)) l) (sym (face-row k good codes b hb p hp level)) (sym (embed-up k good b hb p hp))
+      ap₂ (λ (r l : List ℕ). keep (λ q. eqb (getD (uncutMap k codes) q 0) (getD r side 0)) l) (sym (face-row k good codes b hb p hp cell-level)) (sym (embed-up k good b hb p hp))
       ∙ keep-map (λ q. eqb (getD (uncutMap k codes) q 0) (getD (row (blockExtents k b) (part k codes b) p) side 0)) (embed k b) (upperNeighbours (blockExtents k b) p)
       ∙ ap (map (embed k b))
       (keep-same _ _ (upperNeighbours (blockExtents k b) p)
       (λ q i.
       let w : Upper (blockExtents k b) p q = upper-neighbour (blockExtents k b) p hp i in
-      ap (λ (x : ℕ). eqb x (getD (row (blockExtents k b) (part k codes b) p) side 0)) (sym (voxel-same k good codes b hb q (w .within) (w .higher ∙ ap suc level)))))
+      ap (λ (x : ℕ). eqb x (getD (row (blockExtents k b) (part k codes b) p) side 0)) (sym (voxel-same k good codes b hb q (w .within) (w .higher ∙ ap suc cell-level)))))
 
 -- ---- a closed job
 
@@ -199,8 +199,8 @@ module _ (o : Told) (own : ℕ → List ℕ) (ext : offSize 1024 (o .cutting .ex
     is : embed k b p ≡ t
     is = h .1 ∙ index-place (sides (k .extents)) t
 
-    level : order (blockExtents k b) p ≡ 2
-    level = sym (embed-order k good b (w .0) p (h .0)) ∙ ap (order (k .extents)) is ∙ ot
+    cell-level : order (blockExtents k b) p ≡ 2
+    cell-level = sym (embed-order k good b (w .0) p (h .0)) ∙ ap (order (k .extents)) is ∙ ot
 
     -- the readings of the lowest block's voxels beside the cell are those of the volume's
     lifted : map (λ q. readingAt (values b) (kinds b) (voxel (blockExtents k b) q)) (onSide (blockExtents k b) (own b) side p) ≡ cell-readings t
@@ -210,7 +210,7 @@ module _ (o : Told) (own : ℕ → List ℕ) (ext : offSize 1024 (o .cutting .ex
         (λ q i. ap (λ (x : ℕ). readingAt (values b) (kinds b) (voxel (blockExtents k b) x)) (sym (embed-local k good b (w .0) q (beside (blockExtents k b) (own b) side p q (h .0) i))))
         ∙ sym (map-map (readingFrom k values kinds t) (embed k b) (onSide (blockExtents k b) (own b) side p))
         ∙ ap (λ (m : List ℕ). map (readingFrom k values kinds t) (map (embed k b) (onSide (blockExtents k b) m side p))) (part-is o own good lab B s (S .inv) (omega (arith, four)) b (w .0))
-        ∙ ap (map (readingFrom k values kinds t)) (sym (on-side-embed k good codes b (w .0) p (h .0) level side))
+        ∙ ap (map (readingFrom k values kinds t)) (sym (on-side-embed k good codes b (w .0) p (h .0) cell-level side))
         ∙ ap₂ (λ (m : List ℕ) (x : ℕ). map (readingFrom k values kinds t) (onSide (k .extents) m side x)) (sym (uncut-is o own good lab B s (S .inv) (omega (arith, four)))) is
 
     -- what is taken at the cell for a side of face n

@@ -111,11 +111,11 @@ module _ (o : Told) (own : ℕ → List ℕ) (values : ℕ → List Float) (kind
       abbrev k : Cutting
       k = o .cutting
 
-      all : allCome k (isIn (R .came)) ≡ true
-      all = and-second (sameStage (B .stage) Closed) (allCome k (isIn (R .came))) (p .staged)
+      come-all : allCome k (isIn (R .came)) ≡ true
+      come-all = and-second (sameStage (B .stage) Closed) (allCome k (isIn (R .came))) (p .staged)
 
-      positive : 0 < n
-      positive = ltb-true 0 n (and-first (ltb 0 n) (leb n (s .job .numbered Face)) (p .placed))
+      numbered-some : 0 < n
+      numbered-some = ltb-true 0 n (and-first (ltb 0 n) (leb n (s .job .numbered Face)) (p .placed))
 
       most : n ≤ o .entries Face
       most = omega (arith, leb-true n (s .job .numbered Face) (and-second (ltb 0 n) (leb n (s .job .numbered Face)) (p .placed)), S .inv .numbered Face, S .inv .sofar Face, S .inv .room Face)
@@ -129,7 +129,7 @@ module _ (o : Told) (own : ℕ → List ℕ) (values : ℕ → List Float) (kind
       unfolding readingFrom
       same-reading t ht ot q i =
           let b : ℕ = lowestBlock k (place (sides (k .extents)) t) in
-          let l = H b (each-come o own ext good lab v Z B s S R w Q (p .closed) all b (lowest-has k good t ht .0)) in
+          let l = H b (each-come o own ext good lab v Z B s S R w Q (p .closed) come-all b (lowest-has k good t ht .0)) in
           ap₂ (λ (x : List Float) (y : List ℕ). readingAt x y (voxel (blockExtents k b) (local k b (place (sides (k .extents)) q)))) (l .0) (l .1)
 
       book-read : ReadFor n (bookTotals B R n)
@@ -141,13 +141,13 @@ module _ (o : Told) (own : ℕ → List ℕ) (values : ℕ → List Float) (kind
             long = λ side hs.
                 ap length (sym (side-same (k .extents) (uncutFrom k own) (readingFrom k (R .values) (R .kinds)) (readingFrom k values kinds) n same-reading side))
                 ∙ ap (λ (m : List ℕ). length (sideReadings (k .extents) m (readingFrom k (R .values) (R .kinds)) n side)) (sym same-map)
-                ∙ side-long o own ext good lab v Z B s S R w Q (p .closed) all n positive most side hs
+                ∙ side-long o own ext good lab v Z B s S R w Q (p .closed) come-all n numbered-some most side hs
                 ∙ ap (λ (m : List ℕ). length (component (k .extents) m 2 n)) same-map;
             small = λ side hs.
                 subst (λ (l : List Reading). natAbs (unitsSum l) < 2 ^ 53)
                 (ap (λ (m : List ℕ). sideReadings (k .extents) m (readingFrom k (R .values) (R .kinds)) n side) same-map
                 ∙ side-same (k .extents) (uncutFrom k own) (readingFrom k (R .values) (R .kinds)) (readingFrom k values kinds) n same-reading side)
-                (side-size o own ext good lab v Z B s S R w Q (p .closed) all n positive most side hs);
+                (side-size o own ext good lab v Z B s S R w Q (p .closed) come-all n numbered-some most side hs);
           }
 
     -- every total that a list of calls reads
