@@ -11,6 +11,7 @@ use lib.Dec.{eqb}
 use lib.ListN.{getD, length}
 use lib.Ieee.{Float}
 use borrow.Author.Tests.{eq-eqb, ne-eqb, not-true, not-false}
+use Rattle.lists.proofs.Cases.{by-test}
 use Rattle.cells.specs.Box.{Triple, Y, Z, triple, stride, volume, place}
 use Rattle.cells.specs.Extents.{Sized}
 use Rattle.cells.specs.Grid.{sides, cells, order, voxel}
@@ -166,6 +167,28 @@ module _ (e s : Triple) (m numbers : List ℕ) (from : ℕ) (values : List Float
 
   pub own-counts : (counts now : List ℕ) → r ≢ 0 → now ≡ countsWith counts (faceTaken e m values kinds r p) → now ≡ countsWith counts (cellTaken e s (brought m numbers from values kinds) p)
   own-counts counts now z f = rw (cell-face z) f
+
+-- A cell that shows no face of the block shows none of the volume.
+module _ (e s : Triple) (m numbers : List ℕ) (from : ℕ) (values : List Float) (kinds : List ℕ) (p : ℕ) (z : getD m p 0 ≡ 0) where
+  shows-none : faceAt (brought m numbers from values kinds) p ≡ 0
+  unfolding faceAt finalIn
+  shows-none = rw (eq-eqb (getD m p 0) 0 z) refl
+
+  owns-none : ownFace e s (brought m numbers from values kinds) p ≡ 0
+  unfolding ownFace
+  owns-none = rw shows-none (by-test (startsBy s (place (sides e) p)) (λ t. rw t refl) (λ t. rw t refl))
+
+  pub blank-none : cellTaken e s (brought m numbers from values kinds) p ≡ []
+  unfolding cellTaken
+  blank-none = rw owns-none refl
+
+  pub blank-sums : (sums : List Float) → sums ≡ sumsWith sums (cellTaken e s (brought m numbers from values kinds) p)
+  unfolding sumsWith after
+  blank-sums sums = rw blank-none refl
+
+  pub blank-counts : (counts : List ℕ) → counts ≡ countsWith counts (cellTaken e s (brought m numbers from values kinds) p)
+  unfolding countsWith after
+  blank-counts counts = rw blank-none refl
 
 -- ---- one line
 

@@ -105,8 +105,8 @@ fn own_face(
     final_number(numbers, from, map[p])
 }
 
-// Takes in what is taken at face cell p.
-fn take_cell(
+// Takes in what is taken at face cell p, whatever it shows.
+fn take_active(
     sums: &mut [f64],
     counts: &mut [u64],
     values: &[f64],
@@ -137,6 +137,58 @@ fn take_cell(
         return;
     }
     take_face(sums, counts, values, kinds, map, nx, ny, nz, p, a, n, v, d);
+}
+
+// Takes in what is taken at face cell p. Most show no face: the test is apart, so that the loop has it and not the call.
+fn take_cell(
+    sums: &mut [f64],
+    counts: &mut [u64],
+    values: &[f64],
+    kinds: &[u8],
+    map: &[u32],
+    numbers: &[u32],
+    nx: usize,
+    ny: usize,
+    nz: usize,
+    s: Start,
+    from: u32,
+    p: usize,
+    a: usize,
+    v: usize,
+    d: usize,
+    x: usize,
+    y: usize,
+    z: usize,
+)
+    requires { ⌜ Beside (triple nx ny nz) (now map) (now values) (now kinds) p a v d × (place (sides (triple nx ny nz)) p ≡ triple x y z) ⌝ }
+    ensures sum { λ r. ⌜ now (sums .exit) ≡ sumsWith (now (sums .entry))
+        (cellTaken (triple nx ny nz) (startOf s) (brought (now (map .entry)) (now (numbers .entry)) from (now (values .entry)) (now (kinds .entry))) p) ⌝ }
+    ensures count { λ r. ⌜ now (counts .exit) ≡ countsWith (now (counts .entry))
+        (cellTaken (triple nx ny nz) (startOf s) (brought (now (map .entry)) (now (numbers .entry)) from (now (values .entry)) (now (kinds .entry))) p) ⌝ }
+{
+    if map[p] == 0 {
+        return;
+    }
+    take_active(
+        sums,
+        counts,
+        values,
+        kinds,
+        map,
+        numbers,
+        nx,
+        ny,
+        nz,
+        s,
+        from,
+        p,
+        a,
+        v,
+        d,
+        x,
+        y,
+        z,
+    );
 }
 
 // A line of the cells: what its face cells are told by.
