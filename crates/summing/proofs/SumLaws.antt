@@ -4,22 +4,24 @@ use mathlib.Core.Path.{_≡_, refl, sym, ap, _∙_}
 use mathlib.Core.Bool.{Bool, true, false, not}
 use mathlib.Core.Logic.{_≢_}
 use mathlib.Core.List.{List, [], _∷_, _++_, append-nil}
-use Prim.Native.Nat.{ℕ, _+_, _-_, _*_, _/_, _%_, _≤_, _<_}
+use Prim.Native.Nat.{ℕ, _+_, _-_, _*_, _/_, _%_, _≤_, _<_, min, max}
 use native.Mathlib.Nat.{mul-le-mul, mul-comm, div-lt-iff-lt-mul, mod-lt}
 use native.Mathlib.Omega.{arith}
 use lib.Dec.{eqb}
 use lib.ListN.{getD, length}
 use lib.Ieee.{Float}
 use borrow.Author.Tests.{eq-eqb, ne-eqb, not-true, not-false}
+use Rattle.lists.proofs.Cases.{by-test}
 use Rattle.cells.specs.Box.{Triple, Y, Z, triple, stride, volume, place}
 use Rattle.cells.specs.Extents.{Sized}
 use Rattle.cells.specs.Grid.{sides, cells, order, voxel}
-use Rattle.cells.specs.Row.{row}
+use Rattle.cells.specs.Row.{padTo, rowOf, row}
 use Rattle.cells.proofs.BoxLaws.{same-triple}
+use Rattle.cells.proofs.RowFacts.{row-alike}
 use Rattle.cells.proofs.GridLaws.{voxel-inside}
 use Rattle.cells.proofs.ExtentLaws.{layer-high, area-high, cells-high}
 use Rattle.lines.specs.Lines.{odds, around, lineCount, lineY, lineZ, firstX, firstStride}
-use Rattle.lines.proofs.LineLaws.{up-around, Reads, reads, Tests, line-odd, line-inside, line-place, line-strides, strided-one}
+use Rattle.lines.proofs.LineLaws.{up-around, row-odds, Reads, reads, Tests, line-odd, line-inside, line-place, line-strides, strided-one}
 use Rattle.findings.specs.Findings.{finalIn}
 use Rattle.surveys.specs.Surveys.{onLine}
 use Rattle.surveys.proofs.SurveyLaws.{among, tests, fromLine}
@@ -27,8 +29,9 @@ use Rattle.strains.specs.declared.Reading.{Reading}
 use Rattle.totals.specs.Totals.{Taken, taken, slotOf, after, sumAdded, sumsWith, countAdded, countsWith, readingAt}
 use Rattle.lowest.specs.Lowest.{startsBy}
 use Rattle.strain_calls.specs.Adding.{gathered, voxelTaken, faceTaken}
-use Rattle.summing.specs.Summing.{Brought, brought, faceAt, ownFace, cellTaken, blockTaken, Whole, Lies, Beside, OwnFace}
+use Rattle.summing.specs.Summing.{Brought, brought, faceAt, ownFace, cellTaken, blockTaken, Whole, Lies, Beside, Ending, OwnFace}
 use Rattle.summing.specs.declared.Line.{Line}
+use Rattle.summing.specs.declared.Ends.{Ends}
 use Rattle.summing.proofs.TakenLaws.{after-append, after-start, after-next, after-end, after-lines, after-line, after-last}
 use Rattle.summing.proofs.VoxelLaws.{voxels-beside}
 
@@ -85,6 +88,45 @@ module _ (n low high u : ℕ) (x : Reading) where
     unfolding countsWith after
     high-counts y now z l e f g = rw (on-high z l e, ← f) g
 
+-- ---- the two numbers of a face cell's row
+
+module _ (u v : ℕ) (r : Ends) where
+  pub ends-same : r .low ≡ 0 → r .high ≡ 0 → u ≡ v → Ending u v r
+  ends-same a b e =
+      let w : rowOf (u ∷ v ∷ []) ≡ padTo 6 [] = rw (← e) (row-alike 2 u (omega arith)) in
+      record { low = a ∙ rw w refl; high = b ∙ rw w refl }
+
+  pub ends-above : r .low ≡ v → r .high ≡ 0 → u ≢ v → u ≡ 0 → Ending u v r
+  unfolding rowOf
+  ends-above a b h z =
+      let y : v ≢ 0 = λ e. h (z ∙ sym e) in
+      record {
+        low = a ∙ rw (z, ne-eqb v 0 y, eq-eqb v v refl, ne-eqb 0 v (λ e. y (sym e))) refl;
+        high = b ∙ rw (z, ne-eqb v 0 y, eq-eqb v v refl, ne-eqb 0 v (λ e. y (sym e))) refl;
+      }
+
+  pub ends-below : r .low ≡ u → r .high ≡ 0 → u ≢ 0 → v ≡ 0 → Ending u v r
+  unfolding rowOf
+  ends-below a b y z =
+      record {
+        low = a ∙ rw (z, ne-eqb u 0 y, eq-eqb u u refl, ne-eqb 0 u (λ e. y (sym e))) refl;
+        high = b ∙ rw (z, ne-eqb u 0 y, eq-eqb u u refl, ne-eqb 0 u (λ e. y (sym e))) refl;
+      }
+
+  ends-both : r .low ≡ min u v → r .high ≡ max u v → u ≢ v → u ≢ 0 → v ≢ 0 → Ending u v r
+  unfolding rowOf
+  ends-both a b h hu hv =
+      record {
+        low = a ∙ rw (ne-eqb u 0 hu, ne-eqb v 0 hv, eq-eqb u u refl, eq-eqb v v refl, ne-eqb u v h, ne-eqb v u (λ e. h (sym e))) refl;
+        high = b ∙ rw (ne-eqb u 0 hu, ne-eqb v 0 hv, eq-eqb u u refl, eq-eqb v v refl, ne-eqb u v h, ne-eqb v u (λ e. h (sym e))) refl;
+      }
+
+  pub ends-up : r .low ≡ u → r .high ≡ v → u ≢ v → u ≢ 0 → v ≢ 0 → u < v → Ending u v r
+  ends-up a b h hu hv l = ends-both (omega arith) (omega arith) h hu hv
+
+  pub ends-down : r .low ≡ v → r .high ≡ u → u ≢ v → u ≢ 0 → v ≢ 0 → v ≤ u → Ending u v r
+  ends-down a b h hu hv l = ends-both (omega arith) (omega arith) h hu hv
+
 -- ---- one face cell
 
 -- where its numbers and readings are read
@@ -113,23 +155,32 @@ module _ (e : Triple) (m : List ℕ) (values : List Float) (kinds : List ℕ) (n
         above-kind = omega (arith, B .above, B .kinded);
       }
 
-  -- what is taken below and above
-  abbrev part : List ℕ → ℕ → ℕ → List Taken
-  part r q w = voxelTaken n (getD r 0 0) (getD r 1 0) (getD m q 0) (readingAt values kinds w)
+  -- its row, by the numbers of its voxels
+  abbrev pair : List ℕ
+  pair = getD m (p - a) 0 ∷ getD m (p + a) 0 ∷ []
 
-  taken-face : (r : List ℕ) → r ≡ row e m p → faceTaken e m values kinds n p ≡ part r (p - a) v ++ part r (p + a) (v + d)
-  unfolding faceTaken gathered around
-  taken-face r f =
-      rw (up-around e p, B .axis, ← f, ← B .below, ← B .above)
-      (ap (λ (l : List Taken). part r (p - a) v ++ l) (append-nil (part r (p + a) (v + d))))
+  row-is : row e m p ≡ rowOf pair
+  unfolding around
+  row-is = row-odds e m p (a ∷ []) (B .axis)
 
-  pub face-sums : (r : List ℕ) (sums one two : List Float) → r ≡ row e m p → one ≡ sumsWith sums (part r (p - a) v) → two ≡ sumsWith one (part r (p + a) (v + d)) → two ≡ sumsWith sums (faceTaken e m values kinds n p)
-  unfolding sumsWith
-  face-sums r sums one two f g h = h ∙ rw (g, taken-face r f) (sym (after-append _ sums (part r (p - a) v) (part r (p + a) (v + d))))
+  module _ (r : Ends) (E : Ending (getD m (p - a) 0) (getD m (p + a) 0) r) where
+    -- what is taken below and above
+    abbrev part : ℕ → ℕ → List Taken
+    part q w = voxelTaken n (r .low) (r .high) (getD m q 0) (readingAt values kinds w)
 
-  pub face-counts : (r counts one two : List ℕ) → r ≡ row e m p → one ≡ countsWith counts (part r (p - a) v) → two ≡ countsWith one (part r (p + a) (v + d)) → two ≡ countsWith counts (faceTaken e m values kinds n p)
-  unfolding countsWith
-  face-counts r counts one two f g h = h ∙ rw (g, taken-face r f) (sym (after-append _ counts (part r (p - a) v) (part r (p + a) (v + d))))
+    taken-face : faceTaken e m values kinds n p ≡ part (p - a) v ++ part (p + a) (v + d)
+    unfolding faceTaken gathered around
+    taken-face =
+        rw (row-is, ← E .low, ← E .high, up-around e p, B .axis, ← B .below, ← B .above)
+        (ap (λ (l : List Taken). part (p - a) v ++ l) (append-nil (part (p + a) (v + d))))
+
+    pub face-sums : (sums one two : List Float) → one ≡ sumsWith sums (part (p - a) v) → two ≡ sumsWith one (part (p + a) (v + d)) → two ≡ sumsWith sums (faceTaken e m values kinds n p)
+    unfolding sumsWith
+    face-sums sums one two g h = h ∙ rw (g, taken-face) (sym (after-append _ sums (part (p - a) v) (part (p + a) (v + d))))
+
+    pub face-counts : (counts one two : List ℕ) → one ≡ countsWith counts (part (p - a) v) → two ≡ countsWith one (part (p + a) (v + d)) → two ≡ countsWith counts (faceTaken e m values kinds n p)
+    unfolding countsWith
+    face-counts counts one two g h = h ∙ rw (g, taken-face) (sym (after-append _ counts (part (p - a) v) (part (p + a) (v + d))))
 
 -- ---- the face that a cell shows
 
@@ -166,6 +217,28 @@ module _ (e s : Triple) (m numbers : List ℕ) (from : ℕ) (values : List Float
 
   pub own-counts : (counts now : List ℕ) → r ≢ 0 → now ≡ countsWith counts (faceTaken e m values kinds r p) → now ≡ countsWith counts (cellTaken e s (brought m numbers from values kinds) p)
   own-counts counts now z f = rw (cell-face z) f
+
+-- A cell that shows no face of the block shows none of the volume.
+module _ (e s : Triple) (m numbers : List ℕ) (from : ℕ) (values : List Float) (kinds : List ℕ) (p : ℕ) (z : getD m p 0 ≡ 0) where
+  shows-none : faceAt (brought m numbers from values kinds) p ≡ 0
+  unfolding faceAt finalIn
+  shows-none = rw (eq-eqb (getD m p 0) 0 z) refl
+
+  owns-none : ownFace e s (brought m numbers from values kinds) p ≡ 0
+  unfolding ownFace
+  owns-none = rw shows-none (by-test (startsBy s (place (sides e) p)) (λ t. rw t refl) (λ t. rw t refl))
+
+  pub blank-none : cellTaken e s (brought m numbers from values kinds) p ≡ []
+  unfolding cellTaken
+  blank-none = rw owns-none refl
+
+  pub blank-sums : (sums : List Float) → sums ≡ sumsWith sums (cellTaken e s (brought m numbers from values kinds) p)
+  unfolding sumsWith after
+  blank-sums sums = rw blank-none refl
+
+  pub blank-counts : (counts : List ℕ) → counts ≡ countsWith counts (cellTaken e s (brought m numbers from values kinds) p)
+  unfolding countsWith after
+  blank-counts counts = rw blank-none refl
 
 -- ---- one line
 

@@ -10,6 +10,7 @@ use lib.Ieee.{Float}
 use Rattle.cells.specs.Box.{Triple, volume, place}
 use Rattle.cells.specs.Grid.{sides, cells, voxel}
 use Rattle.cells.specs.Extents.{Sized}
+use Rattle.cells.specs.Row.{rowOf}
 use Rattle.lines.specs.Lines.{odds, lineY, lineZ, firstX, firstStride}
 use Rattle.labels.specs.Components.{ofOrder}
 use Rattle.findings.specs.Findings.{finalIn}
@@ -17,6 +18,7 @@ use Rattle.totals.specs.Totals.{Taken}
 use Rattle.strain_calls.specs.Adding.{gathered, faceTaken}
 use Rattle.lowest.specs.Lowest.{startsBy}
 use Rattle.summing.specs.declared.Line.{Line}
+use Rattle.summing.specs.declared.Ends.{Ends}
 
 -- What a block brings: its map, the final numbers of faces and the place of its first face among them, and its readings by voxel.
 pub record Brought : Type 0 where
@@ -75,6 +77,11 @@ pub record Beside (e : Triple) (m : List ℕ) (values : List Float) (kinds : Lis
   pub axis : odds e p ≡ a ∷ []
   pub below : v ≡ voxel e (p - a)
   pub above : v + d ≡ voxel e (p + a)
+
+-- The first two numbers of the row of a face cell between voxels of numbers u and v.
+pub record Ending (u v : ℕ) (r : Ends) : Type 0 where
+  pub low : r .low ≡ getD (rowOf (u ∷ v ∷ [])) 0 0
+  pub high : r .high ≡ getD (rowOf (u ∷ v ∷ [])) 1 0
 
 -- The answer for a cell of a map at a place.
 pub record OwnFace (s : Triple) (m numbers : List ℕ) (from p : ℕ) (c : Triple) (r : ℕ) : Type 0 where

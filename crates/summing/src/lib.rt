@@ -1,6 +1,5 @@
 // The pass that adds a block's readings to the totals, face cell by face cell, line by line.
 use findings::final_number;
-use lines::face_row;
 use lines::first_stride;
 use lines::first_x;
 use lowest::Start;
@@ -18,7 +17,7 @@ ghost use Rattle.surveys.specs.Surveys.{onLine};
 ghost use Rattle.lowest.specs.Lowest.{startOf};
 ghost use Rattle.totals.specs.Totals.{readingAt, sumsWith, countsWith};
 ghost use Rattle.strain_calls.specs.Adding.{gathered, voxelTaken, faceTaken};
-ghost use Rattle.summing.specs.Summing.{brought, Beside, Whole, Lies, OwnFace, cellTaken, blockTaken};
+ghost use Rattle.summing.specs.Summing.{brought, Ending, Beside, Whole, Lies, OwnFace, cellTaken, blockTaken};
 
 // Takes in the reading of voxel v, of code u, at a cell of face n with the row `low` `high`.
 fn take_voxel(
@@ -58,6 +57,31 @@ fn take_voxel(
     }
 }
 
+// The first two numbers of a face cell's row.
+struct Ends {
+    low: u32,
+    high: u32,
+}
+
+// .. by the numbers u and v of its voxels.
+fn ends_of(u: u32, v: u32) -> Ends
+    ensures { λ r. ⌜ Ending u v r ⌝ }
+{
+    if u == v {
+        return Ends { low: 0, high: 0 };
+    }
+    if u == 0 {
+        return Ends { low: v, high: 0 };
+    }
+    if v == 0 {
+        return Ends { low: u, high: 0 };
+    }
+    if u < v {
+        return Ends { low: u, high: v };
+    }
+    Ends { low: v, high: u }
+}
+
 // Takes in the readings of both voxels at cell p of face n. They stand at places v and v + d of the lists.
 fn take_face(
     sums: &mut [f64],
@@ -78,11 +102,11 @@ fn take_face(
     ensures sum { λ r. ⌜ now (sums .exit) ≡ sumsWith (now (sums .entry)) (faceTaken (triple nx ny nz) (now (map .entry)) (now (values .entry)) (now (kinds .entry)) n p) ⌝ }
     ensures count { λ r. ⌜ now (counts .exit) ≡ countsWith (now (counts .entry)) (faceTaken (triple nx ny nz) (now (map .entry)) (now (values .entry)) (now (kinds .entry)) n p) ⌝ }
 {
-    let row = face_row(map, nx, ny, nz, p, a);
-    let low = row[0];
-    let high = row[1];
-    take_voxel(sums, counts, values, kinds, n, low, high, map[p - a], v);
-    take_voxel(sums, counts, values, kinds, n, low, high, map[p + a], v + d);
+    let u = map[p - a];
+    let w = map[p + a];
+    let row = ends_of(u, w);
+    take_voxel(sums, counts, values, kinds, n, row.low, row.high, u, v);
+    take_voxel(sums, counts, values, kinds, n, row.low, row.high, w, v + d);
 }
 
 // The final number of the face that cell p shows, at place (x,y,z) of the block; 0 if it shows none, or does not count here.
@@ -105,8 +129,8 @@ fn own_face(
     final_number(numbers, from, map[p])
 }
 
-// Takes in what is taken at face cell p.
-fn take_cell(
+// Takes in what is taken at face cell p, whatever it shows.
+fn take_active(
     sums: &mut [f64],
     counts: &mut [u64],
     values: &[f64],
@@ -137,6 +161,58 @@ fn take_cell(
         return;
     }
     take_face(sums, counts, values, kinds, map, nx, ny, nz, p, a, n, v, d);
+}
+
+// Takes in what is taken at face cell p. Most show no face: the test is apart, so that the loop has it and not the call.
+fn take_cell(
+    sums: &mut [f64],
+    counts: &mut [u64],
+    values: &[f64],
+    kinds: &[u8],
+    map: &[u32],
+    numbers: &[u32],
+    nx: usize,
+    ny: usize,
+    nz: usize,
+    s: Start,
+    from: u32,
+    p: usize,
+    a: usize,
+    v: usize,
+    d: usize,
+    x: usize,
+    y: usize,
+    z: usize,
+)
+    requires { ⌜ Beside (triple nx ny nz) (now map) (now values) (now kinds) p a v d × (place (sides (triple nx ny nz)) p ≡ triple x y z) ⌝ }
+    ensures sum { λ r. ⌜ now (sums .exit) ≡ sumsWith (now (sums .entry))
+        (cellTaken (triple nx ny nz) (startOf s) (brought (now (map .entry)) (now (numbers .entry)) from (now (values .entry)) (now (kinds .entry))) p) ⌝ }
+    ensures count { λ r. ⌜ now (counts .exit) ≡ countsWith (now (counts .entry))
+        (cellTaken (triple nx ny nz) (startOf s) (brought (now (map .entry)) (now (numbers .entry)) from (now (values .entry)) (now (kinds .entry))) p) ⌝ }
+{
+    if map[p] == 0 {
+        return;
+    }
+    take_active(
+        sums,
+        counts,
+        values,
+        kinds,
+        map,
+        numbers,
+        nx,
+        ny,
+        nz,
+        s,
+        from,
+        p,
+        a,
+        v,
+        d,
+        x,
+        y,
+        z,
+    );
 }
 
 // A line of the cells: what its face cells are told by.
