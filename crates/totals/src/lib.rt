@@ -8,7 +8,6 @@ ghost use Prim.Native.Nat.{_*_, _+_, _<_, _^_};
 ghost use lib.ListN.{getD, length, set};
 ghost use lib.Ieee.{binary64, add};
 ghost use Rattle.strains.specs.Units.{isUnits, plusZero};
-ghost use Rattle.strains.specs.Readings.{isGood};
 ghost use Rattle.totals.specs.Totals.{sumAdded, more, countAdded, readingAt, fitsAt, readingsFit, sideStands, standsAt, sideAt, givenSide, totalsOf, bothStand};
 
 // ---- adding a reading
@@ -75,26 +74,16 @@ pub fn reading_at(values: &[f64], kinds: &[u8], v: usize) -> Reading
     Reading::Missing
 }
 
-// Whether the value of a reading is a multiple of 1/1,024 in its range.
-fn is_good(r: Reading) -> bool
-    ensures { λ b. ⌜ b ≡ isGood r ⌝ }
-{
-    match r {
-        Reading::Strain(x) => is_strain(x),
-        Reading::Clipped(x) => is_strain(x),
-        Reading::Missing => true,
-    }
-}
-
-// Whether the reading of voxel v is one.
+// Whether the reading of voxel v is one. A value that is a strain is one of any kind, any other only where its reading is missing.
 fn fits_at(values: &[f64], kinds: &[u8], v: usize) -> bool
     requires { ⌜ (v < length (now values)) × (v < length (now kinds)) ⌝ }
     ensures { λ r. ⌜ r ≡ fitsAt (now (values .entry)) (now (kinds .entry)) v ⌝ }
 {
-    if kinds[v] > 2 {
-        return false;
+    let k = kinds[v];
+    if is_strain(values[v]) {
+        return k <= 2;
     }
-    is_good(reading_at(values, kinds, v))
+    k == 2
 }
 
 // Whether every reading of the lists is one. Not an entry.
