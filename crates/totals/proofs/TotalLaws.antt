@@ -70,17 +70,27 @@ module _ (sums : List Float) (counts : List ℕ) (s : ℕ) (r : Reading) where
   unfolding sumAdded sumWith
   missing-sum e = rw e (sym (set-getD sums s plusZero))
 
-  pub strain-count : (x : Float) (after : List ℕ) → r ≡ Reading.Strain x → after ≡ set counts (3 * s) (more (getD counts (3 * s) 0)) → after ≡ countAdded counts s r
-  unfolding countAdded kindOf
-  strain-count x after e f = let z : 3 * s + 0 ≡ 3 * s = omega arith in rw (e, z) f
+  pub kind-counted : (k : ℕ) (after : List ℕ) → k ≡ kindOf r → after ≡ set counts (3 * s + k) (more (getD counts (3 * s + k) 0)) → after ≡ countAdded counts s r
+  unfolding countAdded
+  kind-counted k after e f = rw (← e) f
 
-  pub clipped-count : (x : Float) (after : List ℕ) → r ≡ Reading.Clipped x → after ≡ set counts (3 * s + 1) (more (getD counts (3 * s + 1) 0)) → after ≡ countAdded counts s r
-  unfolding countAdded kindOf
-  clipped-count x after e f = rw e f
+pub kind-most : (r : Reading) (k : ℕ) → k ≡ kindOf r → k ≤ 2
+unfolding kindOf
+kind-most (Reading.Strain x) k e = omega arith
+kind-most (Reading.Clipped x) k e = omega arith
+kind-most Reading.Missing k e = omega arith
 
-  pub missing-count : (after : List ℕ) → r ≡ Reading.Missing → after ≡ set counts (3 * s + 2) (more (getD counts (3 * s + 2) 0)) → after ≡ countAdded counts s r
-  unfolding countAdded kindOf
-  missing-count after e f = rw e f
+pub kind-strain : (r : Reading) (x : Float) → r ≡ Reading.Strain x → 0 ≡ kindOf r
+unfolding kindOf
+kind-strain r x e = rw e refl
+
+pub kind-clipped : (r : Reading) (x : Float) → r ≡ Reading.Clipped x → 1 ≡ kindOf r
+unfolding kindOf
+kind-clipped r x e = rw e refl
+
+pub kind-missing : (r : Reading) → r ≡ Reading.Missing → 2 ≡ kindOf r
+unfolding kindOf
+kind-missing r e = rw e refl
 
 -- ---- readings as they come
 
