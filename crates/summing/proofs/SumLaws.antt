@@ -29,7 +29,7 @@ use Rattle.strains.specs.declared.Reading.{Reading}
 use Rattle.totals.specs.Totals.{Taken, taken, slotOf, after, sumAdded, sumsWith, countAdded, countsWith, readingAt}
 use Rattle.lowest.specs.Lowest.{startsBy}
 use Rattle.strain_calls.specs.Adding.{gathered, voxelTaken, faceTaken}
-use Rattle.summing.specs.Summing.{Brought, brought, faceAt, ownFace, cellTaken, blockTaken, Whole, Lies, Beside, Ending, OwnFace}
+use Rattle.summing.specs.Summing.{Brought, brought, faceAt, ownFace, cellTaken, blockTaken, Whole, Lies, Beside, sideOf, Ending, OwnFace}
 use Rattle.summing.specs.declared.Line.{Line}
 use Rattle.summing.specs.declared.Ends.{Ends}
 use Rattle.summing.proofs.TakenLaws.{after-append, after-start, after-next, after-end, after-lines, after-line, after-last}
@@ -37,56 +37,66 @@ use Rattle.summing.proofs.VoxelLaws.{voxels-beside}
 
 -- ---- one voxel
 
+module _ (low high u : ℕ) where
+  pub side-low : u ≡ low → 0 ≡ sideOf low high u
+  unfolding sideOf
+  side-low e = rw (eq-eqb u low e) refl
+
+  pub side-high : u ≢ low → u ≡ high → 1 ≡ sideOf low high u
+  unfolding sideOf
+  side-high l e = rw (ne-eqb u low l, eq-eqb u high e) refl
+
+  pub side-neither : u ≢ low → u ≢ high → 2 ≡ sideOf low high u
+  unfolding sideOf
+  side-neither l e = rw (ne-eqb u low l, ne-eqb u high e) refl
+
+  pub side-most : (k : ℕ) → k ≡ sideOf low high u → k ≤ 2
+  unfolding sideOf
+  side-most k e =
+      by-test (eqb u low) (λ t. let z : k ≡ 0 = e ∙ rw t refl in omega arith)
+      (λ t. by-test (eqb u high) (λ w. let z : k ≡ 1 = e ∙ rw (t, w) refl in omega arith) (λ w. let z : k ≡ 2 = e ∙ rw (t, w) refl in omega arith))
+
 module _ (n low high u : ℕ) (x : Reading) where
   pub on-none : u ≡ 0 → voxelTaken n low high u x ≡ []
   unfolding voxelTaken
   on-none e = rw (eq-eqb u 0 e)
 
-  pub on-low : u ≢ 0 → u ≡ low → voxelTaken n low high u x ≡ taken (2 * (n - 1)) x ∷ []
-  unfolding voxelTaken slotOf
-  on-low z e = let s : 2 * (n - 1) + 0 ≡ 2 * (n - 1) = omega arith in rw (ne-eqb u 0 z, eq-eqb u low e, s)
+  module _ (k : ℕ) (z : u ≢ 0) (e : k ≡ sideOf low high u) where
+    pub on-neither : k ≡ 2 → voxelTaken n low high u x ≡ []
+    unfolding voxelTaken sideOf
+    on-neither h =
+        by-test (eqb u low) (λ t. absurd (let q : k ≡ 0 = e ∙ rw t refl in omega arith))
+        (λ t. by-test (eqb u high) (λ w. absurd (let q : k ≡ 1 = e ∙ rw (t, w) refl in omega arith)) (λ w. rw (ne-eqb u 0 z, t, w) refl))
 
-  pub on-high : u ≢ 0 → u ≢ low → u ≡ high → voxelTaken n low high u x ≡ taken (2 * (n - 1) + 1) x ∷ []
-  unfolding voxelTaken slotOf
-  on-high z l e = rw (ne-eqb u 0 z, ne-eqb u low l, eq-eqb u high e)
+    pub on-side : k ≢ 2 → voxelTaken n low high u x ≡ taken (2 * (n - 1) + k) x ∷ []
+    unfolding voxelTaken slotOf sideOf
+    on-side h =
+        by-test (eqb u low) (λ t. let q : k ≡ 0 = e ∙ rw t refl in rw (ne-eqb u 0 z, t, q) refl)
+        (λ t. by-test (eqb u high) (λ w. let q : k ≡ 1 = e ∙ rw (t, w) refl in rw (ne-eqb u 0 z, t, w, q) refl) (λ w. absurd (let q : k ≡ 2 = e ∙ rw (t, w) refl in h q)))
 
-  pub on-neither : u ≢ 0 → u ≢ low → u ≢ high → voxelTaken n low high u x ≡ []
-  unfolding voxelTaken
-  on-neither z l e = rw (ne-eqb u 0 z, ne-eqb u low l, ne-eqb u high e)
-
-  module _ (sums : List Float) where
-    pub none-sums : u ≡ 0 → sums ≡ sumsWith sums (voxelTaken n low high u x)
+    pub side-sums : (sums now : List Float) (y : Reading) → k ≢ 2 → y ≡ x → now ≡ sumAdded sums (2 * (n - 1) + k) y → now ≡ sumsWith sums (voxelTaken n low high u x)
     unfolding sumsWith after
-    none-sums e = rw (on-none e) refl
+    side-sums sums now y h f g = rw (on-side h, ← f) g
 
-    pub neither-sums : u ≢ 0 → u ≢ low → u ≢ high → sums ≡ sumsWith sums (voxelTaken n low high u x)
+    pub side-counts : (counts now : List ℕ) (y : Reading) → k ≢ 2 → y ≡ x → now ≡ countAdded counts (2 * (n - 1) + k) y → now ≡ countsWith counts (voxelTaken n low high u x)
+    unfolding countsWith after
+    side-counts counts now y h f g = rw (on-side h, ← f) g
+
+    pub neither-sums : (sums : List Float) → k ≡ 2 → sums ≡ sumsWith sums (voxelTaken n low high u x)
     unfolding sumsWith after
-    neither-sums z l e = rw (on-neither z l e) refl
+    neither-sums sums h = rw (on-neither h) refl
 
-    pub low-sums : (y : Reading) (now : List Float) → u ≢ 0 → u ≡ low → y ≡ x → now ≡ sumAdded sums (2 * (n - 1)) y → now ≡ sumsWith sums (voxelTaken n low high u x)
-    unfolding sumsWith after
-    low-sums y now z e f g = rw (on-low z e, ← f) g
-
-    pub high-sums : (y : Reading) (now : List Float) → u ≢ 0 → u ≢ low → u ≡ high → y ≡ x → now ≡ sumAdded sums (2 * (n - 1) + 1) y → now ≡ sumsWith sums (voxelTaken n low high u x)
-    unfolding sumsWith after
-    high-sums y now z l e f g = rw (on-high z l e, ← f) g
-
-  module _ (counts : List ℕ) where
-    pub none-counts : u ≡ 0 → counts ≡ countsWith counts (voxelTaken n low high u x)
+    pub neither-counts : (counts : List ℕ) → k ≡ 2 → counts ≡ countsWith counts (voxelTaken n low high u x)
     unfolding countsWith after
-    none-counts e = rw (on-none e) refl
+    neither-counts counts h = rw (on-neither h) refl
 
-    pub neither-counts : u ≢ 0 → u ≢ low → u ≢ high → counts ≡ countsWith counts (voxelTaken n low high u x)
-    unfolding countsWith after
-    neither-counts z l e = rw (on-neither z l e) refl
+  pub none-sums : (sums : List Float) → u ≡ 0 → sums ≡ sumsWith sums (voxelTaken n low high u x)
+  unfolding sumsWith after
+  none-sums sums e = rw (on-none e) refl
 
-    pub low-counts : (y : Reading) (now : List ℕ) → u ≢ 0 → u ≡ low → y ≡ x → now ≡ countAdded counts (2 * (n - 1)) y → now ≡ countsWith counts (voxelTaken n low high u x)
-    unfolding countsWith after
-    low-counts y now z e f g = rw (on-low z e, ← f) g
-
-    pub high-counts : (y : Reading) (now : List ℕ) → u ≢ 0 → u ≢ low → u ≡ high → y ≡ x → now ≡ countAdded counts (2 * (n - 1) + 1) y → now ≡ countsWith counts (voxelTaken n low high u x)
-    unfolding countsWith after
-    high-counts y now z l e f g = rw (on-high z l e, ← f) g
+  pub none-counts : (counts : List ℕ) → u ≡ 0 → counts ≡ countsWith counts (voxelTaken n low high u x)
+  unfolding countsWith after
+  none-counts counts e = rw (on-none e) refl
 
 -- ---- the two numbers of a face cell's row
 

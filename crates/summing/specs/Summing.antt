@@ -78,6 +78,10 @@ pub record Beside (e : Triple) (m : List ℕ) (values : List Float) (kinds : Lis
   pub below : v ≡ voxel e (p - a)
   pub above : v + d ≡ voxel e (p + a)
 
+-- The side of a voxel of number u at a cell whose row begins with `low` and `high`: 0 lower, 1 higher, 2 neither.
+unfoldable pub sideOf : ℕ → ℕ → ℕ → ℕ
+sideOf low high u = cond (eqb u low) 0 (cond (eqb u high) 1 2)
+
 -- The first two numbers of the row of a face cell between voxels of numbers u and v.
 pub record Ending (u v : ℕ) (r : Ends) : Type 0 where
   pub low : r .low ≡ getD (rowOf (u ∷ v ∷ [])) 0 0

@@ -17,7 +17,17 @@ ghost use Rattle.surveys.specs.Surveys.{onLine};
 ghost use Rattle.lowest.specs.Lowest.{startOf};
 ghost use Rattle.totals.specs.Totals.{readingAt, sumsWith, countsWith};
 ghost use Rattle.strain_calls.specs.Adding.{gathered, voxelTaken, faceTaken};
-ghost use Rattle.summing.specs.Summing.{brought, Ending, Beside, Whole, Lies, OwnFace, cellTaken, blockTaken};
+ghost use Rattle.summing.specs.Summing.{brought, sideOf, Ending, Beside, Whole, Lies, OwnFace, cellTaken, blockTaken};
+
+// The side of a voxel of number u, at a cell with the row `low` `high`: 0 lower, 1 higher, 2 for neither.
+fn side_of(low: u32, high: u32, u: u32) -> usize
+    ensures { λ r. ⌜ r ≡ sideOf low high u ⌝ }
+{
+    if u == low {
+        return 0;
+    }
+    if u == high { 1 } else { 2 }
+}
 
 // Takes in the reading of voxel v, of code u, at a cell of face n with the row `low` `high`.
 fn take_voxel(
@@ -38,23 +48,16 @@ fn take_voxel(
     if u == 0 {
         return;
     }
-    if u == low {
-        take_reading(
-            sums,
-            counts,
-            2 * (n as usize - 1),
-            reading_at(values, kinds, v),
-        );
+    let side = side_of(low, high, u);
+    if side == 2 {
         return;
     }
-    if u == high {
-        take_reading(
-            sums,
-            counts,
-            2 * (n as usize - 1) + 1,
-            reading_at(values, kinds, v),
-        );
-    }
+    take_reading(
+        sums,
+        counts,
+        2 * (n as usize - 1) + side,
+        reading_at(values, kinds, v),
+    );
 }
 
 // The first two numbers of a face cell's row.

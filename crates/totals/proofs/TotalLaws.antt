@@ -6,14 +6,14 @@ use mathlib.Core.Logic.{_≢_}
 use mathlib.Core.List.{List, [], _∷_}
 use Prim.Native.Nat.{ℕ, zero, suc, _+_, _-_, _*_, _≤_, _<_}
 use native.Mathlib.Omega.{arith}
-use lib.Dec.{leb, lit<}
+use lib.Dec.{eqb, leb, lit<}
 use lib.IntN.{ℤ, pos, +ℤ-idl}
 use lib.ListN.{getD, set, length, List·getD-eq-default}
 use lib.Seq.{set-out, set-getD}
 use lib.Ieee.{Float, nan, fin, binary64, add}
-use borrow.Author.Tests.{eq-eqb, ne-eqb, le-leb, lt-leb, not-true, not-false}
+use borrow.Author.Tests.{eqb-true, eqb-false, eq-eqb, ne-eqb, le-leb, lt-leb, not-true, not-false}
 use Rattle.lists.specs.Lists.{consecutive}
-use Rattle.lists.proofs.Cases.{and-first, and-second}
+use Rattle.lists.proofs.Cases.{by-test, and-first, and-second}
 use Rattle.lists.proofs.Lists.{consecutive-in}
 use Rattle.lists.proofs.Tests.{all-out, Held, held-broken, held-all}
 use Rattle.strains.specs.Units.{isUnits, unitsOf, floatOf, plusZero}
@@ -71,19 +71,38 @@ module _ (sums : List Float) (counts : List ℕ) (s : ℕ) (r : Reading) where
   unfolding sumAdded sumWith
   missing-sum e = rw e (sym (set-getD sums s plusZero))
 
-  pub strain-count : (x : Float) (after : List ℕ) → r ≡ Reading.Strain x → after ≡ set counts (3 * s) (more (getD counts (3 * s) 0)) → after ≡ countAdded counts s r
-  unfolding countAdded kindOf
-  strain-count x after e f = let z : 3 * s + 0 ≡ 3 * s = omega arith in rw (e, z) f
+  pub kind-counted : (k : ℕ) (after : List ℕ) → k ≡ kindOf r → after ≡ set counts (3 * s + k) (more (getD counts (3 * s + k) 0)) → after ≡ countAdded counts s r
+  unfolding countAdded
+  kind-counted k after e f = rw (← e) f
 
-  pub clipped-count : (x : Float) (after : List ℕ) → r ≡ Reading.Clipped x → after ≡ set counts (3 * s + 1) (more (getD counts (3 * s + 1) 0)) → after ≡ countAdded counts s r
-  unfolding countAdded kindOf
-  clipped-count x after e f = rw e f
+pub kind-most : (r : Reading) (k : ℕ) → k ≡ kindOf r → k ≤ 2
+unfolding kindOf
+kind-most (Reading.Strain x) k e = omega arith
+kind-most (Reading.Clipped x) k e = omega arith
+kind-most Reading.Missing k e = omega arith
 
-  pub missing-count : (after : List ℕ) → r ≡ Reading.Missing → after ≡ set counts (3 * s + 2) (more (getD counts (3 * s + 2) 0)) → after ≡ countAdded counts s r
-  unfolding countAdded kindOf
-  missing-count after e f = rw e f
+pub kind-strain : (r : Reading) (x : Float) → r ≡ Reading.Strain x → 0 ≡ kindOf r
+unfolding kindOf
+kind-strain r x e = rw e refl
+
+pub kind-clipped : (r : Reading) (x : Float) → r ≡ Reading.Clipped x → 1 ≡ kindOf r
+unfolding kindOf
+kind-clipped r x e = rw e refl
+
+pub kind-missing : (r : Reading) → r ≡ Reading.Missing → 2 ≡ kindOf r
+unfolding kindOf
+kind-missing r e = rw e refl
 
 -- ---- readings as they come
+
+and-all : (b : Bool) → b ≡ b && true
+and-all true = refl
+and-all false = refl
+
+last-kind : (k : ℕ) → k ≢ 0 → k ≢ 1 → eqb k 2 ≡ leb k 2 && true
+last-kind k z o =
+    by-test (eqb k 2) (λ t. let w : k ≡ 2 = eqb-true k 2 t in rw w refl)
+    (λ t. let w : k ≢ 2 = eqb-false k 2 t in let g : 2 < k = omega arith in rw (t, lt-leb k 2 g) refl)
 
 module _ (values : List Float) (kinds : List ℕ) (v : ℕ) where
   pub reading-strain : v < length values → getD kinds v 0 ≡ 0 → Reading.Strain (getD values v nan) ≡ readingAt values kinds v
@@ -98,25 +117,26 @@ module _ (values : List Float) (kinds : List ℕ) (v : ℕ) where
   unfolding readingAt readingOf
   reading-missing n e = rw (ne-eqb (getD kinds v 0) 0 n, ne-eqb (getD kinds v 0) 1 e)
 
-  pub kind-above : 2 < getD kinds v 0 → false ≡ fitsAt values kinds v
-  unfolding fitsAt
-  kind-above h = rw (lt-leb (getD kinds v 0) 2 h)
+  -- a value that is a strain is one of any kind, any other of the last alone
+  module _ (t : Bool) (h : v < length values) (e : t ≡ isUnits 2097152 (getD values v nan)) where
+    here : isUnits 2097152 (getD values v plusZero) ≡ t
+    here = ap (isUnits 2097152) (any-default values v plusZero nan h) ∙ sym e
 
-  pub kind-fits : (r : Reading) (b : Bool) → getD kinds v 0 ≤ 2 → r ≡ readingAt values kinds v → b ≡ isGood r → b ≡ fitsAt values kinds v
-  unfolding fitsAt
-  kind-fits r b h e f = rw (le-leb (getD kinds v 0) 2 h) (f ∙ ap isGood e)
+    pub strain-fits : t ≡ true → leb (getD kinds v 0) 2 ≡ fitsAt values kinds v
+    unfolding fitsAt readingAt readingOf isGood
+    strain-fits y =
+        by-test (eqb (getD kinds v 0) 0)
+        (λ z. rw (z, here, y) (and-all (leb (getD kinds v 0) 2)))
+        (λ z. by-test (eqb (getD kinds v 0) 1) (λ w. rw (z, w, here, y) (and-all (leb (getD kinds v 0) 2))) (λ w. rw (z, w) (and-all (leb (getD kinds v 0) 2))))
 
-pub good-strain : (r : Reading) (x : Float) (b : Bool) → r ≡ Reading.Strain x → b ≡ isUnits 2097152 x → b ≡ isGood r
-unfolding isGood
-good-strain r x b e f = rw e f
-
-pub good-clipped : (r : Reading) (x : Float) (b : Bool) → r ≡ Reading.Clipped x → b ≡ isUnits 2097152 x → b ≡ isGood r
-unfolding isGood
-good-clipped r x b e f = rw e f
-
-pub good-missing : (r : Reading) → r ≡ Reading.Missing → true ≡ isGood r
-unfolding isGood
-good-missing r e = rw e
+    pub other-fits : t ≡ false → eqb (getD kinds v 0) 2 ≡ fitsAt values kinds v
+    unfolding fitsAt readingAt readingOf isGood
+    other-fits y =
+        by-test (eqb (getD kinds v 0) 0)
+        (λ z. let k : getD kinds v 0 ≡ 0 = eqb-true (getD kinds v 0) 0 z in rw (k, here, y) refl)
+        (λ z. by-test (eqb (getD kinds v 0) 1)
+        (λ w. let k : getD kinds v 0 ≡ 1 = eqb-true (getD kinds v 0) 1 w in rw (k, here, y) refl)
+        (λ w. rw (z, w) (last-kind (getD kinds v 0) (eqb-false (getD kinds v 0) 0 z) (eqb-false (getD kinds v 0) 1 w))))
 
 -- ---- all readings of the lists
 

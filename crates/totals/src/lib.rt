@@ -8,7 +8,7 @@ ghost use Prim.Native.Nat.{_*_, _+_, _<_, _^_};
 ghost use lib.ListN.{getD, length, set};
 ghost use lib.Ieee.{binary64, add};
 ghost use Rattle.strains.specs.Units.{isUnits, plusZero};
-ghost use Rattle.strains.specs.Readings.{isGood};
+ghost use Rattle.strains.specs.Readings.{kindOf};
 ghost use Rattle.totals.specs.Totals.{sumAdded, more, countAdded, readingAt, fitsAt, readingsFit, sideStands, standsAt, sideAt, givenSide, totalsOf, bothStand};
 
 // ---- adding a reading
@@ -38,24 +38,38 @@ fn count_at(counts: &mut [u64], i: usize)
     }
 }
 
+// Adds the reading r to the sum at a place.
+fn add_strain(sums: &mut [f64], s: usize, r: Reading)
+    ensures { λ u. ⌜ now (sums .exit) ≡ sumAdded (now (sums .entry)) s r ⌝ }
+{
+    match r {
+        Reading::Strain(x) => {
+            add_at(sums, s, x);
+        }
+        Reading::Clipped(_) => {}
+        Reading::Missing => {}
+    }
+}
+
+// Which of the three counts the reading r is for.
+fn kind_of(r: Reading) -> usize
+    ensures { λ k. ⌜ k ≡ kindOf r ⌝ }
+{
+    match r {
+        Reading::Strain(_) => 0,
+        Reading::Clipped(_) => 1,
+        Reading::Missing => 2,
+    }
+}
+
 // The summing step: takes a reading in for the sum at a place.
 pub fn take_reading(sums: &mut [f64], counts: &mut [u64], s: usize, r: Reading)
     requires { ⌜ s < 2 ^ 33 ⌝ }
     ensures sum { λ u. ⌜ now (sums .exit) ≡ sumAdded (now (sums .entry)) s r ⌝ }
     ensures count { λ u. ⌜ now (counts .exit) ≡ countAdded (now (counts .entry)) s r ⌝ }
 {
-    match r {
-        Reading::Strain(x) => {
-            add_at(sums, s, x);
-            count_at(counts, 3 * s);
-        }
-        Reading::Clipped(_) => {
-            count_at(counts, 3 * s + 1);
-        }
-        Reading::Missing => {
-            count_at(counts, 3 * s + 2);
-        }
-    }
+    add_strain(sums, s, r);
+    count_at(counts, 3 * s + kind_of(r));
 }
 
 // ---- readings as they come
@@ -75,26 +89,16 @@ pub fn reading_at(values: &[f64], kinds: &[u8], v: usize) -> Reading
     Reading::Missing
 }
 
-// Whether the value of a reading is a multiple of 1/1,024 in its range.
-fn is_good(r: Reading) -> bool
-    ensures { λ b. ⌜ b ≡ isGood r ⌝ }
-{
-    match r {
-        Reading::Strain(x) => is_strain(x),
-        Reading::Clipped(x) => is_strain(x),
-        Reading::Missing => true,
-    }
-}
-
-// Whether the reading of voxel v is one.
+// Whether the reading of voxel v is one. A value that is a strain is one of any kind, any other only where its reading is missing.
 fn fits_at(values: &[f64], kinds: &[u8], v: usize) -> bool
     requires { ⌜ (v < length (now values)) × (v < length (now kinds)) ⌝ }
     ensures { λ r. ⌜ r ≡ fitsAt (now (values .entry)) (now (kinds .entry)) v ⌝ }
 {
-    if kinds[v] > 2 {
-        return false;
+    let k = kinds[v];
+    if is_strain(values[v]) {
+        return k <= 2;
     }
-    is_good(reading_at(values, kinds, v))
+    k == 2
 }
 
 // Whether every reading of the lists is one. Not an entry.
