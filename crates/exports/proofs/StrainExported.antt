@@ -68,8 +68,20 @@ pub exported-read : (o : Told) (lent left : Tables) (w v : TotalTables) (ns ns�
     → List·Memᴰ (added (total n) (strainAnswer 0 T) u) es
     → TotalRead o own values kinds n T
 exported-read o lent left w v ns ns′ own es values kinds n T u X labelled calls fair lists read =
-    record { lent = lent; before = w; after = v; begin = stateKept (keeps ns′ (o .cutting .cx) (o .cutting .cy) (o .cutting .cz) left); calls = es; opened = opened-kept X; labelled = labelled;
-      run = long-exported-run calls (opened-numbers X); fair = fair; lists = lists; left = u; read = read }
+    record {
+      lent = lent;
+      before = w;
+      after = v;
+      begin = stateKept (keeps ns′ (o .cutting .cx) (o .cutting .cy) (o .cutting .cz) left);
+      calls = es;
+      opened = opened-kept X;
+      labelled = labelled;
+      run = long-exported-run calls (opened-numbers X);
+      fair = fair;
+      lists = lists;
+      left = u;
+      read = read;
+    }
 
 -- Statement 3's calls and item 1's, for the exports: every opening through `tugrelis_open` that answers 0, every list of calls through the other exports.
 pub exports-totals : (o : Told) (lent left : Tables) (w v : TotalTables) (ns ns′ : List ℕ) (own : ℕ → List ℕ) (es : List StrainEntry)

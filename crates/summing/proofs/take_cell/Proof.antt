@@ -1,6 +1,5 @@
 -- `summing::take_cell` meets its contract.
 use Rattle.summing.proofs.SumLaws.{blank-sums, blank-counts}
-use native.Mathlib.Omega.{arith}
 use borrow.Author.Needs.{needs}
 use Rattle.summing.proofs.take_cell.Statement.{statement}
 use Rattle.summing.proofs.take_cell.Tie as tie

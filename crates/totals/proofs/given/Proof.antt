@@ -1,6 +1,5 @@
 -- `totals::given` meets its contract.
 use lib.Ieee.{ofBits}
-use borrow.Author.Needs.{needs}
 use Rattle.totals.proofs.TotalLaws.{side-given}
 use Rattle.totals.proofs.given.Statement.{statement}
 use Rattle.totals.proofs.given.Tie as tie
