@@ -1,16 +1,16 @@
 -- The laws of the passes, one for each way through their code.
 -- Assumes nothing.
-use mathlib.Core.Path.{_≡_, refl, sym, ap, _∙_}
+use mathlib.Core.Path.{_≡_, refl, sym, ap, _∙_, subst}
 use mathlib.Core.Bool.{Bool, true, false, not}
 use mathlib.Core.Logic.{_≢_}
 use mathlib.Core.List.{List, [], _∷_, _++_, append-nil}
-use Prim.Native.Nat.{ℕ, _+_, _-_, _*_, _/_, _%_, _≤_, _<_, min, max}
+use Prim.Native.Nat.{ℕ, zero, suc, _+_, _-_, _*_, _/_, _%_, _≤_, _<_, min, max}
 use native.Mathlib.Nat.{mul-le-mul, mul-comm, div-lt-iff-lt-mul, mod-lt}
 use native.Mathlib.Omega.{arith}
-use lib.Dec.{eqb}
+use lib.Dec.{eqb, ltb}
 use lib.ListN.{getD, length}
 use lib.Ieee.{Float}
-use borrow.Author.Tests.{eq-eqb, ne-eqb, not-true, not-false}
+use borrow.Author.Tests.{eq-eqb, ne-eqb, ltb-true, ltb-false, not-true, not-false}
 use Rattle.lists.proofs.Cases.{by-test}
 use Rattle.cells.specs.Box.{Triple, Y, Z, triple, stride, volume, place}
 use Rattle.cells.specs.Extents.{Sized}
@@ -29,7 +29,7 @@ use Rattle.strains.specs.declared.Reading.{Reading}
 use Rattle.totals.specs.Totals.{Taken, taken, slotOf, after, sumAdded, sumsWith, countAdded, countsWith, readingAt}
 use Rattle.lowest.specs.Lowest.{startsBy}
 use Rattle.strain_calls.specs.Adding.{gathered, voxelTaken, faceTaken}
-use Rattle.summing.specs.Summing.{Brought, brought, faceAt, ownFace, cellTaken, blockTaken, Whole, Lies, Beside, sideOf, Ending, OwnFace}
+use Rattle.summing.specs.Summing.{Brought, brought, faceAt, ownFace, cellTaken, blockTaken, Whole, Lies, Beside, sideOf, Ending, OwnFace, Skips}
 use Rattle.summing.specs.declared.Line.{Line}
 use Rattle.summing.specs.declared.Ends.{Ends}
 use Rattle.summing.proofs.TakenLaws.{after-append, after-start, after-next, after-end, after-lines, after-line, after-last}
@@ -314,6 +314,11 @@ module _ (e : Triple) (l : ℕ) (r : Line) (L : Lies e l r) (x : ℕ) (hx : x < 
   pub line-spot : place (sides e) (r .base + x) ≡ triple x (r .y) (r .z)
   line-spot = rw (L .base, L .y, L .z) (same-triple _ _ (line-place e l x hx))
 
+-- a line of cells lies in the map
+pub line-room : (e : Triple) (l : ℕ) → Sized 64 e → l < lineCount e → l * (2 * e .x - 1) + (2 * e .x - 1) ≤ cells e
+unfolding sides
+line-room e l S h = let q = line-inside e l (2 * e .x - 2) (omega (arith, S .x-low)) h in omega (arith, q, S .x-low)
+
 -- The tables so far, at x of line l, with what is left of the line, and with all of it before.
 pub record Going (e s : Triple) (g : Brought) (l : ℕ) (sums₀ : List Float) (counts₀ : List ℕ) (x : ℕ) (sums : List Float) (counts : List ℕ) : Type 0 where
   pub summed-up : sumsWith sums (gathered (cellTaken e s g) (leftOn e l x)) ≡ sumsWith sums₀ (gathered (cellTaken e s g) (onLine e 2 l))
@@ -347,6 +352,39 @@ module _ (e s : Triple) (g : Brought) (l : ℕ) where
         → (sums ≡ sumsWith sums₀ (gathered (cellTaken e s g) (onLine e 2 l))) × (counts ≡ countsWith counts₀ (gathered (cellTaken e s g) (onLine e 2 l)))
     unfolding sumsWith countsWith
     going-end h = (after-end _ (cellTaken e s g) told sums x h ∙ G .summed-up, after-end _ (cellTaken e s g) told counts x h ∙ G .counted-up)
+
+-- cells that show 0 are passed over
+module _ (e s : Triple) (m numbers : List ℕ) (from : ℕ) (values : List Float) (kinds : List ℕ) (l : ℕ) (hl : l < lineCount e) (r : Line) (L : Lies e l r) (sums₀ : List Float) (counts₀ : List ℕ) (sums : List Float) (counts : List ℕ) where
+  abbrev here : ℕ → Type 0
+  here x = Going e s (brought m numbers from values kinds) l sums₀ counts₀ x sums counts
+
+  skip-many : (n x : ℕ) → r .start ≤ x → x % 2 ≡ r .start % 2 → ((i : ℕ) → i < n → (x + 2 * i < sides e .x) × (getD m (r .base + (x + 2 * i)) 0 ≡ 0)) → here x → here (x + 2 * n)
+  skip-many zero x a b f G = subst here (omega arith) G
+  skip-many (suc n) x a b f G =
+      let q = skip-many n x a b (λ i h. f i (omega (arith, h))) G in
+      let w = f n (omega arith) in
+      subst here (omega arith)
+      (going-more e s (brought m numbers from values kinds) l sums₀ counts₀ (x + 2 * n) sums counts q r L sums counts (w .0) hl (omega arith) (omega arith)
+      (blank-sums e s m numbers from values kinds (r .base + (x + 2 * n)) (w .1) sums) (blank-counts e s m numbers from values kinds (r .base + (x + 2 * n)) (w .1) counts))
+
+  pub going-skip : (x y : ℕ) → r .start ≤ x → x % 2 ≡ r .start % 2 → Skips m (r .base) (sides e .x) x y → here x → here y
+  going-skip x y a b K G = subst here (sym (K .is)) (skip-many (K .many) x a b (K .blank) G)
+
+-- the search of the next cell: none passed yet, and one more
+pub skips-none : (m : List ℕ) (base w x : ℕ) → Skips m base w x x
+skips-none m base w x = record { many = 0; is = omega arith; blank = λ i h. absurd (omega (arith, h)) }
+
+pub skips-more : (m : List ℕ) (base w x y : ℕ) → Skips m base w x y → y < w → getD m (base + y) 0 ≡ 0 → Skips m base w x (y + 2)
+skips-more m base w x y K h z =
+    record {
+      many = suc (K .many);
+      is = omega (arith, K .is);
+      blank = λ i l.
+          by-test (ltb i (K .many)) (λ t. K .blank i (ltb-true i (K .many) t))
+          (λ t.
+          let q : x + 2 * i ≡ y = omega (arith, l, ltb-false i (K .many) t, K .is) in
+          (omega (arith, q, h), ap (λ (n : ℕ). getD m (base + n) 0) q ∙ z));
+    }
 
 -- ---- all lines
 

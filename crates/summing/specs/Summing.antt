@@ -90,3 +90,9 @@ pub record Ending (u v : ℕ) (r : Ends) : Type 0 where
 -- The answer for a cell of a map at a place.
 pub record OwnFace (s : Triple) (m numbers : List ℕ) (from p : ℕ) (c : Triple) (r : ℕ) : Type 0 where
   pub is : r ≡ cond (startsBy s c) (finalIn numbers from (getD m p 0)) 0
+
+-- From x on, two apart, so many cells of a line of w show 0 in a map; the line begins at `base`, and r is the cell after them.
+pub record Skips (m : List ℕ) (base w x r : ℕ) : Type 0 where
+  pub many : ℕ
+  pub is : r ≡ x + 2 * many
+  pub blank : (i : ℕ) → i < many → (x + 2 * i < w) × (getD m (base + (x + 2 * i)) 0 ≡ 0)

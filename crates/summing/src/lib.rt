@@ -7,7 +7,7 @@ use lowest::starts_by;
 use totals::reading_at;
 use totals::take_reading;
 ghost use mathlib.Core.Path.{_≡_};
-ghost use Prim.Native.Nat.{_+_, _-_, _*_, _<_};
+ghost use Prim.Native.Nat.{_+_, _-_, _*_, _≤_, _<_};
 ghost use lib.ListN.{length};
 ghost use Rattle.cells.specs.Box.{triple, place};
 ghost use Rattle.cells.specs.Extents.{Sized};
@@ -17,7 +17,7 @@ ghost use Rattle.surveys.specs.Surveys.{onLine};
 ghost use Rattle.lowest.specs.Lowest.{startOf};
 ghost use Rattle.totals.specs.Totals.{readingAt, sumsWith, countsWith};
 ghost use Rattle.strain_calls.specs.Adding.{gathered, voxelTaken, faceTaken};
-ghost use Rattle.summing.specs.Summing.{brought, sideOf, Ending, Beside, Whole, Lies, OwnFace, cellTaken, blockTaken};
+ghost use Rattle.summing.specs.Summing.{brought, sideOf, Ending, Beside, Whole, Lies, OwnFace, cellTaken, blockTaken, Skips};
 
 // The side of a voxel of number u, at a cell with the row `low` `high`: 0 lower, 1 higher, 2 for neither.
 fn side_of(low: u32, high: u32, u: u32) -> usize
@@ -132,8 +132,8 @@ fn own_face(
     final_number(numbers, from, map[p])
 }
 
-// Takes in what is taken at face cell p, whatever it shows.
-fn take_active(
+// Takes in what is taken at face cell p.
+fn take_cell(
     sums: &mut [f64],
     counts: &mut [u64],
     values: &[f64],
@@ -164,58 +164,6 @@ fn take_active(
         return;
     }
     take_face(sums, counts, values, kinds, map, nx, ny, nz, p, a, n, v, d);
-}
-
-// Takes in what is taken at face cell p. Most show no face: the test is apart, so that the loop has it and not the call.
-fn take_cell(
-    sums: &mut [f64],
-    counts: &mut [u64],
-    values: &[f64],
-    kinds: &[u8],
-    map: &[u32],
-    numbers: &[u32],
-    nx: usize,
-    ny: usize,
-    nz: usize,
-    s: Start,
-    from: u32,
-    p: usize,
-    a: usize,
-    v: usize,
-    d: usize,
-    x: usize,
-    y: usize,
-    z: usize,
-)
-    requires { ⌜ Beside (triple nx ny nz) (now map) (now values) (now kinds) p a v d × (place (sides (triple nx ny nz)) p ≡ triple x y z) ⌝ }
-    ensures sum { λ r. ⌜ now (sums .exit) ≡ sumsWith (now (sums .entry))
-        (cellTaken (triple nx ny nz) (startOf s) (brought (now (map .entry)) (now (numbers .entry)) from (now (values .entry)) (now (kinds .entry))) p) ⌝ }
-    ensures count { λ r. ⌜ now (counts .exit) ≡ countsWith (now (counts .entry))
-        (cellTaken (triple nx ny nz) (startOf s) (brought (now (map .entry)) (now (numbers .entry)) from (now (values .entry)) (now (kinds .entry))) p) ⌝ }
-{
-    if map[p] == 0 {
-        return;
-    }
-    take_active(
-        sums,
-        counts,
-        values,
-        kinds,
-        map,
-        numbers,
-        nx,
-        ny,
-        nz,
-        s,
-        from,
-        p,
-        a,
-        v,
-        d,
-        x,
-        y,
-        z,
-    );
 }
 
 // A line of the cells: what its face cells are told by.
@@ -250,6 +198,21 @@ fn line_at(nx: usize, ny: usize, nz: usize, l: usize) -> Line
     }
 }
 
+// The next cell of a line that shows a number in the map, from x on, two apart; one at or past w where none does. Most cells show none.
+fn next_shown(map: &[u32], base: usize, x: usize, w: usize) -> usize
+    requires { ⌜ (base + w ≤ length (now map)) × (w < 128) ⌝ }
+    ensures { λ r. ⌜ Skips (now (map .entry)) base w x r ⌝ }
+{
+    let mut at = x;
+    while at < w {
+        if map[base + at] != 0 {
+            return at;
+        }
+        at += 2;
+    }
+    at
+}
+
 // Takes in the face cells of line l.
 fn take_line(
     sums: &mut [f64],
@@ -273,7 +236,7 @@ fn take_line(
 {
     let w = 2 * nx - 1;
     let line = line_at(nx, ny, nz, l);
-    let mut x = line.start;
+    let mut x = next_shown(map, line.base, line.start, w);
     while x < w {
         take_cell(
             sums,
@@ -295,7 +258,7 @@ fn take_line(
             line.y,
             line.z,
         );
-        x += 2;
+        x = next_shown(map, line.base, x + 2, w);
     }
 }
 

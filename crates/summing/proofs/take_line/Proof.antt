@@ -1,5 +1,5 @@
 -- `summing::take_line` meets its contract.
-use Rattle.summing.proofs.SumLaws.{bounds, going-start, going-more, going-end, line-beside, line-spot}
+use Rattle.summing.proofs.SumLaws.{bounds, line-room, going-start, going-skip, going-more, going-end, line-beside, line-spot}
 use mathlib.Core.Path.{refl}
 use Rattle.cells.specs.Grid.{sides}
 use borrow.Author.Needs.{needs}
@@ -31,31 +31,54 @@ sub-w c = search needs
 line-at-requires : tie.Need-line-at-requires Inv-loop μ-loop
 line-at-requires c κs = search needs
 
+next-shown-requires : tie.Need-next-shown-requires Inv-loop μ-loop
+unfolding sides
+next-shown-requires c κs =
+    let st = c .before .before .before .before .before .before .before in
+    (omega (arith, line-room _ _ (st .pre .0 .sized) (st .pre .1), c .line-at .ensures .base, st .pre .0 .whole), omega (arith, st .pre .0 .sized))
+
 loop-holds : tie.Need-loop-holds Inv-loop μ-loop
 unfolding sides
-loop-holds c = (omega arith, refl, refl, refl, going-start _ _ _ _ _ _ _ (c .line-at .ensures .start))
+loop-holds c =
+    let st = c .before .before .before .before .before .before .before .before in
+    let L = c .before .line-at .ensures in
+    let K = c .next-shown .ensures in
+    (omega (arith, K .is), omega (arith, K .is), refl, refl, going-skip _ _ _ _ _ _ _ _ (st .pre .1) _ L _ _ _ _ _ _ (omega arith) refl K (going-start _ _ _ _ _ _ _ (L .start)))
 
 add-take-cell : tie.Need-add-take-cell Inv-loop μ-loop
 unfolding sides
-add-take-cell c = let st = c .before .before .before .before .before .before .before .before .before .before .before .before in omega (arith, bounds _ _ (st .pre .0 .sized) (st .pre .1), st .pre .0 .sized, c .before .before .before .before .before .line-at .ensures .base)
+add-take-cell c = let st = c .before .before .before .before .before .before .before .before .before .before .before .before .before in omega (arith, bounds _ _ (st .pre .0 .sized) (st .pre .1), st .pre .0 .sized, c .before .before .before .before .before .before .line-at .ensures .base)
 
 add-take-cell-2 : tie.Need-add-take-cell-2 Inv-loop μ-loop
 unfolding sides
-add-take-cell-2 c = let st = c .before .before .before .before .before .before .before .before .before .before .before .before .before in omega (arith, bounds _ _ (st .pre .0 .sized) (st .pre .1), st .pre .0 .sized, c .before .before .before .before .before .before .line-at .ensures .first)
+add-take-cell-2 c = let st = c .before .before .before .before .before .before .before .before .before .before .before .before .before .before in omega (arith, bounds _ _ (st .pre .0 .sized) (st .pre .1), st .pre .0 .sized, c .before .before .before .before .before .before .before .line-at .ensures .first)
 
 take-cell-requires : tie.Need-take-cell-requires Inv-loop μ-loop
 unfolding sides
-take-cell-requires c κs = let st = c .before .before .before .before .before .before .before .before .before .before .before .before .before in let L = c .before .before .before .before .before .before .line-at .ensures in let i = c .before .before .before .before .before .loop .inv in (line-beside _ _ _ L _ (omega arith) (st .pre .1) (i .0) (i .1) _ _ _ (st .pre .0), line-spot _ _ _ L _ (omega arith) (st .pre .1) (i .0) (i .1))
+take-cell-requires c κs = let st = c .before .before .before .before .before .before .before .before .before .before .before .before .before .before in let L = c .before .before .before .before .before .before .before .line-at .ensures in let i = c .before .before .before .before .before .loop .inv in (line-beside _ _ _ L _ (omega arith) (st .pre .1) (i .0) (i .1) _ _ _ (st .pre .0), line-spot _ _ _ L _ (omega arith) (st .pre .1) (i .0) (i .1))
 
-add-x : tie.Need-add-x Inv-loop μ-loop
-add-x c = let st = c .before .before .before .before .before .before .before .before .before .before .before .before .before .before .before .before .before .before in omega (arith, st .pre .0 .sized, c .before .before .before .before .before .before .before .before .before .loop-test .taken)
+add-next-shown : tie.Need-add-next-shown Inv-loop μ-loop
+add-next-shown c = let st = c .before .before .before .before .before .before .before .before .before .before .before .before .before .before .before .before .before .before .before in omega (arith, st .pre .0 .sized, c .before .before .before .before .before .before .before .before .before .loop-test .taken)
+
+next-shown-requires-2 : tie.Need-next-shown-requires-2 Inv-loop μ-loop
+unfolding sides
+next-shown-requires-2 c κs =
+    let st = c .before .before .before .before .before .before .before .before .before .before .before .before .before .before .before .before .before .before .before in
+    (omega (arith, line-room _ _ (st .pre .0 .sized) (st .pre .1), c .before .before .before .before .before .before .before .before .before .before .before .before .line-at .ensures .base, st .pre .0 .whole), omega (arith, st .pre .0 .sized))
 
 loop-less : tie.Need-loop-less Inv-loop μ-loop
-loop-less c = search needs
+loop-less c = omega (arith, c .next-shown2 .ensures .is, c .before .before .before .before .before .before .before .before .before .before .loop-test .taken)
 
 loop-again : tie.Need-loop-again Inv-loop μ-loop
 unfolding sides
-loop-again c = let st = c .before .before .before .before .before .before .before .before .before .before .before .before .before .before .before .before .before .before in let L = c .before .before .before .before .before .before .before .before .before .before .before .line-at .ensures in let i = c .before .before .before .before .before .before .before .before .before .before .loop .inv in (omega (arith, i .0), omega (arith, i .1), search needs, search needs, going-more _ _ _ _ _ _ _ _ _ (i .4) _ L _ _ (omega (arith, c .before .before .before .before .before .before .before .before .before .loop-test .taken)) (st .pre .1) (i .0) (i .1) (c .before .before .before .before .take-cell .ensures .0) (c .before .before .before .before .take-cell .ensures .1))
+loop-again c =
+    let st = c .before .before .before .before .before .before .before .before .before .before .before .before .before .before .before .before .before .before .before .before in
+    let L = c .before .before .before .before .before .before .before .before .before .before .before .before .before .line-at .ensures in
+    let i = c .before .before .before .before .before .before .before .before .before .before .before .loop .inv in
+    let K = c .next-shown2 .ensures in
+    let took = c .before .before .before .before .before .take-cell .ensures in
+    let x-in = c .before .before .before .before .before .before .before .before .before .before .loop-test .taken in
+    (omega (arith, i .0, K .is), omega (arith, i .1, K .is), search needs, search needs, going-skip _ _ _ _ _ _ _ _ (st .pre .1) _ L _ _ _ _ _ _ (omega (arith, i .0)) (omega (arith, i .1)) K (going-more _ _ _ _ _ _ _ _ _ (i .4) _ L _ _ (omega (arith, x-in)) (st .pre .1) (i .0) (i .1) (took .0) (took .1)))
 
 same-length : tie.Need-same-length Inv-loop μ-loop
 same-length c = search needs
@@ -76,11 +99,13 @@ take-line-spec =
     mul-w
     sub-w
     line-at-requires
+    next-shown-requires
     loop-holds
     add-take-cell
     add-take-cell-2
     take-cell-requires
-    add-x
+    add-next-shown
+    next-shown-requires-2
     loop-less
     loop-again
     same-length
