@@ -130,8 +130,15 @@ fn main() {
         return volume::counted(k.parse().expect("a number"), stage.parse().expect("a number"));
     }
     if let [word, volume, times] = &words[..] {
-        assert_eq!(word, "label");
-        return labelled(volume.parse().expect("a number"), times.parse().expect("a number"));
+        let (volume, times) = (volume.parse().expect("a number"), times.parse().expect("a number"));
+        return match &word[..] {
+            "label" => labelled(volume, times),
+            "strain" => {
+                let (name, codes) = volumes().swap_remove(volume);
+                volume::strained(name, &codes, SIDE, times)
+            }
+            _ => panic!("label or strain"),
+        };
     }
     let cells = plain::cells([SIDE; 3]);
     println!("one block of 64x64x64, {} cells, medians of {} rounds, milliseconds", cells, ROUNDS);

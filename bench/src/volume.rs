@@ -1,5 +1,5 @@
 //! A whole volume: labelled and joined by the proved library and by plain Rust, in one run.
-use crate::joins::{strain, Job as Plain, Part, Totals};
+use crate::joins::{all_good, strain, Job as Plain, Part, Totals};
 use crate::{median, plain, Random};
 use std::time::Instant;
 use tugrelis::joining::{block_codes, entries_for};
@@ -102,11 +102,11 @@ fn same(job: &Job, plain: &Plain) -> bool {
     })
 }
 
-/// Readings: two in three strains, some clipped, some missing.
+/// Readings: strains, one in 32 clipped, one in 32 missing.
 fn any_readings(voxels: usize, random: &mut Random) -> Readings {
     let value = |random: &mut Random| (random.below(4_194_305) as f64 - 2_097_152.0) / 1024.0;
     (0..voxels)
-        .map(|_| match random.below(6) {
+        .map(|_| match random.below(32) {
             0 => Reading::Missing,
             1 => Reading::Clipped(value(random)),
             _ => Reading::Strain(value(random)),
@@ -114,30 +114,43 @@ fn any_readings(voxels: usize, random: &mut Random) -> Readings {
         .collect()
 }
 
-/// The readings of one block: the proved step beside plain Rust, and beside the block's point step with one pass over the values.
-pub fn readings(name: &str, codes: &[u32], side: usize, rounds: usize) {
+/// A closed job of one block, its map, and readings for it.
+fn closed(codes: &[u32], side: usize) -> (Job, Block, Counts, Readings) {
     let cutting = Cutting::even([side as u32; 3], side as u32);
     let (block, counts) = Block::label(cutting.block_extents(0), codes).expect("a labelling");
-    let blocks = [(block, counts)];
-    let mut job = Job::open(cutting.clone(), entries_for(&blocks)).expect("an opening");
-    let map = &blocks[0].0.map[..];
-    job.enrol(0, map).expect("an enrolment");
-    job.crossing(0, map).expect("a crossing");
-    let readings = any_readings(codes.len(), &mut Random(3));
+    let mut job = Job::open(cutting, counts).expect("an opening");
+    job.enrol(0, &block.map).expect("an enrolment");
+    job.crossing(0, &block.map).expect("a crossing");
+    (job, block, counts, any_readings(codes.len(), &mut Random(3)))
+}
+
+/// One point step, and then so many times the readings of the block, for the count of instructions. Prints the volume's name.
+pub fn strained(name: &str, codes: &[u32], side: usize, times: usize) {
+    let (mut job, block, _, readings) = closed(codes, side);
+    job.point(0, &block.map).expect("a point step");
+    for _ in 0..times {
+        job.tables.came[0] = 0;
+        job.strain(0, &block.map, &readings).expect("good readings");
+    }
+    println!("{name}");
+}
+
+/// The readings of one block: the proved step beside plain Rust, and beside the block's point step with one pass over the values.
+pub fn readings(name: &str, codes: &[u32], side: usize, rounds: usize) {
+    let (job, block, counts, readings) = closed(codes, side);
+    let map = &block.map[..];
     let part = Part { extents: [side; 3], origin: [0; 3], map };
     let mut times = [Vec::new(), Vec::new(), Vec::new(), Vec::new()];
     for _ in 0..rounds {
         let mut closed = job.clone();
         let mut took = [0.0; 4];
         timed(&mut took[2], || closed.point(0, map).expect("a point step"));
+        let mut totals = Totals { sums: closed.tables.face_sums.0.clone(), counts: closed.tables.face_counts.clone() };
         timed(&mut took[0], || closed.strain(0, map, &readings).expect("good readings"));
-        let faces = counts.faces as usize;
-        let mut totals = Totals { sums: vec![0.0; 2 * faces], counts: vec![0; 6 * faces] };
         let numbers = closed.tables.face_numbers.clone();
         assert!(timed(&mut took[1], || strain(&part, [counts.faces, counts.curves, counts.points], &numbers, [0; 3], &readings.values, &readings.kinds, &mut totals)));
         assert!(closed.tables.face_sums.0 == totals.sums && closed.tables.face_counts == totals.counts, "{name}: the totals differ");
-        let whole = timed(&mut took[3], || readings.values.iter().zip(&readings.kinds).filter(|(x, kind)| **kind == 2 || x.abs() <= 2048.0).count());
-        assert_eq!(whole, codes.len());
+        assert!(timed(&mut took[3], || all_good(&readings.values, &readings.kinds)));
         times.iter_mut().zip(took).for_each(|(all, one)| all.push(one));
     }
     let [a, b, point, pass] = times.map(median);
