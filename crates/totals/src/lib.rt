@@ -62,7 +62,7 @@ fn kind_of(r: Reading) -> usize
     }
 }
 
-// The summing step: takes a reading in for the sum at a place.
+// The summing step: takes a reading in for the sum at a place. Not an entry.
 pub fn take_reading(sums: &mut [f64], counts: &mut [u64], s: usize, r: Reading)
     requires { ⌜ s < 2 ^ 33 ⌝ }
     ensures sum { λ u. ⌜ now (sums .exit) ≡ sumAdded (now (sums .entry)) s r ⌝ }
@@ -74,7 +74,7 @@ pub fn take_reading(sums: &mut [f64], counts: &mut [u64], s: usize, r: Reading)
 
 // ---- readings as they come
 
-// The reading of voxel v.
+// The reading of voxel v. Not an entry.
 pub fn reading_at(values: &[f64], kinds: &[u8], v: usize) -> Reading
     requires { ⌜ (v < length (now values)) × (v < length (now kinds)) ⌝ }
     ensures { λ r. ⌜ r ≡ readingAt (now (values .entry)) (now (kinds .entry)) v ⌝ }
@@ -153,7 +153,7 @@ pub struct Totals {
 }
 
 // The sum at a place with its counts.
-pub fn side_at(sums: &[f64], counts: &[u64], s: usize) -> Side
+fn side_at(sums: &[f64], counts: &[u64], s: usize) -> Side
     requires { ⌜ s < 2 ^ 33 ⌝ }
     ensures { λ r. ⌜ r ≡ sideAt (now (sums .entry)) (now (counts .entry)) s ⌝ }
 {
@@ -206,8 +206,8 @@ fn side_stands(most: u64, d: Side) -> bool
     if d.missing > most { false } else { true }
 }
 
-// Whether the total at a place stands. Not an entry.
-pub fn stands_at(most: u64, sums: &[f64], counts: &[u64], s: usize) -> bool
+// Whether the total at a place stands.
+fn stands_at(most: u64, sums: &[f64], counts: &[u64], s: usize) -> bool
     requires { ⌜ s < 2 ^ 33 ⌝ }
     ensures { λ r. ⌜ r ≡ standsAt most (now (sums .entry)) (now (counts .entry)) s ⌝ }
 {
