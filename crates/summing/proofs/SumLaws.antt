@@ -29,113 +29,106 @@ use Rattle.strains.specs.declared.Reading.{Reading}
 use Rattle.totals.specs.Totals.{Taken, taken, slotOf, after, sumAdded, sumsWith, countAdded, countsWith, readingAt}
 use Rattle.lowest.specs.Lowest.{startsBy}
 use Rattle.strain_calls.specs.Adding.{gathered, voxelTaken, faceTaken}
-use Rattle.summing.specs.Summing.{Brought, brought, faceAt, ownFace, cellTaken, blockTaken, Whole, Lies, Beside, sideOf, Ending, OwnFace, Skips}
+use Rattle.summing.specs.Summing.{Brought, brought, faceAt, ownFace, cellTaken, blockTaken, Whole, Lies, Beside, sideOf, Sided, sideTaken, OwnFace, Skips}
 use Rattle.summing.specs.declared.Line.{Line}
-use Rattle.summing.specs.declared.Ends.{Ends}
+use Rattle.summing.specs.declared.Sides.{Sides}
 use Rattle.summing.proofs.TakenLaws.{after-append, after-start, after-next, after-end, after-lines, after-line, after-last}
 use Rattle.summing.proofs.VoxelLaws.{voxels-beside}
 
 -- ---- one voxel
 
 module _ (low high u : ℕ) where
-  pub side-low : u ≡ low → 0 ≡ sideOf low high u
+  side-none : u ≡ 0 → sideOf low high u ≡ 2
   unfolding sideOf
-  side-low e = rw (eq-eqb u low e) refl
+  side-none e = rw (eq-eqb u 0 e) refl
 
-  pub side-high : u ≢ low → u ≡ high → 1 ≡ sideOf low high u
+  side-low : u ≢ 0 → u ≡ low → sideOf low high u ≡ 0
   unfolding sideOf
-  side-high l e = rw (ne-eqb u low l, eq-eqb u high e) refl
+  side-low z e = rw (ne-eqb u 0 z, eq-eqb u low e) refl
 
-  pub side-neither : u ≢ low → u ≢ high → 2 ≡ sideOf low high u
+  side-high : u ≢ 0 → u ≢ low → u ≡ high → sideOf low high u ≡ 1
   unfolding sideOf
-  side-neither l e = rw (ne-eqb u low l, ne-eqb u high e) refl
+  side-high z l e = rw (ne-eqb u 0 z, ne-eqb u low l, eq-eqb u high e) refl
 
-  pub side-most : (k : ℕ) → k ≡ sideOf low high u → k ≤ 2
+  side-most : sideOf low high u ≤ 2
   unfolding sideOf
-  side-most k e =
-      by-test (eqb u low) (λ t. let z : k ≡ 0 = e ∙ rw t refl in omega arith)
-      (λ t. by-test (eqb u high) (λ w. let z : k ≡ 1 = e ∙ rw (t, w) refl in omega arith) (λ w. let z : k ≡ 2 = e ∙ rw (t, w) refl in omega arith))
+  side-most =
+      by-test (eqb u 0) (λ z. rw z (omega arith))
+      (λ z. by-test (eqb u low) (λ t. rw (z, t) (omega arith)) (λ t. by-test (eqb u high) (λ w. rw (z, t, w) (omega arith)) (λ w. rw (z, t, w) (omega arith))))
 
-module _ (n low high u : ℕ) (x : Reading) where
-  pub on-none : u ≡ 0 → voxelTaken n low high u x ≡ []
-  unfolding voxelTaken
-  on-none e = rw (eq-eqb u 0 e)
+-- At a cell without a row it is on neither.
+side-blank : (u : ℕ) → sideOf 0 0 u ≡ 2
+unfolding sideOf
+side-blank u = by-test (eqb u 0) (λ z. rw z refl) (λ z. rw z refl)
 
-  module _ (k : ℕ) (z : u ≢ 0) (e : k ≡ sideOf low high u) where
-    pub on-neither : k ≡ 2 → voxelTaken n low high u x ≡ []
-    unfolding voxelTaken sideOf
-    on-neither h =
-        by-test (eqb u low) (λ t. absurd (let q : k ≡ 0 = e ∙ rw t refl in omega arith))
-        (λ t. by-test (eqb u high) (λ w. absurd (let q : k ≡ 1 = e ∙ rw (t, w) refl in omega arith)) (λ w. rw (ne-eqb u 0 z, t, w) refl))
+-- What a voxel's reading adds, by its side.
+on-side : (n low high u : ℕ) (x : Reading) → voxelTaken n low high u x ≡ sideTaken n (sideOf low high u) x
+unfolding voxelTaken sideTaken sideOf
+on-side n low high u x =
+    by-test (eqb u 0) (λ z. rw z refl)
+    (λ z. by-test (eqb u low) (λ t. rw (z, t) refl) (λ t. by-test (eqb u high) (λ w. rw (z, t, w) refl) (λ w. rw (z, t, w) refl)))
 
-    pub on-side : k ≢ 2 → voxelTaken n low high u x ≡ taken (2 * (n - 1) + k) x ∷ []
-    unfolding voxelTaken slotOf sideOf
-    on-side h =
-        by-test (eqb u low) (λ t. let q : k ≡ 0 = e ∙ rw t refl in rw (ne-eqb u 0 z, t, q) refl)
-        (λ t. by-test (eqb u high) (λ w. let q : k ≡ 1 = e ∙ rw (t, w) refl in rw (ne-eqb u 0 z, t, w, q) refl) (λ w. absurd (let q : k ≡ 2 = e ∙ rw (t, w) refl in h q)))
+module _ (n side : ℕ) (x : Reading) where
+  pub side-sums : (sums now : List Float) (y : Reading) → side ≢ 2 → y ≡ x → now ≡ sumAdded sums (2 * (n - 1) + side) y → now ≡ sumsWith sums (sideTaken n side x)
+  unfolding sumsWith after sideTaken slotOf
+  side-sums sums now y h f g = rw (ne-eqb side 2 h, ← f) g
 
-    pub side-sums : (sums now : List Float) (y : Reading) → k ≢ 2 → y ≡ x → now ≡ sumAdded sums (2 * (n - 1) + k) y → now ≡ sumsWith sums (voxelTaken n low high u x)
-    unfolding sumsWith after
-    side-sums sums now y h f g = rw (on-side h, ← f) g
+  pub side-counts : (counts now : List ℕ) (y : Reading) → side ≢ 2 → y ≡ x → now ≡ countAdded counts (2 * (n - 1) + side) y → now ≡ countsWith counts (sideTaken n side x)
+  unfolding countsWith after sideTaken slotOf
+  side-counts counts now y h f g = rw (ne-eqb side 2 h, ← f) g
 
-    pub side-counts : (counts now : List ℕ) (y : Reading) → k ≢ 2 → y ≡ x → now ≡ countAdded counts (2 * (n - 1) + k) y → now ≡ countsWith counts (voxelTaken n low high u x)
-    unfolding countsWith after
-    side-counts counts now y h f g = rw (on-side h, ← f) g
+  pub neither-sums : (sums : List Float) → side ≡ 2 → sums ≡ sumsWith sums (sideTaken n side x)
+  unfolding sumsWith after sideTaken
+  neither-sums sums h = rw (eq-eqb side 2 h) refl
 
-    pub neither-sums : (sums : List Float) → k ≡ 2 → sums ≡ sumsWith sums (voxelTaken n low high u x)
-    unfolding sumsWith after
-    neither-sums sums h = rw (on-neither h) refl
+  pub neither-counts : (counts : List ℕ) → side ≡ 2 → counts ≡ countsWith counts (sideTaken n side x)
+  unfolding countsWith after sideTaken
+  neither-counts counts h = rw (eq-eqb side 2 h) refl
 
-    pub neither-counts : (counts : List ℕ) → k ≡ 2 → counts ≡ countsWith counts (voxelTaken n low high u x)
-    unfolding countsWith after
-    neither-counts counts h = rw (on-neither h) refl
+-- ---- the sides of the two voxels of a face cell, by the first two numbers of its row
 
-  pub none-sums : (sums : List Float) → u ≡ 0 → sums ≡ sumsWith sums (voxelTaken n low high u x)
-  unfolding sumsWith after
-  none-sums sums e = rw (on-none e) refl
+module _ (u w : ℕ) (r : Sides) where
+  by-row : (low high : ℕ) → low ≡ getD (rowOf (u ∷ w ∷ [])) 0 0 → high ≡ getD (rowOf (u ∷ w ∷ [])) 1 0 → r .below ≡ sideOf low high u → r .above ≡ sideOf low high w → Sided u w r
+  by-row low high a b i k = record { below = rw (← a, ← b) i; above = rw (← a, ← b) k }
 
-  pub none-counts : (counts : List ℕ) → u ≡ 0 → counts ≡ countsWith counts (voxelTaken n low high u x)
-  unfolding countsWith after
-  none-counts counts e = rw (on-none e) refl
+  pub sides-same : r .below ≡ 2 → r .above ≡ 2 → u ≡ w → Sided u w r
+  sides-same i k e =
+      let q : rowOf (u ∷ w ∷ []) ≡ padTo 6 [] = rw (← e) (row-alike 2 u (omega arith)) in
+      by-row 0 0 (rw q refl) (rw q refl) (i ∙ sym (side-blank u)) (k ∙ sym (side-blank w))
 
--- ---- the two numbers of a face cell's row
-
-module _ (u v : ℕ) (r : Ends) where
-  pub ends-same : r .low ≡ 0 → r .high ≡ 0 → u ≡ v → Ending u v r
-  ends-same a b e =
-      let w : rowOf (u ∷ v ∷ []) ≡ padTo 6 [] = rw (← e) (row-alike 2 u (omega arith)) in
-      record { low = a ∙ rw w refl; high = b ∙ rw w refl }
-
-  pub ends-above : r .low ≡ v → r .high ≡ 0 → u ≢ v → u ≡ 0 → Ending u v r
+  pub sides-above : r .below ≡ 2 → r .above ≡ 0 → u ≢ w → u ≡ 0 → Sided u w r
   unfolding rowOf
-  ends-above a b h z =
-      let y : v ≢ 0 = λ e. h (z ∙ sym e) in
-      record {
-        low = a ∙ rw (z, ne-eqb v 0 y, eq-eqb v v refl, ne-eqb 0 v (λ e. y (sym e))) refl;
-        high = b ∙ rw (z, ne-eqb v 0 y, eq-eqb v v refl, ne-eqb 0 v (λ e. y (sym e))) refl;
-      }
+  sides-above i k h z =
+      let y : w ≢ 0 = λ e. h (z ∙ sym e) in
+      by-row w 0 (rw (z, ne-eqb w 0 y, eq-eqb w w refl, ne-eqb 0 w (λ e. y (sym e))) refl) (rw (z, ne-eqb w 0 y, eq-eqb w w refl, ne-eqb 0 w (λ e. y (sym e))) refl)
+      (i ∙ sym (side-none w 0 u z)) (k ∙ sym (side-low w 0 w y refl))
 
-  pub ends-below : r .low ≡ u → r .high ≡ 0 → u ≢ 0 → v ≡ 0 → Ending u v r
+  pub sides-below : r .below ≡ 0 → r .above ≡ 2 → u ≢ 0 → w ≡ 0 → Sided u w r
   unfolding rowOf
-  ends-below a b y z =
-      record {
-        low = a ∙ rw (z, ne-eqb u 0 y, eq-eqb u u refl, ne-eqb 0 u (λ e. y (sym e))) refl;
-        high = b ∙ rw (z, ne-eqb u 0 y, eq-eqb u u refl, ne-eqb 0 u (λ e. y (sym e))) refl;
-      }
+  sides-below i k y z =
+      by-row u 0 (rw (z, ne-eqb u 0 y, eq-eqb u u refl, ne-eqb 0 u (λ e. y (sym e))) refl) (rw (z, ne-eqb u 0 y, eq-eqb u u refl, ne-eqb 0 u (λ e. y (sym e))) refl)
+      (i ∙ sym (side-low u 0 u y refl)) (k ∙ sym (side-none u 0 w z))
 
-  ends-both : r .low ≡ min u v → r .high ≡ max u v → u ≢ v → u ≢ 0 → v ≢ 0 → Ending u v r
-  unfolding rowOf
-  ends-both a b h hu hv =
-      record {
-        low = a ∙ rw (ne-eqb u 0 hu, ne-eqb v 0 hv, eq-eqb u u refl, eq-eqb v v refl, ne-eqb u v h, ne-eqb v u (λ e. h (sym e))) refl;
-        high = b ∙ rw (ne-eqb u 0 hu, ne-eqb v 0 hv, eq-eqb u u refl, eq-eqb v v refl, ne-eqb u v h, ne-eqb v u (λ e. h (sym e))) refl;
-      }
+  module _ (h : u ≢ w) (hu : u ≢ 0) (hw : w ≢ 0) where
+    low-is : min u w ≡ getD (rowOf (u ∷ w ∷ [])) 0 0
+    unfolding rowOf
+    low-is = rw (ne-eqb u 0 hu, ne-eqb w 0 hw, eq-eqb u u refl, eq-eqb w w refl, ne-eqb u w h, ne-eqb w u (λ e. h (sym e))) refl
 
-  pub ends-up : r .low ≡ u → r .high ≡ v → u ≢ v → u ≢ 0 → v ≢ 0 → u < v → Ending u v r
-  ends-up a b h hu hv l = ends-both (omega arith) (omega arith) h hu hv
+    high-is : max u w ≡ getD (rowOf (u ∷ w ∷ [])) 1 0
+    unfolding rowOf
+    high-is = rw (ne-eqb u 0 hu, ne-eqb w 0 hw, eq-eqb u u refl, eq-eqb w w refl, ne-eqb u w h, ne-eqb w u (λ e. h (sym e))) refl
 
-  pub ends-down : r .low ≡ v → r .high ≡ u → u ≢ v → u ≢ 0 → v ≢ 0 → v ≤ u → Ending u v r
-  ends-down a b h hu hv l = ends-both (omega arith) (omega arith) h hu hv
+    pub sides-up : r .below ≡ 0 → r .above ≡ 1 → u < w → Sided u w r
+    sides-up i k l = by-row (min u w) (max u w) low-is high-is (i ∙ sym (side-low _ _ u hu (omega arith))) (k ∙ sym (side-high _ _ w hw (omega arith) (omega arith)))
+
+    pub sides-down : r .below ≡ 1 → r .above ≡ 0 → w ≤ u → Sided u w r
+    sides-down i k l = by-row (min u w) (max u w) low-is high-is (i ∙ sym (side-high _ _ u hu (omega arith) (omega arith))) (k ∙ sym (side-low _ _ w hw (omega arith)))
+
+  pub below-most : Sided u w r → r .below ≤ 2
+  below-most S = rw (S .below) (side-most _ _ u)
+
+  pub above-most : Sided u w r → r .above ≤ 2
+  above-most S = rw (S .above) (side-most _ _ w)
 
 -- ---- one face cell
 
@@ -173,24 +166,28 @@ module _ (e : Triple) (m : List ℕ) (values : List Float) (kinds : List ℕ) (n
   unfolding around
   row-is = row-odds e m p (a ∷ []) (B .axis)
 
-  module _ (r : Ends) (E : Ending (getD m (p - a) 0) (getD m (p + a) 0) r) where
+  module _ (r : Sides) (S : Sided (getD m (p - a) 0) (getD m (p + a) 0) r) where
     -- what is taken below and above
     abbrev part : ℕ → ℕ → List Taken
-    part q w = voxelTaken n (r .low) (r .high) (getD m q 0) (readingAt values kinds w)
+    part side w = sideTaken n side (readingAt values kinds w)
 
-    taken-face : faceTaken e m values kinds n p ≡ part (p - a) v ++ part (p + a) (v + d)
+    part-is : (q side w : ℕ) → side ≡ sideOf (getD (rowOf pair) 0 0) (getD (rowOf pair) 1 0) (getD m q 0)
+        → voxelTaken n (getD (rowOf pair) 0 0) (getD (rowOf pair) 1 0) (getD m q 0) (readingAt values kinds w) ≡ part side w
+    part-is q side w h = on-side n _ _ (getD m q 0) (readingAt values kinds w) ∙ ap (λ (k : ℕ). part k w) (sym h)
+
+    taken-face : faceTaken e m values kinds n p ≡ part (r .below) v ++ part (r .above) (v + d)
     unfolding faceTaken gathered around
     taken-face =
-        rw (row-is, ← E .low, ← E .high, up-around e p, B .axis, ← B .below, ← B .above)
-        (ap (λ (l : List Taken). part (p - a) v ++ l) (append-nil (part (p + a) (v + d))))
+        rw (row-is, up-around e p, B .axis, ← B .below, ← B .above, part-is (p - a) (r .below) v (S .below), part-is (p + a) (r .above) (v + d) (S .above))
+        (ap (λ (l : List Taken). part (r .below) v ++ l) (append-nil (part (r .above) (v + d))))
 
-    pub face-sums : (sums one two : List Float) → one ≡ sumsWith sums (part (p - a) v) → two ≡ sumsWith one (part (p + a) (v + d)) → two ≡ sumsWith sums (faceTaken e m values kinds n p)
+    pub face-sums : (sums one two : List Float) → one ≡ sumsWith sums (part (r .below) v) → two ≡ sumsWith one (part (r .above) (v + d)) → two ≡ sumsWith sums (faceTaken e m values kinds n p)
     unfolding sumsWith
-    face-sums sums one two g h = h ∙ rw (g, taken-face) (sym (after-append _ sums (part (p - a) v) (part (p + a) (v + d))))
+    face-sums sums one two g h = h ∙ rw (g, taken-face) (sym (after-append _ sums (part (r .below) v) (part (r .above) (v + d))))
 
-    pub face-counts : (counts one two : List ℕ) → one ≡ countsWith counts (part (p - a) v) → two ≡ countsWith one (part (p + a) (v + d)) → two ≡ countsWith counts (faceTaken e m values kinds n p)
+    pub face-counts : (counts one two : List ℕ) → one ≡ countsWith counts (part (r .below) v) → two ≡ countsWith one (part (r .above) (v + d)) → two ≡ countsWith counts (faceTaken e m values kinds n p)
     unfolding countsWith
-    face-counts counts one two g h = h ∙ rw (g, taken-face) (sym (after-append _ counts (part (p - a) v) (part (p + a) (v + d))))
+    face-counts counts one two g h = h ∙ rw (g, taken-face) (sym (after-append _ counts (part (r .below) v) (part (r .above) (v + d))))
 
 -- ---- the face that a cell shows
 
@@ -385,6 +382,38 @@ skips-more m base w x y K h z =
           let q : x + 2 * i ≡ y = omega (arith, l, ltb-false i (K .many) t, K .is) in
           (omega (arith, q, h), ap (λ (n : ℕ). getD m (base + n) 0) q ∙ z));
     }
+
+-- .. and up to four more
+module _ (m : List ℕ) (base w x y : ℕ) (K : Skips m base w x y) (p : ℕ) (e : p ≡ base + y) (h : y + 6 < w) where
+  past : (k : ℕ) → k ≤ 6 → Skips m base w x (y + k) → getD m (p + k) 0 ≡ 0 → Skips m base w x (y + (k + 2))
+  past k l J z =
+      subst (Skips m base w x) (omega arith)
+      (skips-more m base w x (y + k) J (omega (arith, l, h)) (ap (λ (n : ℕ). getD m n 0) (let q : base + (y + k) ≡ p + k = omega (arith, e) in q) ∙ z))
+
+  pub skips-one : getD m p 0 ≡ 0 → Skips m base w x (y + 2)
+  skips-one z = skips-more m base w x y K (omega (arith, h)) (ap (λ (n : ℕ). getD m n 0) (sym e) ∙ z)
+
+  pub skips-two : getD m p 0 ≡ 0 → getD m (p + 2) 0 ≡ 0 → Skips m base w x (y + 4)
+  skips-two z a = past 2 (omega arith) (skips-one z) a
+
+  pub skips-three : getD m p 0 ≡ 0 → getD m (p + 2) 0 ≡ 0 → getD m (p + 4) 0 ≡ 0 → Skips m base w x (y + 6)
+  skips-three z a b = past 4 (omega arith) (skips-two z a) b
+
+  pub skips-four : getD m p 0 ≡ 0 → getD m (p + 2) 0 ≡ 0 → getD m (p + 4) 0 ≡ 0 → getD m (p + 6) 0 ≡ 0 → Skips m base w x (y + 8)
+  skips-four z a b d = past 6 (omega arith) (skips-three z a b) d
+
+-- the first face cell of a line is near it
+pub first-near : (n q w x : ℕ) → x ≡ firstX n q w → w < 128 → x < 256
+unfolding firstX
+first-near n q w x e h =
+    by-test (eqb n q) (λ t. let z : x ≡ 0 = e ∙ rw t refl in omega arith)
+    (λ t. by-test (eqb n (suc q)) (λ u. let z : x ≡ 1 = e ∙ rw (t, u) refl in omega arith) (λ u. let z : x ≡ w = e ∙ rw (t, u) refl in omega (arith, h)))
+
+-- .. and so is the one that the search comes to
+pub skips-near : (m : List ℕ) (base w x y : ℕ) → Skips m base w x y → x < 256 → w < 128 → y < 256
+skips-near m base w x y K hx hw =
+    by-test (ltb 0 (K .many)) (λ t. let l = ltb-true 0 (K .many) t in omega (arith, l, K .is, hw, K .blank (K .many - 1) (omega (arith, l)) .0))
+    (λ t. omega (arith, ltb-false 0 (K .many) t, K .is, hx))
 
 -- ---- all lines
 

@@ -14,11 +14,12 @@ use Rattle.cells.specs.Row.{rowOf}
 use Rattle.lines.specs.Lines.{odds, lineY, lineZ, firstX, firstStride}
 use Rattle.labels.specs.Components.{ofOrder}
 use Rattle.findings.specs.Findings.{finalIn}
-use Rattle.totals.specs.Totals.{Taken}
+use Rattle.strains.specs.declared.Reading.{Reading}
+use Rattle.totals.specs.Totals.{Taken, taken, slotOf}
 use Rattle.strain_calls.specs.Adding.{gathered, faceTaken}
 use Rattle.lowest.specs.Lowest.{startsBy}
 use Rattle.summing.specs.declared.Line.{Line}
-use Rattle.summing.specs.declared.Ends.{Ends}
+use Rattle.summing.specs.declared.Sides.{Sides}
 
 -- What a block brings: its map, the final numbers of faces and the place of its first face among them, and its readings by voxel.
 pub record Brought : Type 0 where
@@ -80,12 +81,16 @@ pub record Beside (e : Triple) (m : List ℕ) (values : List Float) (kinds : Lis
 
 -- The side of a voxel of number u at a cell whose row begins with `low` and `high`: 0 lower, 1 higher, 2 neither.
 unfoldable pub sideOf : ℕ → ℕ → ℕ → ℕ
-sideOf low high u = cond (eqb u low) 0 (cond (eqb u high) 1 2)
+sideOf low high u = cond (eqb u 0) 2 (cond (eqb u low) 0 (cond (eqb u high) 1 2))
 
--- The first two numbers of the row of a face cell between voxels of numbers u and v.
-pub record Ending (u v : ℕ) (r : Ends) : Type 0 where
-  pub low : r .low ≡ getD (rowOf (u ∷ v ∷ [])) 0 0
-  pub high : r .high ≡ getD (rowOf (u ∷ v ∷ [])) 1 0
+-- The sides of the voxels of numbers u and w below and above a face cell, by its row.
+pub record Sided (u w : ℕ) (r : Sides) : Type 0 where
+  pub below : r .below ≡ sideOf (getD (rowOf (u ∷ w ∷ [])) 0 0) (getD (rowOf (u ∷ w ∷ [])) 1 0) u
+  pub above : r .above ≡ sideOf (getD (rowOf (u ∷ w ∷ [])) 0 0) (getD (rowOf (u ∷ w ∷ [])) 1 0) w
+
+-- The reading x on a side of face n.
+unfoldable pub sideTaken : ℕ → ℕ → Reading → List Taken
+sideTaken n side x = cond (eqb side 2) [] (taken (slotOf n side) x ∷ [])
 
 -- The answer for a cell of a map at a place.
 pub record OwnFace (s : Triple) (m numbers : List ℕ) (from p : ℕ) (c : Triple) (r : ℕ) : Type 0 where

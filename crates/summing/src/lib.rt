@@ -16,39 +16,48 @@ ghost use Rattle.lines.specs.Lines.{lineCount};
 ghost use Rattle.surveys.specs.Surveys.{onLine};
 ghost use Rattle.lowest.specs.Lowest.{startOf};
 ghost use Rattle.totals.specs.Totals.{readingAt, sumsWith, countsWith};
-ghost use Rattle.strain_calls.specs.Adding.{gathered, voxelTaken, faceTaken};
-ghost use Rattle.summing.specs.Summing.{brought, sideOf, Ending, Beside, Whole, Lies, OwnFace, cellTaken, blockTaken, Skips};
+ghost use Rattle.strain_calls.specs.Adding.{gathered, faceTaken};
+ghost use Rattle.summing.specs.Summing.{brought, Sided, sideTaken, Beside, Whole, Lies, OwnFace, cellTaken, blockTaken, Skips};
 
-// The side of a voxel of number u, at a cell with the row `low` `high`: 0 lower, 1 higher, 2 for neither.
-fn side_of(low: u32, high: u32, u: u32) -> usize
-    ensures { λ r. ⌜ r ≡ sideOf low high u ⌝ }
-{
-    if u == low {
-        return 0;
-    }
-    if u == high { 1 } else { 2 }
+// The sides of the voxels below and above a face cell: 0 lower, 1 higher, 2 for neither.
+struct Sides {
+    below: usize,
+    above: usize,
 }
 
-// Takes in the reading of voxel v, of code u, at a cell of face n with the row `low` `high`.
+// .. by their numbers u and w.
+fn sides_of(u: u32, w: u32) -> Sides
+    ensures { λ r. ⌜ Sided u w r ⌝ }
+{
+    if u == w {
+        return Sides { below: 2, above: 2 };
+    }
+    if u == 0 {
+        return Sides { below: 2, above: 0 };
+    }
+    if w == 0 {
+        return Sides { below: 0, above: 2 };
+    }
+    if u < w {
+        return Sides { below: 0, above: 1 };
+    }
+    Sides { below: 1, above: 0 }
+}
+
+// Takes in the reading of voxel v, on this side of face n.
 fn take_voxel(
     sums: &mut [f64],
     counts: &mut [u64],
     values: &[f64],
     kinds: &[u8],
     n: u32,
-    low: u32,
-    high: u32,
-    u: u32,
+    side: usize,
     v: usize,
 )
-    requires { ⌜ (0 < n) × (v < length (now values)) × (v < length (now kinds)) ⌝ }
-    ensures sum { λ r. ⌜ now (sums .exit) ≡ sumsWith (now (sums .entry)) (voxelTaken n low high u (readingAt (now (values .entry)) (now (kinds .entry)) v)) ⌝ }
-    ensures count { λ r. ⌜ now (counts .exit) ≡ countsWith (now (counts .entry)) (voxelTaken n low high u (readingAt (now (values .entry)) (now (kinds .entry)) v)) ⌝ }
+    requires { ⌜ (0 < n) × (side ≤ 2) × (v < length (now values)) × (v < length (now kinds)) ⌝ }
+    ensures sum { λ r. ⌜ now (sums .exit) ≡ sumsWith (now (sums .entry)) (sideTaken n side (readingAt (now (values .entry)) (now (kinds .entry)) v)) ⌝ }
+    ensures count { λ r. ⌜ now (counts .exit) ≡ countsWith (now (counts .entry)) (sideTaken n side (readingAt (now (values .entry)) (now (kinds .entry)) v)) ⌝ }
 {
-    if u == 0 {
-        return;
-    }
-    let side = side_of(low, high, u);
     if side == 2 {
         return;
     }
@@ -58,31 +67,6 @@ fn take_voxel(
         2 * (n as usize - 1) + side,
         reading_at(values, kinds, v),
     );
-}
-
-// The first two numbers of a face cell's row.
-struct Ends {
-    low: u32,
-    high: u32,
-}
-
-// .. by the numbers u and v of its voxels.
-fn ends_of(u: u32, v: u32) -> Ends
-    ensures { λ r. ⌜ Ending u v r ⌝ }
-{
-    if u == v {
-        return Ends { low: 0, high: 0 };
-    }
-    if u == 0 {
-        return Ends { low: v, high: 0 };
-    }
-    if v == 0 {
-        return Ends { low: u, high: 0 };
-    }
-    if u < v {
-        return Ends { low: u, high: v };
-    }
-    Ends { low: v, high: u }
 }
 
 // Takes in the readings of both voxels at cell p of face n. They stand at places v and v + d of the lists.
@@ -107,9 +91,9 @@ fn take_face(
 {
     let u = map[p - a];
     let w = map[p + a];
-    let row = ends_of(u, w);
-    take_voxel(sums, counts, values, kinds, n, row.low, row.high, u, v);
-    take_voxel(sums, counts, values, kinds, n, row.low, row.high, w, v + d);
+    let on = sides_of(u, w);
+    take_voxel(sums, counts, values, kinds, n, on.below, v);
+    take_voxel(sums, counts, values, kinds, n, on.above, v + d);
 }
 
 // The final number of the face that cell p shows, at place (x,y,z) of the block; 0 if it shows none, or does not count here.
@@ -198,12 +182,37 @@ fn line_at(nx: usize, ny: usize, nz: usize, l: usize) -> Line
     }
 }
 
-// The next cell of a line that shows a number in the map, from x on, two apart; one at or past w where none does. Most cells show none.
-fn next_shown(map: &[u32], base: usize, x: usize, w: usize) -> usize
-    requires { ⌜ (base + w ≤ length (now map)) × (w < 128) ⌝ }
+// Cells of a line, from x on, two apart, that show no number in the map are passed over, four at a time. Most cells show none.
+fn skip_fours(map: &[u32], base: usize, x: usize, w: usize) -> usize
+    requires { ⌜ (base + w ≤ length (now map)) × (x < 256) × (w < 128) ⌝ }
     ensures { λ r. ⌜ Skips (now (map .entry)) base w x r ⌝ }
 {
     let mut at = x;
+    while at + 6 < w {
+        let p = base + at;
+        if map[p] != 0 {
+            return at;
+        }
+        if map[p + 2] != 0 {
+            return at + 2;
+        }
+        if map[p + 4] != 0 {
+            return at + 4;
+        }
+        if map[p + 6] != 0 {
+            return at + 6;
+        }
+        at += 8;
+    }
+    at
+}
+
+// The next cell of a line that shows a number in the map, from x on, two apart; one at or past w where none does.
+fn next_shown(map: &[u32], base: usize, x: usize, w: usize) -> usize
+    requires { ⌜ (base + w ≤ length (now map)) × (x < 256) × (w < 128) ⌝ }
+    ensures { λ r. ⌜ Skips (now (map .entry)) base w x r ⌝ }
+{
+    let mut at = skip_fours(map, base, x, w);
     while at < w {
         if map[base + at] != 0 {
             return at;

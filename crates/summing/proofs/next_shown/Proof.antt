@@ -2,7 +2,7 @@
 use Prim.Native.Nat.{_-_}
 use borrow.Author.Needs.{needs}
 use Rattle.summing.specs.Summing.{Skips}
-use Rattle.summing.proofs.SumLaws.{skips-none, skips-more}
+use Rattle.summing.proofs.SumLaws.{skips-more}
 use Rattle.summing.proofs.next_shown.Statement.{statement}
 use Rattle.summing.proofs.next_shown.Tie as tie
 
@@ -12,8 +12,11 @@ Inv-loop map base x w at₀ at = Skips map base w x at
 abbrev μ-loop : tie.MeasureT-loop
 μ-loop map base x w at₀ at = w - at
 
+skip-fours-requires : tie.Need-skip-fours-requires Inv-loop μ-loop
+skip-fours-requires c κs = search needs
+
 loop-holds : tie.Need-loop-holds Inv-loop μ-loop
-loop-holds c = skips-none _ _ _ _
+loop-holds c = c .skip-fours .ensures
 
 add-if1 : tie.Need-add-if1 Inv-loop μ-loop
 add-if1 c = search needs
@@ -45,6 +48,7 @@ next-shown-spec =
     (tie.spec
     Inv-loop
     μ-loop
+    skip-fours-requires
     loop-holds
     add-if1
     mul-if1

@@ -1,7 +1,7 @@
 -- `summing::take_face` meets its contract.
 use native.Mathlib.Omega.{arith}
 use borrow.Author.Needs.{needs}
-use Rattle.summing.proofs.SumLaws.{spots, face-sums, face-counts}
+use Rattle.summing.proofs.SumLaws.{spots, below-most, above-most, face-sums, face-counts}
 use Rattle.summing.proofs.take_face.Statement.{statement}
 use Rattle.summing.proofs.take_face.Tie as tie
 
@@ -23,17 +23,17 @@ mul-w c = let st = c .before .before .before .before .before .before in let s = 
 shared-slice-read-w : tie.Need-shared-slice-read-w
 shared-slice-read-w c = let st = c .before .before .before .before .before .before .before in let s = spots _ _ _ _ (st .args .n) _ _ _ _ (st .pre .1) in omega arith
 
-ends-of-requires : tie.Need-ends-of-requires
-ends-of-requires c κs = search needs
+sides-of-requires : tie.Need-sides-of-requires
+sides-of-requires c κs = search needs
 
 take-voxel-requires : tie.Need-take-voxel-requires
-take-voxel-requires c κs = let st = c .before .before .before .before .before .before .before .before .before .before in let s = spots _ _ _ _ (st .args .n) _ _ _ _ (st .pre .1) in search needs
+take-voxel-requires c κs = let st = c .before .before .before .before .before .before .before .before .before .before in let s = spots _ _ _ _ (st .args .n) _ _ _ _ (st .pre .1) in search (needs, below-most)
 
 add-take-voxel : tie.Need-add-take-voxel
 add-take-voxel c = let st = c .before .before .before .before .before .before .before .before .before .before .before .before .before .before .before .before .before in let s = spots _ _ _ _ (st .args .n) _ _ _ _ (st .pre .1) in omega arith
 
 take-voxel-requires-2 : tie.Need-take-voxel-requires-2
-take-voxel-requires-2 c κs = let st = c .before .before .before .before .before .before .before .before .before .before .before .before .before .before .before .before .before in let s = spots _ _ _ _ (st .args .n) _ _ _ _ (st .pre .1) in search needs
+take-voxel-requires-2 c κs = let st = c .before .before .before .before .before .before .before .before .before .before .before .before .before .before .before .before .before in let s = spots _ _ _ _ (st .args .n) _ _ _ _ (st .pre .1) in search (needs, above-most)
 
 same-length : tie.Need-same-length
 same-length c = search needs
@@ -54,7 +54,7 @@ take-face-spec =
     add-w
     mul-w
     shared-slice-read-w
-    ends-of-requires
+    sides-of-requires
     take-voxel-requires
     add-take-voxel
     take-voxel-requires-2

@@ -1,5 +1,5 @@
 -- `summing::take_line` meets its contract.
-use Rattle.summing.proofs.SumLaws.{bounds, line-room, going-start, going-skip, going-more, going-end, line-beside, line-spot}
+use Rattle.summing.proofs.SumLaws.{bounds, first-near, line-room, going-start, going-skip, going-more, going-end, line-beside, line-spot}
 use mathlib.Core.Path.{refl}
 use Rattle.cells.specs.Grid.{sides}
 use borrow.Author.Needs.{needs}
@@ -35,7 +35,7 @@ next-shown-requires : tie.Need-next-shown-requires Inv-loop μ-loop
 unfolding sides
 next-shown-requires c κs =
     let st = c .before .before .before .before .before .before .before in
-    (omega (arith, line-room _ _ (st .pre .0 .sized) (st .pre .1), c .line-at .ensures .base, st .pre .0 .whole), omega (arith, st .pre .0 .sized))
+    (omega (arith, line-room _ _ (st .pre .0 .sized) (st .pre .1), c .line-at .ensures .base, st .pre .0 .whole), first-near _ _ _ _ (c .line-at .ensures .start) (omega (arith, st .pre .0 .sized)), omega (arith, st .pre .0 .sized))
 
 loop-holds : tie.Need-loop-holds Inv-loop μ-loop
 unfolding sides
@@ -64,7 +64,7 @@ next-shown-requires-2 : tie.Need-next-shown-requires-2 Inv-loop μ-loop
 unfolding sides
 next-shown-requires-2 c κs =
     let st = c .before .before .before .before .before .before .before .before .before .before .before .before .before .before .before .before .before .before .before in
-    (omega (arith, line-room _ _ (st .pre .0 .sized) (st .pre .1), c .before .before .before .before .before .before .before .before .before .before .before .before .line-at .ensures .base, st .pre .0 .whole), omega (arith, st .pre .0 .sized))
+    (omega (arith, line-room _ _ (st .pre .0 .sized) (st .pre .1), c .before .before .before .before .before .before .before .before .before .before .before .before .line-at .ensures .base, st .pre .0 .whole), omega (arith, st .pre .0 .sized, c .before .before .before .before .before .before .before .before .before .loop-test .taken), omega (arith, st .pre .0 .sized))
 
 loop-less : tie.Need-loop-less Inv-loop μ-loop
 loop-less c = omega (arith, c .next-shown2 .ensures .is, c .before .before .before .before .before .before .before .before .before .before .loop-test .taken)

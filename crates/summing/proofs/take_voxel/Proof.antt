@@ -1,18 +1,11 @@
 -- `summing::take_voxel` meets its contract.
-use Rattle.summing.proofs.SumLaws.{none-sums, none-counts, neither-sums, neither-counts, side-most, side-sums, side-counts}
-use native.Mathlib.Omega.{arith}
+use Rattle.summing.proofs.SumLaws.{neither-sums, neither-counts, side-sums, side-counts}
 use borrow.Author.Needs.{needs}
 use Rattle.summing.proofs.take_voxel.Statement.{statement}
 use Rattle.summing.proofs.take_voxel.Tie as tie
 
 returns : tie.Need-returns
-returns c = (search none-sums, search none-counts)
-
-side-of-requires : tie.Need-side-of-requires
-side-of-requires c κs = search needs
-
-returns-2 : tie.Need-returns-2
-returns-2 c = (search neither-sums, search neither-counts)
+returns c = (search neither-sums, search neither-counts)
 
 sub-take-reading : tie.Need-sub-take-reading
 sub-take-reading c = search needs
@@ -21,13 +14,13 @@ mul-take-reading : tie.Need-mul-take-reading
 mul-take-reading c = search needs
 
 add-take-reading : tie.Need-add-take-reading
-add-take-reading c = omega (arith, side-most _ _ _ _ (c .before .before .before .side-of .ensures))
+add-take-reading c = search needs
 
 reading-at-requires : tie.Need-reading-at-requires
 reading-at-requires c κs = search needs
 
 take-reading-requires : tie.Need-take-reading-requires
-take-reading-requires c κs = omega (arith, side-most _ _ _ _ (c .before .before .before .before .side-of .ensures))
+take-reading-requires c κs = search needs
 
 same-length : tie.Need-same-length
 same-length c = search needs
@@ -35,16 +28,14 @@ same-length c = search needs
 same-length-2 : tie.Need-same-length-2
 same-length-2 c = search needs
 
-returns-3 : tie.Need-returns-3
-returns-3 c = (search side-sums, search side-counts)
+returns-2 : tie.Need-returns-2
+returns-2 c = (search side-sums, search side-counts)
 
 pub take-voxel-spec : {M : Type 1} → statement M
 take-voxel-spec =
     tie.close
     (tie.spec
     returns
-    side-of-requires
-    returns-2
     sub-take-reading
     mul-take-reading
     add-take-reading
@@ -52,4 +43,4 @@ take-voxel-spec =
     take-reading-requires
     same-length
     same-length-2
-    returns-3)
+    returns-2)
