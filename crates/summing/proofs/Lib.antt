@@ -3,3 +3,5 @@ pub mod TakenLaws
 pub mod AddingLaws
 pub mod VoxelLaws
 pub mod SumLaws
+pub mod SpotLaws
+pub mod ShownLaws

@@ -383,38 +383,6 @@ skips-more m base w x y K h z =
           (omega (arith, q, h), ap (λ (n : ℕ). getD m (base + n) 0) q ∙ z));
     }
 
--- .. and up to four more
-module _ (m : List ℕ) (base w x y : ℕ) (K : Skips m base w x y) (p : ℕ) (e : p ≡ base + y) (h : y + 6 < w) where
-  past : (k : ℕ) → k ≤ 6 → Skips m base w x (y + k) → getD m (p + k) 0 ≡ 0 → Skips m base w x (y + (k + 2))
-  past k l J z =
-      subst (Skips m base w x) (omega arith)
-      (skips-more m base w x (y + k) J (omega (arith, l, h)) (ap (λ (n : ℕ). getD m n 0) (let q : base + (y + k) ≡ p + k = omega (arith, e) in q) ∙ z))
-
-  pub skips-one : getD m p 0 ≡ 0 → Skips m base w x (y + 2)
-  skips-one z = skips-more m base w x y K (omega (arith, h)) (ap (λ (n : ℕ). getD m n 0) (sym e) ∙ z)
-
-  pub skips-two : getD m p 0 ≡ 0 → getD m (p + 2) 0 ≡ 0 → Skips m base w x (y + 4)
-  skips-two z a = past 2 (omega arith) (skips-one z) a
-
-  pub skips-three : getD m p 0 ≡ 0 → getD m (p + 2) 0 ≡ 0 → getD m (p + 4) 0 ≡ 0 → Skips m base w x (y + 6)
-  skips-three z a b = past 4 (omega arith) (skips-two z a) b
-
-  pub skips-four : getD m p 0 ≡ 0 → getD m (p + 2) 0 ≡ 0 → getD m (p + 4) 0 ≡ 0 → getD m (p + 6) 0 ≡ 0 → Skips m base w x (y + 8)
-  skips-four z a b d = past 6 (omega arith) (skips-three z a b) d
-
--- the first face cell of a line is near it
-pub first-near : (n q w x : ℕ) → x ≡ firstX n q w → w < 128 → x < 256
-unfolding firstX
-first-near n q w x e h =
-    by-test (eqb n q) (λ t. let z : x ≡ 0 = e ∙ rw t refl in omega arith)
-    (λ t. by-test (eqb n (suc q)) (λ u. let z : x ≡ 1 = e ∙ rw (t, u) refl in omega arith) (λ u. let z : x ≡ w = e ∙ rw (t, u) refl in omega (arith, h)))
-
--- .. and so is the one that the search comes to
-pub skips-near : (m : List ℕ) (base w x y : ℕ) → Skips m base w x y → x < 256 → w < 128 → y < 256
-skips-near m base w x y K hx hw =
-    by-test (ltb 0 (K .many)) (λ t. let l = ltb-true 0 (K .many) t in omega (arith, l, K .is, hw, K .blank (K .many - 1) (omega (arith, l)) .0))
-    (λ t. omega (arith, ltb-false 0 (K .many) t, K .is, hx))
-
 -- ---- all lines
 
 pub record Gone (e s : Triple) (g : Brought) (sums₀ : List Float) (counts₀ : List ℕ) (l : ℕ) (sums : List Float) (counts : List ℕ) : Type 0 where

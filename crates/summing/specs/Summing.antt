@@ -3,7 +3,7 @@
 use mathlib.Core.Path.{_≡_}
 use mathlib.Core.Bool.{cond}
 use mathlib.Core.List.{List, [], _∷_}
-use Prim.Native.Nat.{ℕ, _+_, _-_, _*_, _/_, _%_, _<_}
+use Prim.Native.Nat.{ℕ, zero, suc, _+_, _-_, _*_, _/_, _%_, _≤_, _<_}
 use lib.Dec.{eqb}
 use lib.ListN.{getD, length}
 use lib.Ieee.{Float}
@@ -19,6 +19,7 @@ use Rattle.totals.specs.Totals.{Taken, taken, slotOf}
 use Rattle.strain_calls.specs.Adding.{gathered, faceTaken}
 use Rattle.lowest.specs.Lowest.{startsBy}
 use Rattle.summing.specs.declared.Line.{Line}
+use Rattle.summing.specs.declared.Spot.{Spot}
 use Rattle.summing.specs.declared.Sides.{Sides}
 
 -- What a block brings: its map, the final numbers of faces and the place of its first face among them, and its readings by voxel.
@@ -96,8 +97,26 @@ sideTaken n side x = cond (eqb side 2) [] (taken (slotOf n side) x ∷ [])
 pub record OwnFace (s : Triple) (m numbers : List ℕ) (from p : ℕ) (c : Triple) (r : ℕ) : Type 0 where
   pub is : r ≡ cond (startsBy s c) (finalIn numbers from (getD m p 0)) 0
 
+-- Line l, of h in a layer, lies at y and z.
+pub record Lying (h l : ℕ) (r : Spot) : Type 0 where
+  pub y : r .y ≡ l % h
+  pub z : r .z ≡ l / h
+
 -- From x on, two apart, so many cells of a line of w show 0 in a map; the line begins at `base`, and r is the cell after them.
 pub record Skips (m : List ℕ) (base w x r : ℕ) : Type 0 where
   pub many : ℕ
   pub is : r ≡ x + 2 * many
   pub blank : (i : ℕ) → i < many → (x + 2 * i < w) × (getD m (base + (x + 2 * i)) 0 ≡ 0)
+
+-- Where a line is looked at next, after j of the listed cells: at its start, and then two after the last of them.
+unfoldable pub nextAt : ℕ → List ℕ → ℕ → ℕ
+nextAt start list zero = start
+nextAt start list (suc j) = getD list j 0 + 2
+
+-- The first `many` entries of a list are the cells that show a number on a line of w from `start` on, two apart.
+pub record Listed (m : List ℕ) (base w start : ℕ) (list : List ℕ) (many : ℕ) : Type 0 where
+  pub few : many ≤ 64
+  pub each : (j : ℕ) → j < many → (getD list j 0 < w) × Skips m base w (nextAt start list j) (getD list j 0)
+  pub past : ℕ
+  pub rest : Skips m base w (nextAt start list many) past
+  pub ended : w ≤ past

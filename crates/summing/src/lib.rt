@@ -7,7 +7,7 @@ use lowest::starts_by;
 use totals::reading_at;
 use totals::take_reading;
 ghost use mathlib.Core.Path.{_≡_};
-ghost use Prim.Native.Nat.{_+_, _-_, _*_, _≤_, _<_};
+ghost use Prim.Native.Nat.{_+_, _-_, _*_, _/_, _%_, _≤_, _<_, min};
 ghost use lib.ListN.{length};
 ghost use Rattle.cells.specs.Box.{triple, place};
 ghost use Rattle.cells.specs.Extents.{Sized};
@@ -17,7 +17,7 @@ ghost use Rattle.surveys.specs.Surveys.{onLine};
 ghost use Rattle.lowest.specs.Lowest.{startOf};
 ghost use Rattle.totals.specs.Totals.{readingAt, sumsWith, countsWith};
 ghost use Rattle.strain_calls.specs.Adding.{gathered, faceTaken};
-ghost use Rattle.summing.specs.Summing.{brought, Sided, sideTaken, Beside, Whole, Lies, OwnFace, cellTaken, blockTaken, Skips};
+ghost use Rattle.summing.specs.Summing.{brought, Sided, sideTaken, Beside, Whole, Lies, OwnFace, cellTaken, blockTaken, Lying, Listed};
 
 // The sides of the voxels below and above a face cell: 0 lower, 1 higher, 2 for neither.
 struct Sides {
@@ -161,15 +161,13 @@ pub struct Line {
     pub first: usize,
 }
 
-// Line l.
-fn line_at(nx: usize, ny: usize, nz: usize, l: usize) -> Line
-    requires { ⌜ Sized 64 (triple nx ny nz) × (l < lineCount (triple nx ny nz)) ⌝ }
+// Line l, which lies at y and z.
+fn line_at(nx: usize, ny: usize, nz: usize, l: usize, y: usize, z: usize) -> Line
+    requires { ⌜ Sized 64 (triple nx ny nz) × (l < lineCount (triple nx ny nz)) × (y ≡ l % (2 * ny - 1)) × (z ≡ l / (2 * ny - 1)) ⌝ }
     ensures { λ r. ⌜ Lies (triple nx ny nz) l r ⌝ }
 {
     let w = 2 * nx - 1;
     let h = 2 * ny - 1;
-    let y = l % h;
-    let z = l / h;
     let start = first_x(1, y % 2 + z % 2, w);
     Line {
         y: y,
@@ -182,50 +180,51 @@ fn line_at(nx: usize, ny: usize, nz: usize, l: usize) -> Line
     }
 }
 
-// Cells of a line, from x on, two apart, that show no number in the map are passed over, four at a time. Most cells show none.
-fn skip_fours(map: &[u32], base: usize, x: usize, w: usize) -> usize
-    requires { ⌜ (base + w ≤ length (now map)) × (x < 256) × (w < 128) ⌝ }
-    ensures { λ r. ⌜ Skips (now (map .entry)) base w x r ⌝ }
-{
-    let mut at = x;
-    while at + 6 < w {
-        let p = base + at;
-        if map[p] != 0 {
-            return at;
-        }
-        if map[p + 2] != 0 {
-            return at + 2;
-        }
-        if map[p + 4] != 0 {
-            return at + 4;
-        }
-        if map[p + 6] != 0 {
-            return at + 6;
-        }
-        at += 8;
-    }
-    at
+// Where a line lies.
+struct Spot {
+    y: usize,
+    z: usize,
 }
 
-// The next cell of a line that shows a number in the map, from x on, two apart; one at or past w where none does.
-fn next_shown(map: &[u32], base: usize, x: usize, w: usize) -> usize
-    requires { ⌜ (base + w ≤ length (now map)) × (x < 256) × (w < 128) ⌝ }
-    ensures { λ r. ⌜ Skips (now (map .entry)) base w x r ⌝ }
+// Where the line after line l lies, which lies at y and z; h lines are in a layer.
+fn next_spot(h: usize, l: usize, y: usize, z: usize) -> Spot
+    requires { ⌜ (0 < h) × (l < 16384) × (y ≡ l % h) × (z ≡ l / h) ⌝ }
+    ensures { λ r. ⌜ Lying h (l + 1) r ⌝ }
 {
-    let mut at = skip_fours(map, base, x, w);
+    if y + 1 < h {
+        return Spot { y: y + 1, z: z };
+    }
+    Spot { y: 0, z: z + 1 }
+}
+
+// 0 for 0, and else 1.
+fn one_if(n: u32) -> usize
+    ensures { λ r. ⌜ r ≡ min 1 n ⌝ }
+{
+    if n == 0 { 0 } else { 1 }
+}
+
+// Lists the cells of a line that show a number in the map, from `start` on, two apart, and answers how many there are. Most cells show none, so
+// each is written down, and kept if it shows one: no step hangs on what the map holds.
+fn list_shown(list: &mut [usize], map: &[u32], base: usize, start: usize, w: usize) -> usize
+    requires { ⌜ (base + w ≤ length (now map)) × (w < 128) × (64 ≤ length (now list)) ⌝ }
+    ensures { λ r. ⌜ Listed (now (map .entry)) base w start (now (list .exit)) r ⌝ }
+{
+    let mut many: usize = 0;
+    let mut at = start;
     while at < w {
-        if map[base + at] != 0 {
-            return at;
-        }
+        list[many] = at;
+        many += one_if(map[base + at]);
         at += 2;
     }
-    at
+    many
 }
 
-// Takes in the face cells of line l.
+// Takes in the face cells of line l. The list is used on the way.
 fn take_line(
     sums: &mut [f64],
     counts: &mut [u64],
+    list: &mut [usize],
     values: &[f64],
     kinds: &[u8],
     map: &[u32],
@@ -236,17 +235,21 @@ fn take_line(
     s: Start,
     from: u32,
     l: usize,
+    y: usize,
+    z: usize,
 )
-    requires { ⌜ Whole (triple nx ny nz) (now map) (now values) (now kinds) × (l < lineCount (triple nx ny nz)) ⌝ }
+    requires { ⌜ Whole (triple nx ny nz) (now map) (now values) (now kinds) × (l < lineCount (triple nx ny nz)) × (y ≡ l % (2 * ny - 1)) × (z ≡ l / (2 * ny - 1)) × (64 ≤ length (now list)) ⌝ }
     ensures sum { λ r. ⌜ now (sums .exit) ≡ sumsWith (now (sums .entry))
         (gathered (cellTaken (triple nx ny nz) (startOf s) (brought (now (map .entry)) (now (numbers .entry)) from (now (values .entry)) (now (kinds .entry)))) (onLine (triple nx ny nz) 2 l)) ⌝ }
     ensures count { λ r. ⌜ now (counts .exit) ≡ countsWith (now (counts .entry))
         (gathered (cellTaken (triple nx ny nz) (startOf s) (brought (now (map .entry)) (now (numbers .entry)) from (now (values .entry)) (now (kinds .entry)))) (onLine (triple nx ny nz) 2 l)) ⌝ }
 {
     let w = 2 * nx - 1;
-    let line = line_at(nx, ny, nz, l);
-    let mut x = next_shown(map, line.base, line.start, w);
-    while x < w {
+    let line = line_at(nx, ny, nz, l, y, z);
+    let many = list_shown(list, map, line.base, line.start, w);
+    let mut i: usize = 0;
+    while i < many {
+        let x = list[i];
         take_cell(
             sums,
             counts,
@@ -267,7 +270,55 @@ fn take_line(
             line.y,
             line.z,
         );
-        x = next_shown(map, line.base, x + 2, w);
+        i += 1;
+    }
+}
+
+// Takes in all lines. The list is used on the way.
+fn take_lines(
+    sums: &mut [f64],
+    counts: &mut [u64],
+    list: &mut [usize],
+    values: &[f64],
+    kinds: &[u8],
+    map: &[u32],
+    numbers: &[u32],
+    nx: usize,
+    ny: usize,
+    nz: usize,
+    s: Start,
+    from: u32,
+)
+    requires { ⌜ Whole (triple nx ny nz) (now map) (now values) (now kinds) × (64 ≤ length (now list)) ⌝ }
+    ensures sum { λ r. ⌜ now (sums .exit) ≡ sumsWith (now (sums .entry))
+        (blockTaken (triple nx ny nz) (startOf s) (brought (now (map .entry)) (now (numbers .entry)) from (now (values .entry)) (now (kinds .entry)))) ⌝ }
+    ensures count { λ r. ⌜ now (counts .exit) ≡ countsWith (now (counts .entry))
+        (blockTaken (triple nx ny nz) (startOf s) (brought (now (map .entry)) (now (numbers .entry)) from (now (values .entry)) (now (kinds .entry)))) ⌝ }
+{
+    let h = 2 * ny - 1;
+    let lines = h * (2 * nz - 1);
+    let mut at = Spot { y: 0, z: 0 };
+    let mut l: usize = 0;
+    while l < lines {
+        take_line(
+            sums,
+            counts,
+            list,
+            values,
+            kinds,
+            map,
+            numbers,
+            nx,
+            ny,
+            nz,
+            s,
+            from,
+            l,
+            at.y,
+            at.z,
+        );
+        at = next_spot(h, l, at.y, at.z);
+        l += 1;
     }
 }
 
@@ -291,23 +342,20 @@ pub fn sum_block(
     ensures count { λ r. ⌜ now (counts .exit) ≡ countsWith (now (counts .entry))
         (blockTaken (triple nx ny nz) (startOf s) (brought (now (map .entry)) (now (numbers .entry)) from (now (values .entry)) (now (kinds .entry)))) ⌝ }
 {
-    let lines = (2 * ny - 1) * (2 * nz - 1);
-    let mut l: usize = 0;
-    while l < lines {
-        take_line(
-            sums,
-            counts,
-            values,
-            kinds,
-            map,
-            numbers,
-            nx,
-            ny,
-            nz,
-            s,
-            from,
-            l,
-        );
-        l += 1;
-    }
+    // the cells of a line that show a face: at most 64
+    let mut list = [0usize; 64];
+    take_lines(
+        sums,
+        counts,
+        &mut list,
+        values,
+        kinds,
+        map,
+        numbers,
+        nx,
+        ny,
+        nz,
+        s,
+        from,
+    );
 }

@@ -1,8 +1,8 @@
 -- `summing::line_at` meets its contract.
 use Rattle.summing.proofs.SumLaws.{bounds}
+use Rattle.summing.proofs.SpotLaws.{lies, spot-bounds}
 use native.Mathlib.Omega.{arith}
 use mathlib.Core.Path.{refl}
-use Rattle.lines.specs.Lines.{lineY, lineZ}
 use Rattle.cells.specs.Grid.{sides}
 use borrow.Author.Needs.{needs}
 use Rattle.summing.proofs.line_at.Statement.{statement}
@@ -19,12 +19,6 @@ mul-h c = search needs
 
 sub-h : tie.Need-sub-h
 sub-h c = search needs
-
-rem-y : tie.Need-rem-y
-rem-y c = search needs
-
-div-z : tie.Need-div-z
-div-z c = search needs
 
 add-first-x : tie.Need-add-first-x
 add-first-x c = search needs
@@ -48,20 +42,23 @@ mul-t16 : tie.Need-mul-t16
 mul-t16 c = omega (arith, bounds _ _ (c .before .before .before .pre .0) (c .before .before .before .pre .1))
 
 mul-t18 : tie.Need-mul-t18
-mul-t18 c = omega (arith, bounds _ _ (c .before .before .before .pre .0) (c .before .before .before .pre .1))
+unfolding sides
+mul-t18 c = let p = c .before .before .before .pre in omega (arith, bounds _ _ (p .0) (p .1), spot-bounds _ _ _ _ (p .2) (p .3) (p .0) (p .1))
 
 mul-t20 : tie.Need-mul-t20
 mul-t20 c = omega (arith, bounds _ _ (c .before .before .before .pre .0) (c .before .before .before .pre .1))
 
 mul-t21 : tie.Need-mul-t21
-mul-t21 c = omega (arith, bounds _ _ (c .before .before .before .pre .0) (c .before .before .before .pre .1))
+unfolding sides
+mul-t21 c = let p = c .before .before .before .pre in omega (arith, bounds _ _ (p .0) (p .1), spot-bounds _ _ _ _ (p .2) (p .3) (p .0) (p .1))
 
 add-t22 : tie.Need-add-t22
-add-t22 c = omega (arith, bounds _ _ (c .before .before .before .pre .0) (c .before .before .before .pre .1))
+unfolding sides
+add-t22 c = let p = c .before .before .before .pre in omega (arith, bounds _ _ (p .0) (p .1), spot-bounds _ _ _ _ (p .2) (p .3) (p .0) (p .1))
 
 returns : tie.Need-returns
-unfolding lineY lineZ sides
-returns c = record { y = refl; z = refl; start = c .before .before .first-x .ensures; stride = c .before .first-stride .ensures; apart = c .first-stride2 .ensures; base = refl; first = refl }
+unfolding sides
+returns c = let p = c .before .before .before .pre in lies _ _ _ _ (p .2) (p .3) _ refl refl (c .before .before .first-x .ensures) (c .before .first-stride .ensures) (c .first-stride2 .ensures) refl refl
 
 pub line-at-spec : {M : Type 1} → statement M
 line-at-spec =
@@ -71,8 +68,6 @@ line-at-spec =
     sub-w
     mul-h
     sub-h
-    rem-y
-    div-z
     add-first-x
     first-x-requires
     mul-first-stride
