@@ -4,17 +4,19 @@ use mathlib.Core.Path.{_≡_, refl, sym, _∙_}
 use mathlib.Core.Bool.{Bool, true, false, not, _&&_}
 use mathlib.Core.List.{List, [], _∷_}
 use Prim.Native.Nat.{ℕ, _*_, _≤_, _<_}
+use native.Mathlib.Omega.{arith}
 use lib.Dec.{eqb, leb, ltb}
 use lib.ListN.{getD, length, set}
 use lib.Ieee.{Float}
-use borrow.Author.Tests.{eqb-true, eq-eqb, ne-eqb, ltb-true, not-true, not-false}
+use borrow.Author.Tests.{eqb-true, eq-eqb, ne-eqb, leb-true, ltb-true, not-true, not-false}
 use Rattle.lists.proofs.Cases.{and-first, and-second}
 use Rattle.cells.specs.Box.{Triple, triple, volume}
 use Rattle.cells.specs.Extents.{Sized}
 use Rattle.cells.specs.Grid.{cells}
 use Rattle.cutting.specs.Cutting.{Cutting, intervals, blocks, blockExtents}
-use Rattle.joiner.specs.Job.{Closed, tray, lengthsFit}
+use Rattle.joiner.specs.Job.{Face, Closed, tray, lengthsFit}
 use Rattle.joiner.specs.Declines.{talliesFit}
+use Rattle.model.proofs.Facts.{fits-at, numbered-fits}
 use Rattle.blocks.specs.Blocks.{Tells, sizeOf, anyExtents}
 use Rattle.blocks.specs.declared.Block.{Block}
 use Rattle.job.specs.declared.Job.{Job}
@@ -22,7 +24,8 @@ use Rattle.job.specs.Jobs.{anyCuts, jobOf, toldOf, totalLengths}
 use Rattle.steps.specs.declared.Entry.{Entry}
 use Rattle.steps.specs.Steps.{reachedOf, entryOf, mapStandsIn, numberStandsIn}
 use Rattle.steps.proofs.StepLaws.{or-first, or-then, reached-passed, Passed, few-of, count-few, block-sized}
-use Rattle.totals.specs.Totals.{bothStand, readingsFit, sumsWith, countsWith}
+use Rattle.totals.specs.Totals.{Holds, bothStand, readingsFit, sumsWith, countsWith}
+use Rattle.totals.proofs.TotalLaws.{fewer-held}
 use Rattle.lowest.specs.Lowest.{starts, startOf}
 use Rattle.lowest.specs.declared.Start.{Start}
 use Rattle.summing.specs.Summing.{brought, blockTaken, Whole}
@@ -45,38 +48,46 @@ module _ (e : Triple) (n values kinds : ℕ) (t : Bool) (h : t ≡ eqb n (cells 
   unfolding listsIn volume
   lists-other q v = rw (sym h ∙ not-false t q, ne-eqb values (e .x * e .y * e .z) v)
 
--- what fits has the lengths of a block of e voxels, and a tick for each block
+-- what fits has the lengths of a block of e voxels, a tick for each block, and two sums and six counts for each face
 pub whole-of : (count : ℕ) (e : Triple) (faces : ℕ) (z : Sizes) → traysFit count e faces z ≡ true
-    → (z .cells ≡ cells e) × (z .values ≡ volume e) × (z .kinds ≡ volume e) × (z .came ≡ count)
-unfolding traysFit listsIn lengthsFit
+    → (z .cells ≡ cells e) × (z .values ≡ volume e) × (z .kinds ≡ volume e) × (z .came ≡ count) × (z .sums ≡ 2 * faces) × (z .counts ≡ 6 * faces)
+unfolding traysFit listsIn
 whole-of count e faces z h =
-    let totals = lengthsFit (totalLengths count faces (z .came) (z .sums) (z .counts)) in
+    let lent = totalLengths count faces (z .came) (z .sums) (z .counts) in
     let l = and-first (listsIn e (z .cells) (z .values) (z .kinds)) _ h in
     let r = and-second (eqb (z .cells) (cells e)) _ l in
-    let s = and-second (lengthsFit (tray (z .blocks) (5 * count) ∷ [])) (lengthsFit (tray (z .numbers) faces ∷ []) && totals) (and-second (listsIn e (z .cells) (z .values) (z .kinds)) _ h) in
-    let u = and-second (lengthsFit (tray (z .numbers) faces ∷ [])) totals s in (
+    let s = and-second (lengthsFit (tray (z .blocks) (5 * count) ∷ [])) (lengthsFit (tray (z .numbers) faces ∷ []) && lengthsFit lent) (and-second (listsIn e (z .cells) (z .values) (z .kinds)) _ h) in
+    let u = and-second (lengthsFit (tray (z .numbers) faces ∷ [])) (lengthsFit lent) s in (
       eqb-true _ _ (and-first (eqb (z .cells) (cells e)) _ l),
       eqb-true _ _ (and-first (eqb (z .values) (volume e)) _ r),
       eqb-true _ _ (and-second (eqb (z .values) (volume e)) (eqb (z .kinds) (volume e)) r),
-      eqb-true _ _ (and-first (eqb (z .came) count) _ u),
+      fits-at lent 0 u,
+      fits-at lent 1 u,
+      fits-at lent 2 u,
     )
 
 -- ---- the faces of a block
 
-module _ (numbers : List ℕ) (most size : ℕ) (sums : List Float) (counts : List ℕ) (x : ℕ) (t : Bool) (h : t ≡ numberStandsIn numbers most x) where
-  pub face-none : not t ≡ true → false ≡ faceIn numbers most size sums counts x
+module _ (numbers : List ℕ) (most : ℕ) (sums : List Float) (counts : List ℕ) (x : ℕ) (t : Bool) (h : t ≡ numberStandsIn numbers most x) where
+  pub face-none : (size : ℕ) → not t ≡ true → false ≡ faceIn numbers most size sums counts x
   unfolding faceIn
-  face-none q = rw (sym h ∙ not-true t q)
+  face-none size q = rw (sym h ∙ not-true t q)
 
   module _ (q : not t ≡ false) (n : ℕ) (e : n ≡ getD numbers x 0) where
+    is-number : (ltb 0 n && leb n most) ≡ true
+    unfolding numberStandsIn
+    is-number = rw e (sym h ∙ not-false t q)
+
     -- what `both_stand` requires
     pub face-some : 0 < n
-    unfolding numberStandsIn
-    face-some = rw e (ltb-true 0 (getD numbers x 0) (and-first (ltb 0 (getD numbers x 0)) (leb (getD numbers x 0) most) (sym h ∙ not-false t q)))
+    face-some = ltb-true 0 n (and-first (ltb 0 n) (leb n most) is-number)
 
-    pub face-both : (r : Bool) → r ≡ bothStand size sums counts n → r ≡ faceIn numbers most size sums counts x
+    pub face-held : Holds sums counts most → Holds sums counts n
+    face-held = fewer-held sums counts n most (leb-true n most (and-second (ltb 0 n) (leb n most) is-number))
+
+    pub face-both : (size : ℕ) (r : Bool) → r ≡ bothStand size sums counts n → r ≡ faceIn numbers most size sums counts x
     unfolding faceIn
-    face-both r p = rw (sym h ∙ not-false t q, ← e) p
+    face-both size r p = rw (sym h ∙ not-false t q, ← e) p
 
 module _ (j : Job) (e : Triple) (d : Entry) (numbers : List ℕ) (sums : List Float) (counts m : List ℕ) (t : Bool) (h : anyCuts (λ cx cy cz. t ≡ talliesFit (jobOf j cx cy cz))) where
   abbrev Stands : Bool → Type 0
@@ -85,6 +96,12 @@ module _ (j : Job) (e : Triple) (d : Entry) (numbers : List ℕ) (sums : List Fl
   pub stand-tallies : not t ≡ true → Stands false
   unfolding standIn
   stand-tallies q cx cy cz = rw (sym (h cx cy cz) ∙ not-true t q)
+
+  -- what `faces_stand` requires
+  pub stand-held : not t ≡ false → Holds sums counts (j .«face_entries») → Holds sums counts (j .«numbered_faces»)
+  stand-held q H =
+      let fit : talliesFit (jobOf j [] [] []) ≡ true = sym (h [] [] []) ∙ not-false t q in
+      fewer-held sums counts (j .«numbered_faces») (j .«face_entries») (numbered-fits (jobOf j [] [] []) fit Face) H
 
   module _ (q : not t ≡ false) (u : Bool) (i : u ≡ mapStandsIn e d (j .«face_entries») (j .«curve_entries») m) where
     pub stand-map : not u ≡ true → Stands false
@@ -140,11 +157,16 @@ module _ (j : Job) (cx cy cz came : List ℕ) (b n : ℕ) (e : n ≡ reachedOf (
     judge-sized = (count-few cut-as (passed .0 .good) i (c (j .nx) (j .ny) (j .nz)), block-sized cut-as (passed .0 .good) b (passed .1) r (T (j .nx) (j .ny) (j .nz)))
 
     -- .. and `late`
-    pub judge-whole : (m : List ℕ) (values : List Float) (kinds : List ℕ) (z : Sizes) → z .cells ≡ length m → z .values ≡ length values → z .kinds ≡ length kinds
-        → (faces : ℕ) (t : Bool) → t ≡ traysFit i (sizeOf r) faces z → not t ≡ false → Whole (sizeOf r) m values kinds × Sized 1024 (triple (j .nx) (j .ny) (j .nz))
-    judge-whole m values kinds z on-map on-values on-kinds faces t h w =
-        let l = whole-of i (sizeOf r) faces z (sym h ∙ not-false t w) in
-        (record { sized = judge-sized .1; whole = sym on-map ∙ l .0; valued = sym on-values ∙ l .1; kinded = sym on-kinds ∙ l .2 }, passed .0 .sized)
+    pub judge-whole : (m : List ℕ) (values : List Float) (kinds table numbers : List ℕ) (sums : List Float) (counts : List ℕ)
+        → (t : Bool) → t ≡ traysFit i (sizeOf r) (j .«face_entries») (sizesOf m values kinds table numbers (totalTables came sums counts)) → not t ≡ false
+        → Whole (sizeOf r) m values kinds × Sized 1024 (triple (j .nx) (j .ny) (j .nz)) × Holds sums counts (j .«face_entries»)
+    judge-whole m values kinds table numbers sums counts t h w =
+        let z = sizesOf m values kinds table numbers (totalTables came sums counts) in
+        let l = whole-of i (sizeOf r) (j .«face_entries») z (sym h ∙ not-false t w) in (
+          record { sized = judge-sized .1; whole = l .0; valued = l .1; kinded = l .2 },
+          passed .0 .sized,
+          record { sums-long = omega (arith, l .4); counts-long = omega (arith, l .5) },
+        )
 
 module _ (j : Job) (cx cy cz table numbers came : List ℕ) (sums : List Float) (counts : List ℕ) (b : ℕ) (m : List ℕ) (values : List Float) (kinds : List ℕ) (n : ℕ)
     (e : n ≡ reachedOf (jobOf j cx cy cz) Closed came b b) where

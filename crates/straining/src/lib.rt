@@ -31,6 +31,7 @@ ghost use Rattle.cells.specs.Extents.{Sized};
 ghost use Rattle.cells.specs.Grid.{cells};
 ghost use Rattle.blocks.specs.Blocks.{sizeOf};
 ghost use Rattle.job.specs.Jobs.{anyCuts, toldOf, jobOf, stateOf};
+ghost use Rattle.totals.specs.Totals.{Holds};
 ghost use Rattle.summing.specs.Summing.{Whole};
 ghost use Rattle.strain_calls.specs.Tables.{totalTables};
 ghost use Rattle.strain_calls.specs.Calls.{strain, strainAnswer, noTotals};
@@ -92,6 +93,7 @@ fn face_stands(
     counts: &[u64],
     place: usize,
 ) -> bool
+    requires { ⌜ Holds (now sums) (now counts) most ⌝ }
     ensures { λ r. ⌜ r ≡ faceIn (now (numbers .entry)) most cells (now (sums .entry)) (now (counts .entry)) place ⌝ }
 {
     if !number_stands(numbers, most, place) {
@@ -110,6 +112,7 @@ fn faces_stand(
     from: u32,
     count: u32,
 ) -> bool
+    requires { ⌜ Holds (now sums) (now counts) most ⌝ }
     ensures { λ r. ⌜ r ≡ facesIn (now (numbers .entry)) most cells (now (sums .entry)) (now (counts .entry)) from count ⌝ }
 {
     let start = from as usize;
@@ -134,7 +137,7 @@ fn stand(
     counts: &[u64],
     m: &[u32],
 ) -> bool
-    requires { ⌜ Sized 64 (sizeOf block) × (length (now m) ≡ cells (sizeOf block)) × Sized 1024 (triple (job .nx) (job .ny) (job .nz)) ⌝ }
+    requires { ⌜ Sized 64 (sizeOf block) × (length (now m) ≡ cells (sizeOf block)) × Sized 1024 (triple (job .nx) (job .ny) (job .nz)) × Holds (now sums) (now counts) (job .«face_entries») ⌝ }
     ensures { λ r. ⌜ anyCuts (λ cx cy cz. r ≡ standIn (jobOf job cx cy cz) (sizeOf block) entry (now (numbers .entry)) (now (sums .entry)) (now (counts .entry)) (now (m .entry))) ⌝ }
 {
     if !tallies_fit(job) {
@@ -167,7 +170,7 @@ fn late(
     values: &[f64],
     kinds: &[u8],
 ) -> u32
-    requires { ⌜ Whole (sizeOf block) (now m) (now values) (now kinds) × Sized 1024 (triple (job .nx) (job .ny) (job .nz)) ⌝ }
+    requires { ⌜ Whole (sizeOf block) (now m) (now values) (now kinds) × Sized 1024 (triple (job .nx) (job .ny) (job .nz)) × Holds (now sums) (now counts) (job .«face_entries») ⌝ }
     ensures { λ r. ⌜ anyCuts (λ cx cy cz. r ≡ lateOf (jobOf job cx cy cz) (sizeOf block) entry (now (numbers .entry)) (now (sums .entry)) (now (counts .entry)) (now (m .entry))
         (now (values .entry)) (now (kinds .entry))) ⌝ }
 {

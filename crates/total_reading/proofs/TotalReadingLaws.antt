@@ -2,13 +2,13 @@
 -- Assumes nothing.
 use mathlib.Core.Path.{_≡_, refl, sym, ap, _∙_}
 use mathlib.Core.Bool.{Bool, true, false, not, cond, _&&_}
-use mathlib.Core.List.{List}
+use mathlib.Core.List.{List, []}
 use Prim.Native.Nat.{ℕ, _*_, _≤_, _<_}
 use native.Mathlib.Omega.{arith}
 use lib.Dec.{leb, ltb}
 use lib.ListN.{length}
 use lib.Ieee.{Float}
-use borrow.Author.Tests.{ltb-true, lt-ltb, le-ltb, not-true, not-false}
+use borrow.Author.Tests.{leb-true, ltb-true, lt-ltb, le-ltb, not-true, not-false}
 use Rattle.lists.specs.Lists.{consecutive, allOf}
 use Rattle.lists.proofs.Cases.{and-first, and-second}
 use Rattle.refusals.specs.Refusals.{number, table, first, givenBy, standsIn}
@@ -19,13 +19,15 @@ use Rattle.cutting.specs.Cutting.{Cutting, intervals, blocks, goodCut}
 use Rattle.joiner.specs.Job.{Face, Closed, Tables, State, sameStage, lengthsFit}
 use Rattle.joiner.specs.Job as joiner
 use Rattle.joiner.specs.Declines.{talliesFit}
+use Rattle.model.proofs.Facts.{fits-at, numbered-fits}
 use Rattle.blocks.specs.Blocks.{anyExtents}
 use Rattle.job.specs.declared.Job.{Job}
 use Rattle.job.specs.Jobs.{anyCuts, jobOf, stateOf, totalLengths}
 use Rattle.staging.specs.Staging.{tickedIn}
 use Rattle.steps.specs.Steps.{firstRefusal, openedOf}
 use Rattle.steps.proofs.StepLaws.{or-first, or-then, or-none, opened-passed, few-of}
-use Rattle.totals.specs.Totals.{bothStand, totalsOf}
+use Rattle.totals.specs.Totals.{Holds, bothStand, totalsOf}
+use Rattle.totals.proofs.TotalLaws.{fewer-held}
 use Rattle.totals.specs.declared.Side.{Side}
 use Rattle.totals.specs.declared.Totals.{Totals}
 use Rattle.strain_calls.specs.Tables.{TotalTables, totalTables, totalTrays}
@@ -33,6 +35,26 @@ use Rattle.strain_calls.specs.Calls.{total, strainAnswer, noSide, noTotals, all
 use Rattle.strain_calls.specs.Declines.{hasCome, totalStands, strainDeclines, strainRefusal}
 use Rattle.strain_calls.specs.Entries.{StrainStep}
 use Rattle.total_reading.specs.Inner.{standIn, refusalOf}
+
+-- ---- the lengths of the tables
+
+-- tables of the stated lengths are long enough for so many faces
+trays-held : (count faces came : ℕ) (sums : List Float) (counts : List ℕ) → lengthsFit (totalLengths count faces came (length sums) (length counts)) ≡ true → Holds sums counts faces
+trays-held count faces came sums counts h =
+    let lent = totalLengths count faces came (length sums) (length counts) in
+    let sums-are : length sums ≡ 2 * faces = fits-at lent 1 h in
+    let counts-are : length counts ≡ 6 * faces = fits-at lent 2 h in
+    record { sums-long = omega (arith, sums-are); counts-long = omega (arith, counts-are) }
+
+-- .. and for a face of the closed table, where the tallies fit
+face-held : (j : joiner.Job) (sums : List Float) (counts : List ℕ) (n : ℕ) → talliesFit j ≡ true → n ≤ j .numbered Face → Holds sums counts (j .told .entries Face) → Holds sums counts n
+face-held j sums counts n t h H =
+    let most : j .numbered Face ≤ j .told .entries Face = numbered-fits j t Face in
+    fewer-held sums counts n (j .told .entries Face) (omega (arith, h, most)) H
+
+-- a number that a closed table has
+number-is : (n most : ℕ) → (ltb 0 n && leb n most) ≡ true → (0 < n) × (n ≤ most)
+number-is n most h = (ltb-true 0 n (and-first (ltb 0 n) (leb n most) h), leb-true n most (and-second (ltb 0 n) (leb n most) h))
 
 -- ---- the ways of the functions
 
@@ -48,16 +70,23 @@ module _ (j : Job) (sums : List Float) (counts : List ℕ) (n : ℕ) (t : Bool) 
   unfolding standIn
   stand-none q cx cy cz = rw (sym (e cx cy cz) ∙ not-true t q)
 
+  -- what `both_stand` requires
+  pub stand-held : not t ≡ false → n ≤ j .«numbered_faces» → Holds sums counts (j .«face_entries») → Holds sums counts n
+  stand-held q = face-held (jobOf j [] [] []) sums counts n (sym (e [] [] []) ∙ not-false t q)
+
   pub stand-both : not t ≡ false → (most : ℕ) → most ≡ cells (triple (j .nx) (j .ny) (j .nz)) → (r : Bool) → r ≡ bothStand most sums counts n
       → anyCuts (λ cx cy cz. r ≡ standIn (jobOf j cx cy cz) sums counts n)
   unfolding standIn
   stand-both q most s r h cx cy cz = rw (sym (e cx cy cz) ∙ not-false t q, ← s) h
 
 -- what `stand` requires
-pub refuse-sized : (j : Job) (cx cy cz : List ℕ) (n number′ : ℕ) → number′ ≡ openedOf (jobOf j cx cy cz) Closed → number′ ≡ 0
-    → (t : Bool) (most : ℕ) → t ≡ (ltb 0 n && leb n most) → not t ≡ false → Sized 1024 (triple (j .nx) (j .ny) (j .nz)) × (0 < n)
-refuse-sized j cx cy cz n number′ e q t most h p =
-    (opened-passed (jobOf j cx cy cz) Closed (sym e ∙ q) .sized, ltb-true 0 n (and-first (ltb 0 n) (leb n most) (sym h ∙ not-false t p)))
+pub refuse-ready : (j : Job) (cx cy cz : List ℕ) (number′ : ℕ) → number′ ≡ openedOf (jobOf j cx cy cz) Closed → number′ ≡ 0
+    → (n : ℕ) (t4 : Bool) → t4 ≡ (ltb 0 n && leb n (j .«numbered_faces»)) → not t4 ≡ false
+    → (count came : ℕ) (sums : List Float) (counts : List ℕ) (t6 : Bool) → t6 ≡ lengthsFit (totalLengths count (j .«face_entries») came (length sums) (length counts))
+    → not t6 ≡ false → Sized 1024 (triple (j .nx) (j .ny) (j .nz)) × (0 < n) × (n ≤ j .«numbered_faces») × Holds sums counts (j .«face_entries»)
+refuse-ready j cx cy cz number′ e q n t4 e4 p4 count came sums counts t6 e6 p6 =
+    let is = number-is n (j .«numbered_faces») (sym e4 ∙ not-false t4 p4) in
+    (opened-passed (jobOf j cx cy cz) Closed (sym e ∙ q) .sized, is .0, is .1, trays-held count (j .«face_entries») came sums counts (sym e6 ∙ not-false t6 p6))
 
 -- the rungs of `refuse`
 module _ (j : Job) (cx cy cz came : List ℕ) (sums : List Float) (counts : List ℕ) (n number′ : ℕ) (e : number′ ≡ openedOf (jobOf j cx cy cz) Closed) where
@@ -144,8 +173,8 @@ module _ (j : Job) (cx cy cz came : List ℕ) (sums : List Float) (counts : List
 
 -- ---- an accepted reading
 
-passed : (a b c d : Bool) → _≡_ {A = ℕ} (cond (not a) 3 (cond (not b) 4 (cond (not c) 6 (cond (not d) 8 0)))) 0 → (b ≡ true) × (d ≡ true)
-passed true true true true h = (refl, refl)
+passed : (a b c d : Bool) → _≡_ {A = ℕ} (cond (not a) 3 (cond (not b) 4 (cond (not c) 6 (cond (not d) 8 0)))) 0 → (b ≡ true) × (c ≡ true) × (d ≡ true)
+passed true true true true h = (refl, refl, refl)
 passed true true true false h = absurd (omega arith)
 passed true true false d h = absurd (omega arith)
 passed true false c d h = absurd (omega arith)
@@ -153,22 +182,26 @@ passed false b c d h = absurd (omega arith)
 
 -- what `cell_count` and `totals_of` require
 module _ (j : joiner.Job) (w : TotalTables) (n number′ : ℕ) (e : number′ ≡ refusalOf j w n) (z : number′ ≡ 0) where
-  rungs : (openedOf j Closed ≡ 0) × (ltb 0 n && leb n (j .numbered Face) ≡ true) × (standIn j (w .sums) (w .counts) n ≡ true)
+  rungs : (openedOf j Closed ≡ 0) × (ltb 0 n && leb n (j .numbered Face) ≡ true) × (lengthsFit (totalTrays (j .told) w) ≡ true) × (standIn j (w .sums) (w .counts) n ≡ true)
   unfolding refusalOf
   rungs =
       let r = or-none (openedOf j Closed) _ (sym e ∙ z) in
       let p = passed (allCome (j .told .cutting) (tickedIn (w .came))) (ltb 0 n && leb n (j .numbered Face)) (lengthsFit (totalTrays (j .told) w)) (standIn j (w .sums) (w .counts) n) (r .1) in
-      (r .0, p .0, p .1)
+      (r .0, p .0, p .1, p .2)
 
   pub ready-sized : Sized 1024 (j .told .cutting .extents)
   ready-sized = opened-passed j Closed (rungs .0) .sized
 
-  pub ready-stands : (most : ℕ) → most ≡ cells (j .told .cutting .extents) → (0 < n) × (bothStand most (w .sums) (w .counts) n ≡ true)
-  unfolding standIn
-  ready-stands most s = (
-    ltb-true 0 n (and-first (ltb 0 n) (leb n (j .numbered Face)) (rungs .1)),
-    rw s (and-second (talliesFit j) (bothStand (cells (j .told .cutting .extents)) (w .sums) (w .counts) n) (rungs .2)),
-  )
+  pub ready-stands : (most : ℕ) → most ≡ cells (j .told .cutting .extents) → (0 < n) × Holds (w .sums) (w .counts) n × (bothStand most (w .sums) (w .counts) n ≡ true)
+  unfolding standIn totalTrays
+  ready-stands most s =
+      let is = number-is n (j .numbered Face) (rungs .1) in
+      let stands = bothStand (cells (j .told .cutting .extents)) (w .sums) (w .counts) n in
+      let held = trays-held (blocks (j .told .cutting)) (j .told .entries Face) (length (w .came)) (w .sums) (w .counts) (rungs .2) in (
+        is .0,
+        face-held j (w .sums) (w .counts) n (and-first (talliesFit j) stands (rungs .3)) (is .1) held,
+        rw s (and-second (talliesFit j) stands (rungs .3)),
+      )
 
 -- ---- the entry
 

@@ -17,7 +17,7 @@ use totals::both_stand;
 use totals::totals_of;
 ghost use mathlib.Core.Path.{_≡_};
 ghost use mathlib.Core.Bool.{_&&_};
-ghost use Prim.Native.Nat.{_<_};
+ghost use Prim.Native.Nat.{_≤_, _<_};
 ghost use lib.Dec.{leb, ltb};
 ghost use Rattle.lists.specs.Lists.{consecutive, allOf};
 ghost use Rattle.cells.specs.Box.{triple};
@@ -25,6 +25,7 @@ ghost use Rattle.cells.specs.Extents.{Sized};
 ghost use Rattle.joiner.specs.Job.{Tables};
 ghost use Rattle.staging.specs.Staging.{tickedIn};
 ghost use Rattle.job.specs.Jobs.{anyCuts, jobOf, stateOf};
+ghost use Rattle.totals.specs.Totals.{Holds};
 ghost use Rattle.strain_calls.specs.Tables.{totalTables};
 ghost use Rattle.strain_calls.specs.Calls.{total, strainAnswer, noSide};
 ghost use Rattle.strain_calls.specs.Entries.{StrainStep};
@@ -64,7 +65,7 @@ fn has_number(number: u32, most: u32) -> bool
 
 // Whether the tallies fit, and the total of a face stands.
 fn stand(job: Job, face_sums: &[f64], face_counts: &[u64], number: u32) -> bool
-    requires { ⌜ Sized 1024 (triple (job .nx) (job .ny) (job .nz)) × (0 < number) ⌝ }
+    requires { ⌜ Sized 1024 (triple (job .nx) (job .ny) (job .nz)) × (0 < number) × (number ≤ job .«numbered_faces») × Holds (now «face_sums») (now «face_counts») (job .«face_entries») ⌝ }
     ensures { λ r. ⌜ anyCuts (λ cx cy cz. r ≡ standIn (jobOf job cx cy cz) (now («face_sums» .entry)) (now («face_counts» .entry)) number) ⌝ }
 {
     if !tallies_fit(job) {

@@ -8,7 +8,7 @@ use Prim.Native.Nat.{ℕ, zero, suc, _+_, _-_, _*_, _≤_, _<_}
 use native.Mathlib.Omega.{arith}
 use lib.Dec.{eqb, leb, lit<}
 use lib.IntN.{ℤ, pos, +ℤ-idl}
-use lib.ListN.{getD, set, length, List·getD-eq-default}
+use lib.ListN.{getD, set, length}
 use lib.Seq.{set-out, set-getD}
 use lib.Ieee.{Float, nan, fin, binary64, add}
 use borrow.Author.Tests.{eqb-true, eqb-false, eq-eqb, ne-eqb, le-leb, lt-leb, not-true, not-false}
@@ -22,7 +22,7 @@ use Rattle.strains.proofs.Signs.{given-signed}
 use Rattle.strains.proofs.Sums.{float-none}
 use Rattle.strains.specs.Readings.{isGood, sumWith, kindOf}
 use Rattle.strains.specs.declared.Reading.{Reading}
-use Rattle.totals.specs.Totals.{sumAdded, more, countAdded, readingOf, readingAt, fitsAt, readingsFit, sideAt, givenSide, totalsOf, slotOf, sideStands, standsAt, bothStand}
+use Rattle.totals.specs.Totals.{sumAdded, more, countAdded, readingOf, readingAt, fitsAt, readingsFit, sideAt, givenSide, totalsOf, slotOf, sideStands, standsAt, Holds, bothStand}
 use Rattle.totals.specs.declared.Side.{Side}
 use Rattle.totals.specs.declared.Totals.{Totals}
 
@@ -34,12 +34,8 @@ pub more-most : (n : ℕ) → 18446744073709551615 ≤ n → n < 184467440737095
 unfolding more
 more-most n h l = omega arith
 
-module _ {A : Type 0} where
-  pub past : (l : List A) (i : ℕ) (a : A) → length l ≤ i → l ≡ set l i a
-  past l i a h = sym (set-out l i a h)
-
-  pub none-past : (l : List A) (i : ℕ) (d : A) → length l ≤ i → d ≡ getD l i d
-  none-past l i d h = sym (List·getD-eq-default l d {n = i} h)
+pub past : {A : Type 0} (l : List A) (i : ℕ) (a : A) → length l ≤ i → l ≡ set l i a
+past l i a h = sym (set-out l i a h)
 
 -- where there is an entry, what else would be taken does not count
 pub any-default : {A : Type 0} (l : List A) (i : ℕ) (c d : A) → i < length l → getD l i c ≡ getD l i d
@@ -49,9 +45,6 @@ any-default (x ∷ l) (suc i) c d h = any-default l i c d (omega arith)
 
 pub sum-set : (l : List Float) (i : ℕ) (x : Float) → i < length l → set l i (add binary64 (getD l i nan) x) ≡ set l i (add binary64 (getD l i plusZero) x)
 sum-set l i x h = rw (any-default l i nan plusZero h)
-
-pub sum-here : (l : List Float) (i : ℕ) → i < length l → getD l i nan ≡ getD l i plusZero
-sum-here l i h = any-default l i nan plusZero h
 
 pub count-set : (l : List ℕ) (i n : ℕ) → n ≡ more (getD l i 0) → set l i n ≡ set l i (more (getD l i 0))
 count-set l i n e = rw e
@@ -158,10 +151,14 @@ fit-good values kinds t v h =
 
 -- ---- totals that are read
 
-pub side-is : (sums : List Float) (counts : List ℕ) (s : ℕ) (x : Float) (a b c : ℕ) → x ≡ getD sums s plusZero → a ≡ getD counts (3 * s) 0 → b ≡ getD counts (3 * s + 1) 0 → c ≡ getD counts (3 * s + 2) 0
-    → _≡_ {A = Side} (record { sum = x; strains = a; clipped = b; missing = c }) (sideAt sums counts s)
+-- tables that are long enough for n faces are so for fewer
+pub fewer-held : (sums : List Float) (counts : List ℕ) (m n : ℕ) → m ≤ n → Holds sums counts n → Holds sums counts m
+fewer-held sums counts m n h H = record { sums-long = omega (arith, h, H .sums-long); counts-long = omega (arith, h, H .counts-long) }
+
+pub side-is : (sums : List Float) (counts : List ℕ) (s : ℕ) → s < length sums
+    → _≡_ {A = Side} (record { sum = getD sums s nan; strains = getD counts (3 * s) 0; clipped = getD counts (3 * s + 1) 0; missing = getD counts (3 * s + 2) 0 }) (sideAt sums counts s)
 unfolding sideAt
-side-is sums counts s x a b c e f g h = rw (e, f, g, h)
+side-is sums counts s h = rw (any-default sums s nan plusZero h)
 
 -- a sum added to zero is the float of its whole 1,024ths
 pub sum-given : (x : Float) (most : ℕ) → isUnits most x ≡ true → add binary64 plusZero x ≡ floatOf (unitsOf x)

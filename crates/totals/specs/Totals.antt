@@ -2,7 +2,7 @@
 -- Assumes nothing.
 use mathlib.Core.Bool.{Bool, cond, _&&_}
 use mathlib.Core.List.{List, [], _∷_, map}
-use Prim.Native.Nat.{ℕ, _+_, _-_, _*_, min}
+use Prim.Native.Nat.{ℕ, _+_, _-_, _*_, _≤_, min}
 use lib.Dec.{eqb, leb}
 use lib.ListN.{getD, set, length}
 use lib.Ieee.{Float}
@@ -76,6 +76,11 @@ unfoldable pub readingsFit : List Float → List ℕ → Bool
 readingsFit values kinds = allOf (fitsAt values kinds) (consecutive 0 (length values))
 
 -- ---- totals that are read
+
+-- The tables are long enough for the totals of n faces.
+pub record Holds (sums : List Float) (counts : List ℕ) (n : ℕ) : Type 0 where
+  pub sums-long : 2 * n ≤ length sums
+  pub counts-long : 6 * n ≤ length counts
 
 -- The sum at a place with its counts.
 unfoldable pub sideAt : List Float → List ℕ → ℕ → Side

@@ -9,7 +9,7 @@ ghost use lib.ListN.{getD, length, set};
 ghost use lib.Ieee.{binary64, add};
 ghost use Rattle.strains.specs.Units.{isUnits, plusZero};
 ghost use Rattle.strains.specs.Readings.{kindOf};
-ghost use Rattle.totals.specs.Totals.{sumAdded, more, countAdded, readingAt, fitsAt, readingsFit, sideStands, standsAt, sideAt, givenSide, totalsOf, bothStand};
+ghost use Rattle.totals.specs.Totals.{sumAdded, more, countAdded, readingAt, fitsAt, readingsFit, sideStands, standsAt, sideAt, givenSide, totalsOf, Holds, bothStand};
 
 // ---- adding a reading
 
@@ -118,26 +118,6 @@ pub fn readings_fit(values: &[f64], kinds: &[u8]) -> bool
 
 // ---- totals that are read
 
-// The sum at a place, +0 past the end.
-fn sum_at(sums: &[f64], s: usize) -> f64
-    ensures { λ r. ⌜ r ≡ getD (now (sums .entry)) s plusZero ⌝ }
-{
-    if s < sums.len() {
-        return sums[s];
-    }
-    0.0
-}
-
-// The count at a place, 0 past the end.
-fn counted_at(counts: &[u64], i: usize) -> u64
-    ensures { λ r. ⌜ r ≡ getD (now (counts .entry)) i 0 ⌝ }
-{
-    if i < counts.len() {
-        return counts[i];
-    }
-    0
-}
-
 // The sum of strains of one side of a face, and how many of its readings were strains, clipped and missing.
 pub struct Side {
     pub sum: f64,
@@ -154,14 +134,14 @@ pub struct Totals {
 
 // The sum at a place with its counts.
 fn side_at(sums: &[f64], counts: &[u64], s: usize) -> Side
-    requires { ⌜ s < 2 ^ 33 ⌝ }
+    requires { ⌜ (s < length (now sums)) × (3 * s + 2 < length (now counts)) ⌝ }
     ensures { λ r. ⌜ r ≡ sideAt (now (sums .entry)) (now (counts .entry)) s ⌝ }
 {
     Side {
-        sum: sum_at(sums, s),
-        strains: counted_at(counts, 3 * s),
-        clipped: counted_at(counts, 3 * s + 1),
-        missing: counted_at(counts, 3 * s + 2),
+        sum: sums[s],
+        strains: counts[3 * s],
+        clipped: counts[3 * s + 1],
+        missing: counts[3 * s + 2],
     }
 }
 
@@ -178,7 +158,7 @@ fn given(d: Side) -> Side
 
 // The totals of face n, as they are given. Not an entry.
 pub fn totals_of(most: u64, sums: &[f64], counts: &[u64], n: u32) -> Totals
-    requires { ⌜ (0 < n) × (bothStand most (now sums) (now counts) n ≡ true) ⌝ }
+    requires { ⌜ (0 < n) × Holds (now sums) (now counts) n × (bothStand most (now sums) (now counts) n ≡ true) ⌝ }
     ensures { λ r. ⌜ r ≡ totalsOf (now (sums .entry)) (now (counts .entry)) n ⌝ }
 {
     let s = 2 * (n as usize - 1);
@@ -208,7 +188,7 @@ fn side_stands(most: u64, d: Side) -> bool
 
 // Whether the total at a place stands.
 fn stands_at(most: u64, sums: &[f64], counts: &[u64], s: usize) -> bool
-    requires { ⌜ s < 2 ^ 33 ⌝ }
+    requires { ⌜ (s < length (now sums)) × (3 * s + 2 < length (now counts)) ⌝ }
     ensures { λ r. ⌜ r ≡ standsAt most (now (sums .entry)) (now (counts .entry)) s ⌝ }
 {
     side_stands(most, side_at(sums, counts, s))
@@ -216,7 +196,7 @@ fn stands_at(most: u64, sums: &[f64], counts: &[u64], s: usize) -> bool
 
 // Whether both sides of face n stand. Not an entry.
 pub fn both_stand(most: u64, sums: &[f64], counts: &[u64], n: u32) -> bool
-    requires { ⌜ 0 < n ⌝ }
+    requires { ⌜ (0 < n) × Holds (now sums) (now counts) n ⌝ }
     ensures { λ r. ⌜ r ≡ bothStand most (now (sums .entry)) (now (counts .entry)) n ⌝ }
 {
     let s = 2 * (n as usize - 1);

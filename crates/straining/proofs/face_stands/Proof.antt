@@ -1,6 +1,6 @@
 -- `straining::face_stands` meets its contract.
 use borrow.Author.Needs.{needs}
-use Rattle.straining.proofs.StrainingLaws.{face-none, face-some, face-both}
+use Rattle.straining.proofs.StrainingLaws.{face-none, face-some, face-held, face-both}
 use Rattle.straining.proofs.face_stands.Statement.{statement}
 use Rattle.straining.proofs.face_stands.Tie as tie
 
@@ -14,7 +14,7 @@ at-requires : tie.Need-at-requires
 at-requires c κs = search needs
 
 both-stand-requires : tie.Need-both-stand-requires
-both-stand-requires c κs = search face-some
+both-stand-requires c κs = search (face-some, face-held)
 
 returns-2 : tie.Need-returns-2
 returns-2 c = search face-both

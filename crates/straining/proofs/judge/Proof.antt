@@ -1,5 +1,4 @@
 -- `straining::judge` meets its contract.
-use mathlib.Core.Path.{refl}
 use borrow.Author.Needs.{needs}
 use Rattle.straining.proofs.StrainingLaws.{judge-first, judge-few, judge-sized, judge-6, judge-whole, judge-late}
 use Rattle.straining.proofs.judge.Statement.{statement}
@@ -30,9 +29,11 @@ entry-of-requires c κs = search needs
 
 late-requires : tie.Need-late-requires
 late-requires c κs =
-    judge-whole (c .before .before .before .before .before .before .before .before .before .before .before .before .before .before .before .before .before .before .args .job) _ _ _ _ _ _ (c .before .before .before .before .before .before .reached .ensures)
-    (c .before .before .before .before .before .if1 .left) _ (c .before .before .before .before .block-at .ensures) _ (c .before .before .before .block-count .ensures) _ _ _ _ refl refl refl _ _
-    (c .before .before .trays-fit .ensures) (c .before .if2 .left)
+    let a = c .before .before .before .before .before .before .before .before .before .before .before .before .before .before .before .before .before .before .args in
+    let counted = c .before .before .before in
+    let found = counted .before in
+    judge-whole (a .job) _ _ _ _ _ _ (found .before .before .reached .ensures) (found .before .if1 .left) _ (found .block-at .ensures) _ (counted .block-count .ensures)
+    _ _ _ (a .table .now) (a .numbers .now) _ _ _ (c .before .before .trays-fit .ensures) (c .before .if2 .left)
 
 returns-3 : tie.Need-returns-3
 returns-3 c = search judge-late

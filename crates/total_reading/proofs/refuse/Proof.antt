@@ -1,6 +1,6 @@
 -- `total_reading::refuse` meets its contract.
 use borrow.Author.Needs.{needs}
-use Rattle.total_reading.proofs.TotalReadingLaws.{refuse-first, refuse-few, refuse-3, refuse-4, refuse-6, refuse-sized, refuse-8, refuse-0}
+use Rattle.total_reading.proofs.TotalReadingLaws.{refuse-first, refuse-few, refuse-3, refuse-4, refuse-6, refuse-ready, refuse-8, refuse-0}
 use Rattle.total_reading.proofs.refuse.Statement.{statement}
 use Rattle.total_reading.proofs.refuse.Tie as tie
 
@@ -33,8 +33,11 @@ returns-4 c = search refuse-6
 
 stand-requires : tie.Need-stand-requires
 stand-requires c κs =
-    refuse-sized (c .before .before .before .before .before .before .before .before .before .before .before .before .before .before .before .args .job) _ _ _ _ _ (c .before .before .before .before .before .before .before .before .opened .ensures) (c .before .before .before .before .before .before .before .if1 .left) _ _ (c .before .before .before .has-number .ensures)
-    (c .before .before .if3 .left)
+    let numbered = c .before .before .before in
+    let first = numbered .before .before .before .before .before in
+    let a = first .before .before .before .before .before .before .before .args in
+    refuse-ready (a .job) _ _ _ _ (first .opened .ensures) (numbered .before .before .before .before .if1 .left) _ _ (numbered .has-number .ensures) (c .before .before .if3 .left)
+    _ _ _ _ _ (c .before .total-trays .ensures) (c .if4 .left)
 
 returns-5 : tie.Need-returns-5
 returns-5 c = search refuse-8

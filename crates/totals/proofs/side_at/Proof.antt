@@ -4,47 +4,63 @@ use borrow.Author.Needs.{needs}
 use Rattle.totals.proofs.side_at.Statement.{statement}
 use Rattle.totals.proofs.side_at.Tie as tie
 
-sum-at-requires : tie.Need-sum-at-requires
-sum-at-requires c κs = search needs
+mul-t4 : tie.Need-mul-t4
+mul-t4 c = search needs
 
-mul-counted-at : tie.Need-mul-counted-at
-mul-counted-at c = search needs
+shared-slice-read-t6 : tie.Need-shared-slice-read-t6
+shared-slice-read-t6 c = search needs
 
-counted-at-requires : tie.Need-counted-at-requires
-counted-at-requires c κs = search needs
+mul-t7 : tie.Need-mul-t7
+mul-t7 c = search needs
 
-mul-counted-at-2 : tie.Need-mul-counted-at-2
-mul-counted-at-2 c = search needs
+mul-t8 : tie.Need-mul-t8
+mul-t8 c = search needs
 
-add-counted-at : tie.Need-add-counted-at
-add-counted-at c = search needs
+shared-slice-read-t10 : tie.Need-shared-slice-read-t10
+shared-slice-read-t10 c = search needs
 
-counted-at-requires-2 : tie.Need-counted-at-requires-2
-counted-at-requires-2 c κs = search needs
+mul-t11 : tie.Need-mul-t11
+mul-t11 c = search needs
 
-mul-counted-at-3 : tie.Need-mul-counted-at-3
-mul-counted-at-3 c = search needs
+add-t12 : tie.Need-add-t12
+add-t12 c = search needs
 
-add-counted-at-2 : tie.Need-add-counted-at-2
-add-counted-at-2 c = search needs
+mul-t13 : tie.Need-mul-t13
+mul-t13 c = search needs
 
-counted-at-requires-3 : tie.Need-counted-at-requires-3
-counted-at-requires-3 c κs = search needs
+shared-slice-read-t15 : tie.Need-shared-slice-read-t15
+shared-slice-read-t15 c = search needs
+
+mul-t16 : tie.Need-mul-t16
+mul-t16 c = search needs
+
+add-t17 : tie.Need-add-t17
+add-t17 c = search needs
+
+mul-t18 : tie.Need-mul-t18
+mul-t18 c = search needs
+
+shared-slice-read-t20 : tie.Need-shared-slice-read-t20
+shared-slice-read-t20 c = search needs
 
 returns : tie.Need-returns
-returns c = search side-is
+returns c = search (needs, side-is)
 
 pub side-at-spec : {M : Type 1} → statement M
 side-at-spec =
     tie.close
     (tie.spec
-    sum-at-requires
-    mul-counted-at
-    counted-at-requires
-    mul-counted-at-2
-    add-counted-at
-    counted-at-requires-2
-    mul-counted-at-3
-    add-counted-at-2
-    counted-at-requires-3
+    mul-t4
+    shared-slice-read-t6
+    mul-t7
+    mul-t8
+    shared-slice-read-t10
+    mul-t11
+    add-t12
+    mul-t13
+    shared-slice-read-t15
+    mul-t16
+    add-t17
+    mul-t18
+    shared-slice-read-t20
     returns)
