@@ -134,10 +134,10 @@ module _ (e s : Triple) (m numbers : List ℕ) (from : ℕ) (values : List Float
         going = going-more e s (brought m numbers from values kinds) l sums₀ counts₀ (getD list i 0) sums counts here r L sums′ counts′ (listed-in h) hl (listed-late h) (listed-alike h) a b;
       }
 
-  pub take-all : many ≤ i → i ≤ many
+  pub taken-all : many ≤ i → i ≤ many
       → (sums ≡ sumsWith sums₀ (gathered (cellTaken e s (brought m numbers from values kinds)) (onLine e 2 l)))
       × (counts ≡ countsWith counts₀ (gathered (cellTaken e s (brought m numbers from values kinds)) (onLine e 2 l)))
-  take-all a b =
+  taken-all a b =
       let q : many ≡ i = omega (arith, a, b) in
       let rest : Skips m (r .base) (sides e .x) (nextAt (r .start) list i) (K .past) = subst (λ (j : ℕ). Skips m (r .base) (sides e .x) (nextAt (r .start) list j) (K .past)) q (K .rest) in
       going-end e s (brought m numbers from values kinds) l sums₀ counts₀ (K .past) sums counts

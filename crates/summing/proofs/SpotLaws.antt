@@ -15,8 +15,8 @@ use Rattle.summing.proofs.SumLaws.{bounds}
 
 -- The line after line l, of h in a layer.
 module _ (h l y z : ℕ) (pos : 0 < h) (p : y ≡ l % h) (q : z ≡ l / h) (r : Spot) where
-  whole : z * h + y ≡ l
-  whole = rw (p, q) (div-add-mod' l h)
+  in-layers : z * h + y ≡ l
+  in-layers = rw (p, q) (div-add-mod' l h)
 
   grown : (z + 1) * h ≡ z * h + h
   grown = add-mul z 1 h ∙ ap (λ (n : ℕ). z * h + n) (one-mul h)
@@ -28,7 +28,7 @@ module _ (h l y z : ℕ) (pos : 0 < h) (p : y ≡ l % h) (q : z ≡ l / h) (r : 
   next-same a b i =
       record {
         y = a ∙ (let e : y + 1 ≡ suc y = omega arith in e) ∙ sym (after-y ∙ mod-eq-of-lt {n = suc y} {m = h} (omega (arith, i)));
-        z = b ∙ sym (div-eq-of-lt-le {k = z} h {m = l + 1} (omega (arith, whole)) (omega (arith, whole, grown, i)));
+        z = b ∙ sym (div-eq-of-lt-le {k = z} h {m = l + 1} (omega (arith, in-layers)) (omega (arith, in-layers, grown, i)));
       }
 
   pub next-layer : r .y ≡ 0 → r .z ≡ z + 1 → h ≤ y + 1 → Lying h (l + 1) r
@@ -36,7 +36,7 @@ module _ (h l y z : ℕ) (pos : 0 < h) (p : y ≡ l % h) (q : z ≡ l / h) (r : 
       let e : suc y ≡ h = omega (arith, i, mod-lt l pos, p) in
       record {
         y = a ∙ sym (after-y ∙ ap (λ (n : ℕ). n % h) e ∙ mod-self h);
-        z = b ∙ sym (div-eq-of-eq-mul-left {n = h} {m = l + 1} {k = z + 1} pos (omega (arith, whole, grown, e)));
+        z = b ∙ sym (div-eq-of-eq-mul-left {n = h} {m = l + 1} {k = z + 1} pos (omega (arith, in-layers, grown, e)));
       }
 
 -- Places are no larger than the line's number.

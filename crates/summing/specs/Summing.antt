@@ -113,7 +113,7 @@ unfoldable pub nextAt : ℕ → List ℕ → ℕ → ℕ
 nextAt start list zero = start
 nextAt start list (suc j) = getD list j 0 + 2
 
--- The first `many` entries of a list are the cells that show a number on a line of w from `start` on, two apart.
+-- The first `many` entries of a list are cells of a line of w from `start` on, two apart, and every cell between them, before and after shows 0.
 pub record Listed (m : List ℕ) (base w start : ℕ) (list : List ℕ) (many : ℕ) : Type 0 where
   pub few : many ≤ 64
   pub each : (j : ℕ) → j < many → (getD list j 0 < w) × Skips m base w (nextAt start list j) (getD list j 0)

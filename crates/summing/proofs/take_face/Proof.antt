@@ -27,13 +27,13 @@ sides-of-requires : tie.Need-sides-of-requires
 sides-of-requires c κs = search needs
 
 take-voxel-requires : tie.Need-take-voxel-requires
-take-voxel-requires c κs = let st = c .before .before .before .before .before .before .before .before .before .before in let s = spots _ _ _ _ (st .args .n) _ _ _ _ (st .pre .1) in search (needs, below-most)
+take-voxel-requires c κs = let st = c .before .before .before .before .before .before .before .before .before .before in let s = spots _ _ _ _ (st .args .n) _ _ _ _ (st .pre .1) in search (needs, below-most, above-most)
 
 add-take-voxel : tie.Need-add-take-voxel
 add-take-voxel c = let st = c .before .before .before .before .before .before .before .before .before .before .before .before .before .before .before .before .before in let s = spots _ _ _ _ (st .args .n) _ _ _ _ (st .pre .1) in omega arith
 
 take-voxel-requires-2 : tie.Need-take-voxel-requires-2
-take-voxel-requires-2 c κs = let st = c .before .before .before .before .before .before .before .before .before .before .before .before .before .before .before .before .before in let s = spots _ _ _ _ (st .args .n) _ _ _ _ (st .pre .1) in search (needs, above-most)
+take-voxel-requires-2 c κs = let st = c .before .before .before .before .before .before .before .before .before .before .before .before .before .before .before .before .before in let s = spots _ _ _ _ (st .args .n) _ _ _ _ (st .pre .1) in search (needs, below-most, above-most)
 
 same-length : tie.Need-same-length
 same-length c = search needs

@@ -9,7 +9,7 @@ use Rattle.cells.specs.Grid.{sides}
 use Rattle.lowest.specs.Lowest.{startOf}
 use Rattle.summing.specs.Summing.{brought}
 use Rattle.summing.proofs.SumLaws.{bounds, line-room, line-beside, line-spot}
-use Rattle.summing.proofs.ShownLaws.{Taking, take-none, listed-in, listed-late, listed-alike, take-next, take-all}
+use Rattle.summing.proofs.ShownLaws.{Taking, take-none, listed-in, listed-late, listed-alike, take-next, taken-all}
 use Rattle.summing.proofs.take_line.Statement.{statement}
 use Rattle.summing.proofs.take_line.Tie as tie
 
@@ -115,7 +115,7 @@ returns c =
     let k = g .before .before .before in
     let r = k .before .before in
     let p = r .before .before .before .before .before .before .before .before .pre in
-    take-all _ _ _ _ _ _ _ _ (p .1) _ (r .line-at .ensures) _ _ (k .list-shown .ensures) _ _ _ _ _ (g .loop .inv .3) (omega arith) (g .loop .inv .0)
+    taken-all _ _ _ _ _ _ _ _ (p .1) _ (r .line-at .ensures) _ _ (k .list-shown .ensures) _ _ _ _ _ (g .loop .inv .3) (omega arith) (g .loop .inv .0)
 
 pub take-line-spec : {M : Type 1} → statement M
 take-line-spec =
