@@ -1,6 +1,6 @@
 -- Where the lines of a block lie.
 -- Assumes nothing.
-use mathlib.Core.Path.{_≡_, refl, sym, ap, _∙_}
+use mathlib.Core.Path.{_≡_, sym, ap, _∙_}
 use Prim.Native.Nat.{ℕ, suc, _+_, _-_, _*_, _/_, _%_, _≤_, _<_}
 use native.Mathlib.Nat.{suc-mod, mod-eq-of-lt, mod-self, mod-le, mod-lt, div-le-self, div-add-mod', div-eq-of-lt-le, div-eq-of-eq-mul-left, add-mul, one-mul}
 use native.Mathlib.Omega.{arith}
