@@ -16,10 +16,10 @@ extern "C" {
 enum tugrelis_refusal {
     TUGRELIS_OFF_SIZE = 1,      /* an extent is 0 or above its limit, or origin + extent is above 1,024 */
     TUGRELIS_BAD_CUT = 2,       /* a cut list breaks its rule, or there are more than 16,384 blocks */
-    TUGRELIS_WRONG_STAGE = 3,   /* the step or reading belongs to another stage */
+    TUGRELIS_WRONG_STAGE = 3,   /* the step or reading belongs to another stage, or a total is read before all readings have come */
     TUGRELIS_NO_SUCH_PLACE = 4, /* no such block, pair not a seam, cell outside the block, component number 0 or too large */
     TUGRELIS_DONE_ALREADY = 5,  /* this block or seam had this step in this stage */
-    TUGRELIS_WRONG_TRAY = 6,    /* the length of a tray, map, code list or table is not the stated one; a record tray too short */
+    TUGRELIS_WRONG_TRAY = 6,    /* the length of a tray, map, list of codes or readings, or table is not the stated one; a record tray too short */
     TUGRELIS_BLANK_VOXEL = 7,   /* a code is 0 in the codes to be labelled */
     TUGRELIS_STRAY_LABEL = 8,   /* a map, a tally or an entry holds a number that cannot stand there */
     TUGRELIS_LAYERS_DIFFER = 9, /* on a seam a code differs, or a cell is active in one block only */
@@ -87,7 +87,7 @@ uint32_t tugrelis_read_record(
     uint32_t *map, size_t map_len,
     uint16_t fields[6]);
 
-/* Opens a job: a place for the job, extents, entries, cut lists, all tables. */
+/* Opens a job: a place for the job, extents, entries, cut lists, all tables. Zeroes ticks, came, face_sums and face_counts. */
 uint32_t tugrelis_open(
     uint32_t job[13],
     uint32_t nx, uint32_t ny, uint32_t nz, uint32_t face_entries, uint32_t curve_entries, uint32_t point_entries,

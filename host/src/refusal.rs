@@ -57,10 +57,10 @@ impl Refusal {
         match self {
             OffSize => "An extent is 0 or above its limit, or origin and extent together pass 1,024.",
             BadCut => "A cut list breaks its rule, or there are more than 16,384 blocks.",
-            WrongStage => "The step or reading belongs to another stage of the job.",
+            WrongStage => "The step or reading belongs to another stage of the job, or a total is read before all readings have come.",
             NoSuchPlace => "There is no such block, the pair is no seam, the cell is outside the block, or there is no component of that number.",
             DoneAlready => "This block or seam has had this step in this stage.",
-            WrongTray => "A tray, map, code list or table has another length than the stated one, or the record tray is too short.",
+            WrongTray => "A tray, map, list of codes or readings, or table has another length than the stated one, or the record tray is too short.",
             BlankVoxel => "A code is 0 in the codes to be labelled.",
             StrayLabel => "A map, a tally or an entry holds a number that cannot stand there.",
             LayersDiffer => "The two blocks of a seam differ in the layer that they share.",

@@ -42,7 +42,7 @@ unfoldable pub countsOver : Cutting → (ℕ → Brought) → List ℕ → List 
 countsOver k g counts [] = counts
 countsOver k g counts (b ∷ bs) = countsOver k g (countsWith counts (takenBy k g b)) bs
 
--- ---- what the theorems suppose of a closed job
+-- ---- what the proofs find of a closed job; no theorem supposes it
 
 -- Cell p of a map has two voxels beside it, of different codes, none 0.
 pub record Parted (e : Triple) (m : List ℕ) (p : ℕ) : Type 0 where

@@ -20,10 +20,10 @@ side-at-requires-2 : tie.Need-side-at-requires-2
 side-at-requires-2 c κs = search needs
 
 given-requires : tie.Need-given-requires
-given-requires c κs = search (needs, lower-units)
+given-requires c κs = search (needs, lower-units, higher-units)
 
 given-requires-2 : tie.Need-given-requires-2
-given-requires-2 c κs = search (needs, higher-units)
+given-requires-2 c κs = search (needs, lower-units, higher-units)
 
 returns : tie.Need-returns
 returns c = search totals-are
