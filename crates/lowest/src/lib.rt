@@ -13,7 +13,7 @@ pub struct Start {
 }
 
 // 0 for 0, and else 1.
-fn one_if(i: usize) -> usize
+pub fn one_if(i: usize) -> usize
     ensures { λ r. ⌜ r ≡ min 1 i ⌝ }
 {
     if i == 0 { 0 } else { 1 }

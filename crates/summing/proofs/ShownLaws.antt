@@ -110,14 +110,8 @@ module _ (e s : Triple) (m numbers : List ℕ) (from : ℕ) (values : List Float
     (K : Listed m (r .base) (sides e .x) (r .start) list many) (sums₀ : List Float) (counts₀ : List ℕ) (i : ℕ) (sums : List Float) (counts : List ℕ)
     (T : Taking e s (brought m numbers from values kinds) l (r .start) list sums₀ counts₀ i sums counts) where
   -- the next of them is a face cell of the line
-  pub listed-in : i < many → getD list i 0 < sides e .x
-  listed-in h = K .each i h .0
-
-  pub listed-late : i < many → r .start ≤ getD list i 0
-  listed-late h = omega (arith, T .late, K .each i h .1 .is)
-
-  pub listed-alike : i < many → getD list i 0 % 2 ≡ r .start % 2
-  listed-alike h = omega (arith, T .alike, K .each i h .1 .is)
+  pub listed-cell : i < many → (getD list i 0 < sides e .x) × (r .start ≤ getD list i 0) × (getD list i 0 % 2 ≡ r .start % 2)
+  listed-cell h = (K .each i h .0, omega (arith, T .late, K .each i h .1 .is), omega (arith, T .alike, K .each i h .1 .is))
 
   pub take-next : i < many → (sums′ : List Float) (counts′ : List ℕ)
       → sums′ ≡ sumsWith sums (cellTaken e s (brought m numbers from values kinds) (r .base + getD list i 0))
@@ -126,12 +120,13 @@ module _ (e s : Triple) (m numbers : List ℕ) (from : ℕ) (values : List Float
   unfolding nextAt
   take-next h sums′ counts′ a b =
       let here = going-skip e s m numbers from values kinds l hl r L sums₀ counts₀ sums counts (nextAt (r .start) list i) (getD list i 0) (T .late) (T .alike) (K .each i h .1) (T .going) in
+      let x-in = listed-cell h in
       let q : suc i ≡ i + 1 = omega arith in
       subst (λ (j : ℕ). Taking e s (brought m numbers from values kinds) l (r .start) list sums₀ counts₀ j sums′ counts′) q
       record {
-        late = omega (arith, listed-late h);
-        alike = omega (arith, listed-alike h);
-        going = going-more e s (brought m numbers from values kinds) l sums₀ counts₀ (getD list i 0) sums counts here r L sums′ counts′ (listed-in h) hl (listed-late h) (listed-alike h) a b;
+        late = omega (arith, x-in .1);
+        alike = omega (arith, x-in .2);
+        going = going-more e s (brought m numbers from values kinds) l sums₀ counts₀ (getD list i 0) sums counts here r L sums′ counts′ (x-in .0) hl (x-in .1) (x-in .2) a b;
       }
 
   pub taken-all : many ≤ i → i ≤ many

@@ -3,11 +3,12 @@ use findings::final_number;
 use lines::first_stride;
 use lines::first_x;
 use lowest::Start;
+use lowest::one_if;
 use lowest::starts_by;
 use totals::reading_at;
 use totals::take_reading;
 ghost use mathlib.Core.Path.{_≡_};
-ghost use Prim.Native.Nat.{_+_, _-_, _*_, _/_, _%_, _≤_, _<_, min};
+ghost use Prim.Native.Nat.{_+_, _-_, _*_, _/_, _%_, _≤_, _<_};
 ghost use lib.ListN.{length};
 ghost use Rattle.cells.specs.Box.{triple, place};
 ghost use Rattle.cells.specs.Extents.{Sized};
@@ -197,13 +198,6 @@ fn next_spot(h: usize, l: usize, y: usize, z: usize) -> Spot
     Spot { y: 0, z: z + 1 }
 }
 
-// 0 for 0, and else 1.
-fn one_if(n: u32) -> usize
-    ensures { λ r. ⌜ r ≡ min 1 n ⌝ }
-{
-    if n == 0 { 0 } else { 1 }
-}
-
 // Lists the cells of a line that show a number in the map, from `start` on, two apart, and answers how many there are. Most cells show none, so
 // each is written down, and kept if it shows one: no step hangs on what the map holds.
 fn list_shown(list: &mut [usize], map: &[u32], base: usize, start: usize, w: usize) -> usize
@@ -214,7 +208,7 @@ fn list_shown(list: &mut [usize], map: &[u32], base: usize, start: usize, w: usi
     let mut at = start;
     while at < w {
         list[many] = at;
-        many += one_if(map[base + at]);
+        many += one_if(map[base + at] as usize);
         at += 2;
     }
     many

@@ -1,6 +1,6 @@
 -- `summing::list_shown` meets its contract.
 use mathlib.Core.Path.{_≡_, refl}
-use Prim.Native.Nat.{_-_}
+use Prim.Native.Nat.{_+_, _-_}
 use lib.ListN.{length}
 use native.Mathlib.Omega.{arith}
 use borrow.Author.Needs.{needs}
@@ -31,6 +31,9 @@ mul-one-if c = search needs
 
 shared-slice-read-one-if : tie.Need-shared-slice-read-one-if Inv-loop μ-loop
 shared-slice-read-one-if c = search needs
+
+cast-one-if : tie.Need-cast-one-if Inv-loop μ-loop
+cast-one-if c = let st = c .before .before in omega (arith, c .shared-slice-known2 .given (st .before .before .before .args .base + st .loop .at))
 
 one-if-requires : tie.Need-one-if-requires Inv-loop μ-loop
 one-if-requires c κs = search needs
@@ -65,6 +68,7 @@ list-shown-spec =
     add-one-if
     mul-one-if
     shared-slice-read-one-if
+    cast-one-if
     one-if-requires
     add-many
     add-at

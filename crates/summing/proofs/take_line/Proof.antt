@@ -9,7 +9,7 @@ use Rattle.cells.specs.Grid.{sides}
 use Rattle.lowest.specs.Lowest.{startOf}
 use Rattle.summing.specs.Summing.{brought}
 use Rattle.summing.proofs.SumLaws.{bounds, line-room, line-beside, line-spot}
-use Rattle.summing.proofs.ShownLaws.{Taking, take-none, listed-in, listed-late, listed-alike, take-next, taken-all}
+use Rattle.summing.proofs.ShownLaws.{Taking, take-none, listed-cell, take-next, taken-all}
 use Rattle.summing.proofs.take_line.Statement.{statement}
 use Rattle.summing.proofs.take_line.Tie as tie
 
@@ -55,8 +55,8 @@ add-take-cell c =
     let k = g .before .before .before in
     let r = k .before .before in
     let p = r .before .before .before .before .before .before .before .before .pre in
-    let inside = listed-in _ _ _ _ _ _ _ _ (p .1) _ (r .line-at .ensures) _ _ (k .list-shown .ensures) _ _ _ _ _ (g .loop .inv .3) (c .before .before .before .before .loop-test .taken) in
-    omega (arith, bounds _ _ (p .0 .sized) (p .1), p .0 .sized, r .line-at .ensures .base, inside)
+    let x-in = listed-cell _ _ _ _ _ _ _ _ (p .1) _ (r .line-at .ensures) _ _ (k .list-shown .ensures) _ _ _ _ _ (g .loop .inv .3) (c .before .before .before .before .loop-test .taken) in
+    omega (arith, bounds _ _ (p .0 .sized) (p .1), p .0 .sized, r .line-at .ensures .base, x-in .0)
 
 add-take-cell-2 : tie.Need-add-take-cell-2 Inv-loop μ-loop
 unfolding sides
@@ -65,8 +65,8 @@ add-take-cell-2 c =
     let k = g .before .before .before in
     let r = k .before .before in
     let p = r .before .before .before .before .before .before .before .before .pre in
-    let inside = listed-in _ _ _ _ _ _ _ _ (p .1) _ (r .line-at .ensures) _ _ (k .list-shown .ensures) _ _ _ _ _ (g .loop .inv .3) (c .before .before .before .before .before .loop-test .taken) in
-    omega (arith, bounds _ _ (p .0 .sized) (p .1), p .0 .sized, r .line-at .ensures .first, inside)
+    let x-in = listed-cell _ _ _ _ _ _ _ _ (p .1) _ (r .line-at .ensures) _ _ (k .list-shown .ensures) _ _ _ _ _ (g .loop .inv .3) (c .before .before .before .before .before .loop-test .taken) in
+    omega (arith, bounds _ _ (p .0 .sized) (p .1), p .0 .sized, r .line-at .ensures .first, x-in .0)
 
 take-cell-requires : tie.Need-take-cell-requires Inv-loop μ-loop
 unfolding sides
@@ -77,10 +77,8 @@ take-cell-requires c κs =
     let p = r .before .before .before .before .before .before .before .before .pre in
     let L = r .line-at .ensures in
     let t = c .before .before .before .before .before .loop-test .taken in
-    let inside = listed-in _ _ _ _ _ _ _ _ (p .1) _ L _ _ (k .list-shown .ensures) _ _ _ _ _ (g .loop .inv .3) t in
-    let late = listed-late _ _ _ _ _ _ _ _ (p .1) _ L _ _ (k .list-shown .ensures) _ _ _ _ _ (g .loop .inv .3) t in
-    let alike = listed-alike _ _ _ _ _ _ _ _ (p .1) _ L _ _ (k .list-shown .ensures) _ _ _ _ _ (g .loop .inv .3) t in
-    (line-beside _ _ _ L _ inside (p .1) late alike _ _ _ (p .0), line-spot _ _ _ L _ inside (p .1) late alike)
+    let x-in = listed-cell _ _ _ _ _ _ _ _ (p .1) _ L _ _ (k .list-shown .ensures) _ _ _ _ _ (g .loop .inv .3) t in
+    (line-beside _ _ _ L _ (x-in .0) (p .1) (x-in .1) (x-in .2) _ _ _ (p .0), line-spot _ _ _ L _ (x-in .0) (p .1) (x-in .1) (x-in .2))
 
 add-i : tie.Need-add-i Inv-loop μ-loop
 add-i c = search needs
