@@ -16,8 +16,8 @@ use Rattle.joiner.specs.Job.{Kind, Face, Curve, Point, width, State, listedTray
 use Rattle.joiner.specs.Calls.{reading}
 use Rattle.joiner.specs.Declines.{lentTo, refusal}
 use Rattle.joiner.specs.Entries.{rowTaken}
-use Rattle.model.proofs.Facts.{Facts, facts, fits-at, numbered-fits}
-use Rattle.row_reading.proofs.ReadingLaws.{row-end}
+use Rattle.theory_model.proofs.Facts.{Facts, facts, fits-at, numbered-fits}
+use Rattle.reading_row.proofs.ReadingLaws.{row-end}
 use Rattle.exports.specs.Exports.{sixOf}
 
 -- The row of an accepted reading has its two, four or six places.

@@ -17,9 +17,9 @@ use Rattle.extended.specs.Extended.{LongRun, added}
 use Rattle.strain_calls.specs.Tables.{TotalTables}
 use Rattle.strain_calls.specs.Calls.{StrainCall, total, StrainAnswer, strainAnswer, noTotals}
 use Rattle.strain_calls.specs.Entries.{StrainStep}
-use Rattle.total_laws.specs.Book.{noReadings}
-use Rattle.total_laws.specs.Statement.{StrainEntry, LongFair, StrainMeasured, BringsLists, TotalRead}
-use Rattle.total_laws.proofs.StrainStatement.{strain-statement}
+use Rattle.theory_totals.specs.Book.{noReadings}
+use Rattle.theory_totals.specs.Statement.{StrainEntry, LongFair, StrainMeasured, BringsLists, TotalRead}
+use Rattle.theory_totals.proofs.StrainStatement.{strain-statement}
 use Rattle.job_numbers.specs.Numbers.{jobIn}
 use Rattle.exports.specs.Exports.{ExportedOpening, ExportedTotal}
 use Rattle.exports.specs.Calls.{Kept, keeps, stateKept}

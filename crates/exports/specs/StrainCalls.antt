@@ -14,7 +14,7 @@ use Rattle.totals.specs.declared.Totals.{Totals}
 use Rattle.extended.specs.Extended.{base, added}
 use Rattle.strain_calls.specs.Tables.{TotalTables}
 use Rattle.strain_calls.specs.Calls.{StrainCall, strain, total, StrainAnswer, strainAnswer, noTotals}
-use Rattle.total_laws.specs.Statement.{StrainEntry}
+use Rattle.theory_totals.specs.Statement.{StrainEntry}
 use Rattle.exports.specs.Exports.{ExportedStrain, ExportedTotal}
 use Rattle.exports.specs.Calls.{Kept, keeps, stateKept, ExportedCall}
 

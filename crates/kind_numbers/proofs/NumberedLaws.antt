@@ -11,10 +11,10 @@ use Rattle.lists.proofs.Overlay.{length-overlay}
 use Rattle.joiner.specs.Job.{Kind, Face, Curve, width, Tables, State}
 use Rattle.joiner.specs.Entries.{classOf, headOf, rowFinal, NumberedKind}
 use Rattle.joiner.proofs.Crossings.{heads-most}
-use Rattle.model.proofs.Numbers.{overlay-front}
+use Rattle.theory_model.proofs.Numbers.{overlay-front}
 use Rattle.ranking.specs.Ranking.{anyKind, Ranked}
-use Rattle.closings.specs.Closings.{positionAt, entryAt, curveRow}
-use Rattle.closings.proofs.ClosedLaws.{closed-firsts-front, closed-copied, closed-curves, closed-front}
+use Rattle.closed_tables.specs.Closings.{positionAt, entryAt, curveRow}
+use Rattle.closed_tables.proofs.ClosedLaws.{closed-firsts-front, closed-copied, closed-curves, closed-front}
 use Rattle.kind_numbers.specs.Numbered.{Numbered, anyCopied, anyCurves}
 
 -- The record over states.

@@ -1,7 +1,7 @@
 // Numbers the components of one kind and writes its closed tables.
-use closings::copy_rows;
-use closings::curve_rows;
-use closings::write_firsts;
+use closed_tables::copy_rows;
+use closed_tables::curve_rows;
+use closed_tables::write_firsts;
 use ranking::rank_kind;
 ghost use Prim.Native.Nat.{_*_, _≤_};
 ghost use lib.ListN.{length};

@@ -1,9 +1,9 @@
 // The labeller of one block.
 use extents::has_blank;
 use extents::off_size;
-use filling::fill;
-use joining::join_cells;
-use numbering::number_cells;
+use pass_fill::fill;
+use pass_join::join_cells;
+use pass_number::number_cells;
 use refusals::BLANK_VOXEL;
 use refusals::OFF_SIZE;
 use refusals::WRONG_TRAY;

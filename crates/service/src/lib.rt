@@ -4,12 +4,12 @@ use job::Job;
 use job::Stage;
 use job_numbers::job_in;
 use job_numbers::keep;
-use jobs::Joining;
+use judge::at;
 use labeller::label;
 use maxima::most_components;
+use methods::Joining;
 use reader::read_record;
-use row_reading::Kind;
-use steps::at;
+use reading_row::Kind;
 use writer::write_record;
 ghost use mathlib.Core.Path.{_≡_};
 ghost use Rattle.joiner.specs.Job.{Face, Curve, Point};
@@ -25,7 +25,7 @@ ghost use Rattle.maxima.specs.Maxima.{mostComponents};
 ghost use Rattle.service.specs.Exports.{exported, export, exportedMost, exportMost, exportedWriting, exportWriting, exportedReading, exportReading};
 ghost use Rattle.job_numbers.specs.Numbers.{jobIn};
 ghost use Rattle.exports.specs.Exports.{anyTables, ExportedOpening, ExportedStep, ExportedLookup, ExportedStrain, ExportedTotal, RowExported, sixOf};
-ghost use Rattle.row_reading.specs.Inner.{kindOf};
+ghost use Rattle.reading_row.specs.Inner.{kindOf};
 
 // Labels a block; answers the refusal, 0 for none, and stores how many faces, curves and points there are.
 #[no_mangle]

@@ -1,2 +1,3 @@
--- The laws of the definitions in specs/.
+-- The laws that callers cite, and those of this crate's own proofs.
 pub mod TickLaws
+pub mod StageLaws

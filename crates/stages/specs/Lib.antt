@@ -1,2 +1,2 @@
--- The definitions of the crate.
+-- The definitions that the contracts cite.
 pub mod Ticks

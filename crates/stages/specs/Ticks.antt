@@ -1,10 +1,16 @@
--- The steps of a stage walked block by block. `f` tells the steps that are ticked.
+-- The ticks of a job as they are lent, and the steps of a stage walked block by block. `f` tells the steps that are ticked.
 -- Assumes nothing.
 use mathlib.Core.Bool.{Bool, true, not, _&&_, _||_}
+use mathlib.Core.List.{List}
 use Prim.Native.Nat.{ℕ, zero, suc, _+_, _*_}
-use lib.Dec.{ltb}
+use lib.Dec.{eqb, ltb}
+use lib.ListN.{getD}
 use Rattle.cells.specs.Box.{Axis, X, Y, Z}
 use Rattle.cutting.specs.Cutting.{Cutting, cuts, intervals, interval}
+
+-- Step i is ticked. `ticked-told` says that it is the joiner's `ticked`.
+unfoldable pub tickedIn : List ℕ → ℕ → Bool
+tickedIn ticks i = not (eqb (getD ticks i 0) 0)
 
 -- The step in this column of each of the first n blocks is ticked.
 unfoldable pub tickedTo : (ℕ → Bool) → ℕ → ℕ → Bool

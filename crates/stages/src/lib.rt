@@ -1,1 +1,134 @@
-// When the steps of a stage are all ticked: definitions in specs/, laws in proofs/. No code yet.
+// The stage of a job after a step: "the next begins when the last step of the one before is done".
+use blocks::block_count;
+use blocks::intervals;
+use job::Stage;
+ghost use mathlib.Core.Path.{_≡_};
+ghost use mathlib.Core.Bool.{not, _||_};
+ghost use Prim.Native.Nat.{suc, _*_, _≤_, _<_};
+ghost use lib.Dec.{ltb};
+ghost use Rattle.cutting.specs.Cutting.{intervals};
+ghost use Rattle.joiner.specs.Job.{Enrol};
+ghost use Rattle.joiner.specs.Stages.{nextStage, finished, nextAfter};
+ghost use Rattle.stages.specs.Ticks.{tickedIn, tickedTo, seamsTicked, seamsTickedTo};
+ghost use Rattle.blocks.specs.Blocks.{anyExtents};
+ghost use Rattle.job.specs.Jobs.{stageOf};
+
+// Whether step i is ticked. Not an entry.
+pub fn is_ticked(ticks: &[u32], i: usize) -> bool
+    ensures { λ r. ⌜ r ≡ tickedIn (now (ticks .entry)) i ⌝ }
+{
+    if i < ticks.len() {
+        return ticks[i] != 0;
+    }
+    false
+}
+
+// Whether the step in this column of each block is ticked.
+fn column_ticked(ticks: &[u32], column: usize, blocks: usize) -> bool
+    requires { ⌜ (column < 6) × (blocks ≤ 16384) ⌝ }
+    ensures { λ r. ⌜ r ≡ tickedTo (tickedIn (now (ticks .entry))) column blocks ⌝ }
+{
+    for b in 0..blocks {
+        if !is_ticked(ticks, 6 * b + column) {
+            return false;
+        }
+    }
+    true
+}
+
+// Whether interval i of a cut list has a next one.
+fn has_next(c: &[u32], i: usize) -> bool
+    ensures { λ r. ⌜ r ≡ ltb (suc i) (intervals (now (c .entry))) ⌝ }
+{
+    i < intervals(c) - 1
+}
+
+// Whether the seam after interval i, where there is one, is ticked. It is step s.
+fn seam_ticked(ticks: &[u32], s: usize, c: &[u32], i: usize) -> bool
+    ensures { λ r. ⌜ r ≡ (not (ltb (suc i) (intervals (now (c .entry)))) || tickedIn (now (ticks .entry)) s) ⌝ }
+{
+    if has_next(c, i) {
+        return is_ticked(ticks, s);
+    }
+    true
+}
+
+// Whether the seams of block b as the lower block are ticked.
+fn block_ticked(ticks: &[u32], cx: &[u32], cy: &[u32], cz: &[u32], b: usize) -> bool
+    requires { ⌜ b < 16384 ⌝ }
+    ensures { λ r. ⌜ anyExtents (now (cx .entry)) (now (cy .entry)) (now (cz .entry)) (λ k. r ≡ seamsTicked k (tickedIn (now (ticks .entry))) b) ⌝ }
+{
+    let w = intervals(cx);
+    let h = intervals(cy);
+    if !seam_ticked(ticks, 6 * b + 1, cx, b % w) {
+        return false;
+    }
+    if !seam_ticked(ticks, 6 * b + 2, cy, b / w % h) {
+        return false;
+    }
+    seam_ticked(ticks, 6 * b + 3, cz, b / w / h)
+}
+
+// Whether the seams of every block are ticked.
+fn seams_ticked(ticks: &[u32], cx: &[u32], cy: &[u32], cz: &[u32], blocks: usize) -> bool
+    requires { ⌜ blocks ≤ 16384 ⌝ }
+    ensures { λ r. ⌜ anyExtents (now (cx .entry)) (now (cy .entry)) (now (cz .entry)) (λ k. r ≡ seamsTickedTo k (tickedIn (now (ticks .entry))) blocks) ⌝ }
+{
+    for b in 0..blocks {
+        if !block_ticked(ticks, cx, cy, cz, b) {
+            return false;
+        }
+    }
+    true
+}
+
+// Whether every step of a stage is ticked. A closed job has none. Not an entry.
+pub fn finished(stage: Stage, ticks: &[u32], cx: &[u32], cy: &[u32], cz: &[u32]) -> bool
+    requires { ⌜ intervals (now cx) * intervals (now cy) * intervals (now cz) ≤ 16384 ⌝ }
+    ensures { λ r. ⌜ anyExtents (now (cx .entry)) (now (cy .entry)) (now (cz .entry)) (λ k. r ≡ finished k (tickedIn (now (ticks .entry))) (stageOf stage)) ⌝ }
+{
+    let blocks = block_count(cx, cy, cz);
+    match stage {
+        Stage::Enrol => column_ticked(ticks, 0, blocks),
+        Stage::Seam => seams_ticked(ticks, cx, cy, cz, blocks),
+        Stage::Crossing => column_ticked(ticks, 4, blocks),
+        Stage::Points => column_ticked(ticks, 5, blocks),
+        Stage::Closed => true,
+    }
+}
+
+// "A stage without steps is passed over": one block has no seams.
+fn after_enrol(cx: &[u32], cy: &[u32], cz: &[u32]) -> Stage
+    requires { ⌜ intervals (now cx) * intervals (now cy) * intervals (now cz) ≤ 16384 ⌝ }
+    ensures { λ r. ⌜ anyExtents (now (cx .entry)) (now (cy .entry)) (now (cz .entry)) (λ k. stageOf r ≡ nextStage k Enrol) ⌝ }
+{
+    if block_count(cx, cy, cz) == 1 {
+        return Stage::Crossing;
+    }
+    Stage::Seam
+}
+
+// The stage that follows a finished one.
+fn after(stage: Stage, cx: &[u32], cy: &[u32], cz: &[u32]) -> Stage
+    requires { ⌜ intervals (now cx) * intervals (now cy) * intervals (now cz) ≤ 16384 ⌝ }
+    ensures { λ r. ⌜ anyExtents (now (cx .entry)) (now (cy .entry)) (now (cz .entry)) (λ k. stageOf r ≡ nextStage k (stageOf stage)) ⌝ }
+{
+    match stage {
+        Stage::Enrol => after_enrol(cx, cy, cz),
+        Stage::Seam => Stage::Crossing,
+        Stage::Crossing => Stage::Points,
+        Stage::Points => Stage::Closed,
+        Stage::Closed => Stage::Closed,
+    }
+}
+
+// The stage after a step was ticked. Not an entry.
+pub fn next_stage(stage: Stage, ticks: &[u32], cx: &[u32], cy: &[u32], cz: &[u32]) -> Stage
+    requires { ⌜ intervals (now cx) * intervals (now cy) * intervals (now cz) ≤ 16384 ⌝ }
+    ensures { λ r. ⌜ anyExtents (now (cx .entry)) (now (cy .entry)) (now (cz .entry)) (λ k. stageOf r ≡ nextAfter k (tickedIn (now (ticks .entry))) (stageOf stage)) ⌝ }
+{
+    if finished(stage, ticks, cx, cy, cz) {
+        return after(stage, cx, cy, cz);
+    }
+    stage
+}

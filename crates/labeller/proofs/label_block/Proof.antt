@@ -5,7 +5,7 @@ use borrow.Author.Needs.{needs}
 use Rattle.lists.specs.Lists.{zeros}
 use Rattle.cells.specs.Box.{triple}
 use Rattle.labels.proofs.CountLaws.{largest-leaders}
-use Rattle.numbering.proofs.SpanningLaws.{points-spanning}
+use Rattle.pass_number.proofs.SpanningLaws.{points-spanning}
 use Rattle.labeller.proofs.LabellingLaws.{block-labelled}
 use Rattle.labeller.proofs.label_block.Statement.{statement}
 use Rattle.labeller.proofs.label_block.Tie as tie

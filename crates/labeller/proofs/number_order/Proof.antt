@@ -4,7 +4,7 @@ use borrow.Author.Needs.{needs}
 use Rattle.cells.specs.Box.{triple}
 use Rattle.labels.proofs.CountLaws.{largest-leaders}
 use Rattle.lists.proofs.Lists.{length-zeros}
-use Rattle.numbering.proofs.SpanningLaws.{joined-spanning}
+use Rattle.pass_number.proofs.SpanningLaws.{joined-spanning}
 use Rattle.labeller.proofs.number_order.Statement.{statement}
 use Rattle.labeller.proofs.number_order.Tie as tie
 

@@ -1,0 +1,291 @@
+-- The tests that the calls share are the joiner's, and a ticked step is what the joiner asks for.
+-- Assumes nothing.
+use mathlib.Core.Path.{_≡_, refl, sym, ap, subst, _∙_}
+use mathlib.Core.Bool.{Bool, true, false, not, cond, _&&_}
+use mathlib.Core.Logic.{_≢_}
+use mathlib.Core.List.{List, []}
+use Prim.Native.Nat.{ℕ, _+_, _*_, _≤_, _<_}
+use native.Mathlib.Omega.{arith}
+use lib.Dec.{eqb, leb, ltb}
+use lib.ListN.{getD, length, set, List·getD-eq-default}
+use borrow.Author.Tests.{eqb-true, eqb-false, ne-eqb, eq-eqb, le-ltb, lt-ltb, ltb-true, not-true, not-false}
+use Rattle.lists.proofs.Cases.{by-test, and-first}
+use Rattle.refusals.specs.Refusals.{number, table, first, givenBy, standsIn}
+use Rattle.cells.specs.Box.{Triple}
+use Rattle.cells.specs.Extents.{Sized, offSize}
+use Rattle.cells.specs.Grid.{cells}
+use Rattle.extents.proofs.SizeLaws.{sized-of}
+use Rattle.labels.specs.Components.{largest}
+use Rattle.cutting.specs.Cutting.{Cutting, intervals, blocks, blockExtents, goodCut}
+use Rattle.joiner.specs.Job.{Kind, Face, Curve, Point, Tables, State, sameStage, countOf, fromOf, ticked}
+use Rattle.joiner.specs.Job as joiner
+use Rattle.joiner.specs.Stages.{nextAfter}
+use Rattle.joiner.specs.Calls.{Call, Answer, answer, stageOf, placed, repeated, layersDiffer, full, overfull}
+use Rattle.joiner.specs.Declines.{adds, counted, cutFor, declines, filled, linksStand, mapStands, numberStands, refusal, standing, standsFor, stray, talliesFit, waysStand}
+use Rattle.joiner.specs.Entries.{Done, CallStep, Ticked}
+use Rattle.theory_model.proofs.Facts.{tally-fits}
+use Rattle.blocks.specs.Blocks.{anyExtents, cutOf, sizeOf, Tells}
+use Rattle.blocks.specs.declared.Block.{Block}
+use Rattle.blocks.proofs.BlockLaws.{good-few, told-sized}
+use Rattle.blocks.proofs.CodeLaws.{blocks-are}
+use Rattle.pass_survey.specs.declared.Survey.{Survey}
+use Rattle.job.specs.declared.Job.{Job}
+use Rattle.job.specs.declared.Stage.{Stage}
+use Rattle.job.specs.Jobs.{byKind, jobOf, toldOf, stateOf}
+use Rattle.job.specs.Jobs as job
+use Rattle.stages.specs.Ticks.{tickedIn}
+use Rattle.stages.proofs.StageLaws.{next-told}
+use Rattle.judge.specs.declared.Entry.{Entry}
+use Rattle.judge.specs.Steps.{firstRefusal, openedOf, reachedOf, lateOf, placedOf, entryOf, standsBy, mapStandsIn, linksStandIn, numberStandsIn, movedOn, Advanced}
+
+-- ---- one refusal or else another
+
+module _ (x y : ℕ) where
+  pub or-first : (x ≡ 0 → ⊥) → x ≡ firstRefusal x y
+  unfolding firstRefusal
+  or-first n = rw (ne-eqb x 0 n)
+
+  pub or-then : (r : ℕ) → x ≡ 0 → r ≡ y → r ≡ firstRefusal x y
+  unfolding firstRefusal
+  or-then r e q = rw (eq-eqb x 0 e) q
+
+  pub or-none : firstRefusal x y ≡ 0 → (x ≡ 0) × (y ≡ 0)
+  unfolding firstRefusal
+  or-none h = by-test (eqb x 0) (λ t. (eqb-true x 0 t, rw t at h)) (λ t. absurd (eqb-false x 0 t (rw t at h)))
+
+pub or-else-assoc : (x y z : ℕ) → firstRefusal x (firstRefusal y z) ≡ firstRefusal (firstRefusal x y) z
+unfolding firstRefusal
+or-else-assoc x y z = by-test (eqb x 0) (λ t. rw t) (λ t. rw (t, t))
+
+-- 6, or else what follows
+pub or-six : (a : Bool) (x : ℕ) → cond (not a) 6 x ≡ firstRefusal (cond (not a) 6 0) x
+unfolding firstRefusal
+or-six true x = refl
+or-six false x = refl
+
+pub six-none : (a : Bool) → _≡_ {A = ℕ} (cond (not a) 6 0) 0 → a ≡ true
+six-none true h = refl
+six-none false h = absurd (omega arith)
+
+-- ---- the ladder
+
+first-three : (a b c : Bool) (x : ℕ) → cond a 1 (cond b 2 (cond c 3 x)) ≡ firstRefusal (cond a 1 (cond b 2 (cond c 3 0))) x
+unfolding firstRefusal
+first-three true b c x = refl
+first-three false true c x = refl
+first-three false false true x = refl
+first-three false false false x = refl
+
+four-five : (a b : Bool) (x : ℕ) → cond a 4 (cond b 5 x) ≡ firstRefusal (cond a 4 (cond b 5 0)) x
+unfolding firstRefusal
+four-five true b x = refl
+four-five false true x = refl
+four-five false false x = refl
+
+module _ (s : State) (c : Call) (cut : cutFor s c ≡ goodCut (s .job .told .cutting)) where
+  pub refusal-opened : refusal s c ≡ firstRefusal (openedOf (s .job) (stageOf c)) (placedOf s c)
+  unfolding refusal declines givenBy first table number standsIn openedOf placedOf lateOf
+  refusal-opened =
+      rw cut (first-three (offSize 1024 (s .job .told .cutting .extents)) (not (goodCut (s .job .told .cutting))) (not (sameStage (s .job .stage) (stageOf c))) (placedOf s c))
+
+  -- a step of block b
+  pub refusal-reached : (b step : ℕ) → placed (s .job .told .cutting) (s .job .numbered) c ≡ ltb b (blocks (s .job .told .cutting))
+      → repeated (s .job .told .cutting) (ticked (s .tables)) c ≡ tickedIn (s .tables .ticks) step
+      → refusal s c ≡ firstRefusal (reachedOf (s .job) (stageOf c) (s .tables .ticks) b step) (lateOf s c)
+  unfolding reachedOf placedOf
+  refusal-reached b step p q =
+      refusal-opened ∙ ap (firstRefusal (openedOf (s .job) (stageOf c))) (rw (p, q) (four-five (not (ltb b (blocks (s .job .told .cutting)))) (tickedIn (s .tables .ticks) step) (lateOf s c))) ∙
+      or-else-assoc (openedOf (s .job) (stageOf c)) (cond (not (ltb b (blocks (s .job .told .cutting)))) 4 (cond (tickedIn (s .tables .ticks) step) 5 0)) (lateOf s c)
+
+-- 10 cannot stand where nothing is added
+module _ (s : State) (c : Call) (none : (κ : Kind) → adds s c κ ≡ 0) where
+  room : talliesFit (s .job) ≡ true → full (s .job .told .entries) (s .job .sofar) (adds s c) ≡ false
+  unfolding full overfull
+  room t =
+      let h : (κ : Kind) → s .job .sofar κ ≤ s .job .told .entries κ = tally-fits (s .job) t in
+      let out : (κ : Kind) → ltb (s .job .told .entries κ) (s .job .sofar κ + adds s c κ) ≡ false =
+      λ κ. le-ltb (s .job .told .entries κ) (s .job .sofar κ + adds s c κ) (omega (arith, h κ, none κ)) in
+      rw (out Face, out Curve, out Point)
+
+  pub late-none : (l : Bool)
+      → _≡_ {A = ℕ} (cond (stray s c) 8 (cond l 9 (cond (full (s .job .told .entries) (s .job .sofar) (adds s c)) 10 0)))
+      (cond (not (talliesFit (s .job) && standsFor s c)) 8 (cond l 9 0))
+  unfolding stray
+  late-none l = by-test (talliesFit (s .job) && standsFor s c) (λ t. rw (t, room (and-first (talliesFit (s .job)) (standsFor s c) t))) (λ t. rw t)
+
+-- ---- what the first tests passed
+
+pub record Passed (j : joiner.Job) (s : joiner.Stage) : Type 0 where
+  pub sized : Sized 1024 (j .told .cutting .extents)
+  pub good : goodCut (j .told .cutting) ≡ true
+  pub stage : sameStage (j .stage) s ≡ true
+
+pub opened-passed : (j : joiner.Job) (s : joiner.Stage) → openedOf j s ≡ 0 → Passed j s
+unfolding openedOf
+opened-passed j s h =
+    let p = go (offSize 1024 (j .told .cutting .extents)) (goodCut (j .told .cutting)) (sameStage (j .stage) s) h in
+    record { sized = sized-of 1024 (j .told .cutting .extents) (p .0); good = p .1; stage = p .2 }
+  where
+    go : (a b c : Bool) → _≡_ {A = ℕ} (cond a 1 (cond (not b) 2 (cond (not c) 3 0))) 0 → (a ≡ false) × (b ≡ true) × (c ≡ true)
+    go true b c h = absurd (omega arith)
+    go false false c h = absurd (omega arith)
+    go false true false h = absurd (omega arith)
+    go false true true h = (refl, refl, refl)
+
+pub reached-passed : (j : joiner.Job) (s : joiner.Stage) (ticks : List ℕ) (b step : ℕ) → reachedOf j s ticks b step ≡ 0 → Passed j s × (b < blocks (j .told .cutting))
+unfolding reachedOf
+reached-passed j s ticks b step h =
+    let n = or-none (openedOf j s) (cond (not (ltb b (blocks (j .told .cutting)))) 4 (cond (tickedIn ticks step) 5 0)) h in
+    (opened-passed j s (n .0), ltb-true b (blocks (j .told .cutting)) (go (ltb b (blocks (j .told .cutting))) (tickedIn ticks step) (n .1)))
+  where
+    go : (a b : Bool) → _≡_ {A = ℕ} (cond (not a) 4 (cond b 5 0)) 0 → a ≡ true
+    go false b h = absurd (omega arith)
+    go true b h = refl
+
+-- ---- the ways of `opened` and `reached`
+
+module _ (j : Job) (cx cy cz : List ℕ) (s : joiner.Stage) where
+  abbrev Opens : ℕ → Type 0
+  Opens r = r ≡ openedOf (jobOf j cx cy cz) s
+
+  module _ (t1 : Bool) (e1 : t1 ≡ offSize 1024 (toldOf j cx cy cz .cutting .extents)) where
+    pub opened-1 : t1 ≡ true → Opens 1
+    unfolding openedOf
+    opened-1 q = rw (sym e1 ∙ q)
+
+    module _ (q1 : t1 ≡ false) (t2 : Bool) (e2 : t2 ≡ goodCut (toldOf j cx cy cz .cutting)) where
+      pub opened-2 : not t2 ≡ true → Opens 2
+      unfolding openedOf
+      opened-2 q = rw (sym e1 ∙ q1, sym e2 ∙ not-true t2 q)
+
+      module _ (q2 : not t2 ≡ false) (t3 : Bool) (e3 : t3 ≡ sameStage (job.stageOf (j .stage)) s) where
+        pub opened-3 : not t3 ≡ true → Opens 3
+        unfolding openedOf
+        opened-3 q = rw (sym e1 ∙ q1, sym e2 ∙ not-false t2 q2, sym e3 ∙ not-true t3 q)
+
+        pub opened-0 : not t3 ≡ false → Opens 0
+        unfolding openedOf
+        opened-0 q = rw (sym e1 ∙ q1, sym e2 ∙ not-false t2 q2, sym e3 ∙ not-false t3 q)
+
+  module _ (ticks : List ℕ) (b step : ℕ) (n : ℕ) (e : n ≡ openedOf (jobOf j cx cy cz) s) where
+    abbrev Reaches : ℕ → Type 0
+    Reaches r = r ≡ reachedOf (jobOf j cx cy cz) s ticks b step
+
+    pub reached-first : (n ≡ 0 → ⊥) → Reaches n
+    unfolding reachedOf
+    reached-first q = rw (← e) (or-first n _ q)
+
+    module _ (q : n ≡ 0) (t4 : Bool) (e4 : anyExtents cx cy cz (λ k. t4 ≡ ltb b (blocks k))) where
+      here : t4 ≡ ltb b (blocks (toldOf j cx cy cz .cutting))
+      here = e4 (j .nx) (j .ny) (j .nz)
+
+      pub reached-4 : not t4 ≡ true → Reaches 4
+      unfolding reachedOf
+      reached-4 p = rw (← e, sym here ∙ not-true t4 p) (or-then n _ 4 q refl)
+
+      module _ (p : not t4 ≡ false) (t5 : Bool) (e5 : t5 ≡ tickedIn ticks step) where
+        pub reached-5 : t5 ≡ true → Reaches 5
+        unfolding reachedOf
+        reached-5 r = rw (← e, sym here ∙ not-false t4 p, sym e5 ∙ r) (or-then n _ 5 q refl)
+
+        pub reached-0 : t5 ≡ false → Reaches 0
+        unfolding reachedOf
+        reached-0 r = rw (← e, sym here ∙ not-false t4 p, sym e5 ∙ r) (or-then n _ 0 q refl)
+
+-- ---- a block of a good cut
+
+module _ (k : Cutting) (good : goodCut k ≡ true) where
+  pub few-of : intervals (k .cx) * intervals (k .cy) * intervals (k .cz) ≤ 16384
+  few-of = good-few k good
+
+  pub count-few : (count : ℕ) → count ≡ blocks k → count ≤ 16384
+  count-few count e = rw (e, blocks-are k) few-of
+
+  pub block-sized : (b : ℕ) → b < blocks k → (r : Block) → Tells k b r → Sized 64 (sizeOf r)
+  block-sized b h r T = told-sized k b r T good h
+
+-- ---- a block's map and its entry
+
+pub past : (l : List ℕ) (i : ℕ) → length l ≤ i → 0 ≡ getD l i 0
+past l i h = sym (List·getD-eq-default l 0 {n = i} h)
+
+-- a value that the code has is tested itself
+module _ (b r c : Bool) where
+  pub stands-here : not b ≡ true → false ≡ (b && c)
+  stands-here p = rw (not-true b p)
+
+  pub stands-next : not b ≡ false → r ≡ c → r ≡ (b && c)
+  stands-next p q = rw (not-false b p) q
+
+pub map-stands-by : (e : Triple) (m : List ℕ) (d : Entry) (faces curves : ℕ) (s : Survey) (r : Bool)
+    → s .filled ≡ filled e m → s .faces ≡ largest e m 2 → s .curves ≡ largest e m 1 → s .points ≡ largest e m 0
+    → r ≡ standsBy (s .filled) (s .faces) (s .curves) (s .points) d faces curves → r ≡ mapStandsIn e d faces curves m
+unfolding mapStandsIn
+map-stands-by e m d faces curves s r f a b c h = rw (← f, ← a, ← b, ← c) h
+
+-- The joiner's test of a map, by the block table.
+pub stands-is : (s : State) (e : Triple) (b : ℕ) (m : List ℕ) → mapStands s e b m ≡ mapStandsIn e (entryOf (s .tables .blocks) b) (s .job .told .entries Face) (s .job .told .entries Curve) m
+unfolding mapStands counted standing countOf fromOf mapStandsIn standsBy entryOf
+stands-is s e b m = rw (let q : 5 * b + 0 ≡ 5 * b = omega arith in q)
+
+-- .. and of its links.
+pub links-is : (s : State) (b : ℕ) → linksStand s b ≡ linksStandIn (entryOf (s .tables .blocks) b) (s .tables .links Face) (s .tables .links Curve)
+unfolding linksStand waysStand countOf fromOf linksStandIn entryOf
+links-is s b = rw (let q : 5 * b + 0 ≡ 5 * b = omega arith in q)
+
+-- .. and of a final number.
+pub number-is : (s : State) (κ : Kind) (x : ℕ) → numberStands s κ x ≡ numberStandsIn (s .tables .numbers κ) (s .job .numbered κ) x
+unfolding numberStands numberStandsIn
+number-is s κ x = refl
+
+-- t is the code's test
+module _ (numbers : List ℕ) (most x n : ℕ) (e : n ≡ getD numbers x 0) where
+  pub number-none : n ≡ 0 → false ≡ numberStandsIn numbers most x
+  unfolding numberStandsIn
+  number-none z = rw (← e, z)
+
+  pub number-some : (n ≡ 0 → ⊥) → (t : Bool) → t ≡ leb n most → t ≡ numberStandsIn numbers most x
+  unfolding numberStandsIn
+  number-some z t h = rw (← e, lt-ltb 0 n (omega arith)) h
+
+-- ---- the tick
+
+pub advanced : (j : Job) (cx cy cz ticks ticks′ : List ℕ) (step faces curves points : ℕ) (s : Stage) → ticks′ ≡ set ticks step 1
+    → anyExtents cx cy cz (λ k. job.stageOf s ≡ nextAfter k (tickedIn ticks′) (job.stageOf (j .stage)))
+    → Advanced j cx cy cz ticks ticks′ step faces curves points (movedOn j s faces curves points)
+advanced j cx cy cz ticks ticks′ step faces curves points s e h = record { is = refl; one = e; next = h (j .nx) (j .ny) (j .nz) }
+
+module _ (j : Job) (cx cy cz : List ℕ) (t t′ : Tables) (c : Call) (step faces curves points : ℕ)
+    (more : (κ : Kind) → adds (stateOf j cx cy cz t) c κ ≡ byKind faces curves points κ) where
+  sums : (s : Stage) (κ : Kind) → jobOf (movedOn j s faces curves points) cx cy cz .sofar κ ≡ jobOf j cx cy cz .sofar κ + byKind faces curves points κ
+  sums s Face = refl
+  sums s Curve = refl
+  sums s Point = refl
+
+  moved : (s : Stage) → t′ .ticks ≡ set (t .ticks) step 1 → job.stageOf s ≡ nextAfter (toldOf j cx cy cz .cutting) (tickedIn (t′ .ticks)) (job.stageOf (j .stage))
+      → Ticked (stateOf j cx cy cz t) (stateOf (movedOn j s faces curves points) cx cy cz t′) c step
+  moved s e h =
+      record {
+        told = refl;
+        ticks = e;
+        stage = next-told (toldOf j cx cy cz .cutting) t′ (job.stageOf (j .stage)) (job.stageOf s) h;
+        sofar = λ κ. sums s κ ∙ ap (λ (x : ℕ). jobOf j cx cy cz .sofar κ + x) (sym (more κ));
+      }
+
+  -- A ticked step is what the joiner asks for.
+  pub ticked-by : (r : Job) → Advanced j cx cy cz (t .ticks) (t′ .ticks) step faces curves points r → Ticked (stateOf j cx cy cz t) (stateOf r cx cy cz t′) c step
+  ticked-by r A = subst (λ (x : Job). Ticked (stateOf j cx cy cz t) (stateOf x cx cy cz t′) c step) (sym (A .is)) (moved (r .stage) (A .one) (A .next))
+
+-- What is numbered stays.
+pub numbered-kept : (j : Job) (cx cy cz ticks ticks′ : List ℕ) (step faces curves points : ℕ) (r : Job) → Advanced j cx cy cz ticks ticks′ step faces curves points r
+    → (κ : Kind) → jobOf r cx cy cz .numbered κ ≡ jobOf j cx cy cz .numbered κ
+numbered-kept j cx cy cz ticks ticks′ step faces curves points r A κ = ap (λ (x : Job). jobOf x cx cy cz .numbered κ) (A .is)
+
+-- ---- one call
+
+module _ (s : State) (c : Call) (number′ : ℕ) (e : number′ ≡ refusal s c) where
+  pub step-refused : (number′ ≡ 0 → ⊥) → CallStep s c (answer number′ 0 []) s
+  step-refused n = record { told = e; declined = λ _. (ap (λ (x : ℕ). answer x 0 []) e, refl); accepted = λ a. absurd (n (e ∙ a)) }
+
+  pub step-accepted : number′ ≡ 0 → (a : Answer) (t : State) → a .refusal ≡ 0 → Done s c a t → CallStep s c a t
+  step-accepted z a t u d = record { told = u ∙ sym z ∙ e; declined = λ n. absurd (n (sym e ∙ z)); accepted = λ _. d }

@@ -1,0 +1,214 @@
+// What the steps and readings of a job share: the tests that come first, what the block table tells of a block, and the tick.
+use blocks::Block;
+use blocks::good_cut;
+use blocks::has_block;
+use extents::off_size;
+use job::Job;
+use job::Stage;
+use job::same_stage;
+use pass_survey::Survey;
+use pass_survey::survey_map;
+use refusals::BAD_CUT;
+use refusals::DONE_ALREADY;
+use refusals::NO_SUCH_PLACE;
+use refusals::OFF_SIZE;
+use refusals::WRONG_STAGE;
+use stages::is_ticked;
+use stages::next_stage;
+use union_find::sound_ways;
+ghost use mathlib.Core.Path.{_≡_};
+ghost use Prim.Native.Nat.{_+_, _*_, _≤_, _<_};
+ghost use lib.Dec.{eqb, leb};
+ghost use lib.ListN.{getD, length};
+ghost use Rattle.cells.specs.Extents.{Sized};
+ghost use Rattle.cells.specs.Grid.{cells};
+ghost use Rattle.cutting.specs.Cutting.{intervals};
+ghost use Rattle.blocks.specs.Blocks.{sizeOf};
+ghost use Rattle.job.specs.Jobs.{stageOf, jobOf};
+ghost use Rattle.judge.specs.Steps.{openedOf, reachedOf, entryOf, standsBy, mapStandsIn, linksStandIn, numberStandsIn, Advanced};
+
+// What the block table tells of a block: its largest numbers, and the places of its first face and first curve.
+pub struct Entry {
+    pub faces: u32,
+    pub curves: u32,
+    pub points: u32,
+    pub face_from: u32,
+    pub curve_from: u32,
+}
+
+// ---- the tests that come first
+
+// The refusals up to 3, 0 for none: off size, bad cut, wrong stage.
+pub fn opened(job: Job, cx: &[u32], cy: &[u32], cz: &[u32], stage: Stage) -> u32
+    ensures { λ r. ⌜ r ≡ openedOf (jobOf job (now (cx .entry)) (now (cy .entry)) (now (cz .entry))) (stageOf stage) ⌝ }
+{
+    if off_size(1024, job.nx as usize, job.ny as usize, job.nz as usize) {
+        return OFF_SIZE;
+    }
+    if !good_cut(job.nx, job.ny, job.nz, cx, cy, cz) {
+        return BAD_CUT;
+    }
+    let now = job.stage;
+    if !same_stage(now, stage) {
+        return WRONG_STAGE;
+    }
+    0
+}
+
+// The refusals up to 5, 0 for none, of a step of one block: no such block, done already.
+pub fn reached(
+    job: Job,
+    cx: &[u32],
+    cy: &[u32],
+    cz: &[u32],
+    ticks: &[u32],
+    stage: Stage,
+    b: u32,
+    step: usize,
+) -> u32
+    ensures { λ r. ⌜ r ≡ reachedOf (jobOf job (now (cx .entry)) (now (cy .entry)) (now (cz .entry))) (stageOf stage) (now (ticks .entry)) b step ⌝ }
+{
+    let number = opened(job, cx, cy, cz, stage);
+    if number != 0 {
+        return number;
+    }
+    if !has_block(cx, cy, cz, b) {
+        return NO_SUCH_PLACE;
+    }
+    if is_ticked(ticks, step) {
+        return DONE_ALREADY;
+    }
+    0
+}
+
+// ---- a block's map and its entry
+
+// Whether a map of this length is one of the block. Not an entry.
+pub fn map_fits(block: Block, length: usize) -> bool
+    requires { ⌜ Sized 64 (sizeOf block) ⌝ }
+    ensures { λ r. ⌜ r ≡ eqb length (cells (sizeOf block)) ⌝ }
+{
+    let w = 2 * block.nx - 1;
+    let h = 2 * block.ny - 1;
+    let d = 2 * block.nz - 1;
+    length == w * h * d
+}
+
+// The entry of a table, 0 past its end.
+pub fn at(table: &[u32], i: usize) -> u32
+    ensures { λ r. ⌜ r ≡ getD (now (table .entry)) i 0 ⌝ }
+{
+    if i < table.len() {
+        return table[i];
+    }
+    0
+}
+
+// What the block table tells of block b.
+pub fn entry_of(table: &[u32], b: u32) -> Entry
+    ensures { λ r. ⌜ r ≡ entryOf (now (table .entry)) b ⌝ }
+{
+    let i = 5 * b as usize;
+    Entry {
+        faces: at(table, i),
+        curves: at(table, i + 1),
+        points: at(table, i + 2),
+        face_from: at(table, i + 3),
+        curve_from: at(table, i + 4),
+    }
+}
+
+fn within(n: u32, most: u32) -> bool
+    ensures { λ r. ⌜ r ≡ leb n most ⌝ }
+{
+    n <= most
+}
+
+// Whether so many components from a place on stand in a table of so many entries.
+fn inside(from: u32, count: u32, entries: u32) -> bool
+    ensures { λ r. ⌜ r ≡ leb (from + count) entries ⌝ }
+{
+    from as u64 + count as u64 <= entries as u64
+}
+
+// Whether a surveyed map keeps to its block's entry, and the entry to the tables of faces and curves.
+fn stands(s: Survey, entry: Entry, faces: u32, curves: u32) -> bool
+    ensures { λ r. ⌜ r ≡ standsBy (s .filled) (s .faces) (s .curves) (s .points) entry faces curves ⌝ }
+{
+    if !s.filled {
+        return false;
+    }
+    if !within(s.faces, entry.faces) {
+        return false;
+    }
+    if !within(s.curves, entry.curves) {
+        return false;
+    }
+    if !within(s.points, entry.points) {
+        return false;
+    }
+    if !inside(entry.face_from, entry.faces, faces) {
+        return false;
+    }
+    inside(entry.curve_from, entry.curves, curves)
+}
+
+// Whether a map keeps to its block's entry, and the entry to tables of so many faces and curves. Not an entry of the service.
+pub fn map_stands(map: &[u32], block: Block, entry: Entry, faces: u32, curves: u32) -> bool
+    requires { ⌜ Sized 64 (sizeOf block) × (length (now map) ≡ cells (sizeOf block)) ⌝ }
+    ensures { λ r. ⌜ r ≡ mapStandsIn (sizeOf block) entry faces curves (now (map .entry)) ⌝ }
+{
+    let s = survey_map(map, block.nx, block.ny, block.nz);
+    stands(s, entry, faces, curves)
+}
+
+// Whether the links of the block's faces and curves may be followed: none that is looked at is longer than its place.
+pub fn links_stand(face_links: &[u32], curve_links: &[u32], entry: Entry) -> bool
+    ensures { λ r. ⌜ r ≡ linksStandIn entry (now («face_links» .entry)) (now («curve_links» .entry)) ⌝ }
+{
+    if !sound_ways(face_links, entry.face_from, entry.faces) {
+        return false;
+    }
+    sound_ways(curve_links, entry.curve_from, entry.curves)
+}
+
+// Whether the final number at a place is one of the closed table's: 1 to the numbered count.
+pub fn number_stands(numbers: &[u32], most: u32, place: usize) -> bool
+    ensures { λ r. ⌜ r ≡ numberStandsIn (now (numbers .entry)) most place ⌝ }
+{
+    let n = at(numbers, place);
+    if n == 0 {
+        return false;
+    }
+    n <= most
+}
+
+// ---- the tick
+
+// Ticks a step, moves the stage on with its last one, and adds to the tallies. Not an entry.
+pub fn advance(
+    job: Job,
+    ticks: &mut [u32],
+    cx: &[u32],
+    cy: &[u32],
+    cz: &[u32],
+    step: usize,
+    faces: u32,
+    curves: u32,
+    points: u32,
+) -> Job
+    requires { ⌜ (step < length (now ticks)) × (intervals (now cx) * intervals (now cy) * intervals (now cz) ≤ 16384) ⌝ }
+    requires { ⌜ (job .faces + faces ≤ job .«face_entries») × (job .curves + curves ≤ job .«curve_entries») × (job .points + points ≤ job .«point_entries») ⌝ }
+    ensures { λ r. ⌜ Advanced job (now (cx .entry)) (now (cy .entry)) (now (cz .entry)) (now (ticks .entry)) (now (ticks .exit)) step faces curves points r ⌝ }
+{
+    ticks[step] = 1;
+    let stage = job.stage;
+    let next = next_stage(stage, ticks, cx, cy, cz);
+    Job {
+        stage: next,
+        faces: job.faces + faces,
+        curves: job.curves + curves,
+        points: job.points + points,
+        ..job
+    }
+}

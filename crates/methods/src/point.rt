@@ -1,0 +1,65 @@
+use crate::Joining;
+use crate::Stepped;
+use step_point::point;
+ghost use mathlib.Core.List.{[]};
+ghost use Rattle.joiner.specs.Calls.{point, answer};
+ghost use Rattle.joiner.specs.Entries.{CallStep};
+ghost use Rattle.job.specs.Jobs.{tablesOf, stateOf};
+ghost use Rattle.joiner.specs.Job.{Face, Curve, Point};
+ghost use Rattle.exports.specs.Exports.{anyTables};
+
+impl Joining {
+    // Finds the points of a block; the last one numbers them and closes the job.
+    pub fn point(
+        self,
+        cx: &[u32],
+        cy: &[u32],
+        cz: &[u32],
+        ticks: &mut [u32],
+        blocks: &[u32],
+        point_keys: &mut [u64],
+        point_rows: &mut [u32],
+        curve_numbers: &[u32],
+        point_numbers: &mut [u32],
+        point_firsts: &mut [u64],
+        point_listed: &mut [u32],
+        block: u32,
+        m: &[u32],
+    ) -> Stepped
+        ensures { λ r. ⌜ anyTables (λ t. CallStep
+            (stateOf (self .job) (now (cx .entry)) (now (cy .entry)) (now (cz .entry))
+            (tablesOf (now (ticks .entry)) (now (blocks .entry)) (t .links Face) (t .links Curve)
+            (t .keys Face) (t .keys Curve) (now («point_keys» .entry)) (t .rows Face) (t .rows Curve) (now («point_rows» .entry))
+            (t .numbers Face) (now («curve_numbers» .entry)) (now («point_numbers» .entry)) (t .firsts Face) (t .firsts Curve) (now («point_firsts» .entry))
+            (t .listed Face) (t .listed Curve) (now («point_listed» .entry))))
+            (point block (now (m .entry))) (answer (r .refusal) 0 [])
+            (stateOf (r .joining .job) (now (cx .entry)) (now (cy .entry)) (now (cz .entry))
+            (tablesOf (now (ticks .exit)) (now (blocks .entry)) (t .links Face) (t .links Curve)
+            (t .keys Face) (t .keys Curve) (now («point_keys» .exit)) (t .rows Face) (t .rows Curve) (now («point_rows» .exit))
+            (t .numbers Face) (now («curve_numbers» .entry)) (now («point_numbers» .exit)) (t .firsts Face) (t .firsts Curve) (now («point_firsts» .exit))
+            (t .listed Face) (t .listed Curve) (now («point_listed» .exit))))) ⌝ }
+    {
+        let r = point(
+            self.job,
+            cx,
+            cy,
+            cz,
+            ticks,
+            blocks,
+            curve_numbers,
+            point_keys,
+            point_rows,
+            point_numbers,
+            point_firsts,
+            point_listed,
+            block,
+            m,
+        );
+        let job = r.job;
+        let joining = Joining { job: job };
+        Stepped {
+            refusal: r.refusal,
+            joining: joining,
+        }
+    }
+}

@@ -1,0 +1,100 @@
+-- `pass_enrol::store_rows` meets its contract. The loop's invariant: the rows of the first i numbers are written.
+use Prim.Native.Nat.{suc, _-_, _*_, _/_, _%_, _≤_}
+use mathlib.Core.Path.{_≡_, refl}
+use native.Mathlib.Omega.{arith}
+use lib.ListN.{length}
+use borrow.Author.Needs.{needs}
+use Rattle.lists.specs.Lists.{overlay}
+use Rattle.blocks.specs.Blocks.{sizeOf}
+use Rattle.pass_enrol.specs.Enrolment.{rowIn}
+use Rattle.pass_enrol.proofs.RowLaws.{number-has, number-row, row-fits, row-entry, rows-none, rows-next, rows-all, row-room}
+use Rattle.pass_enrol.proofs.store_rows.Statement.{statement}
+use Rattle.pass_enrol.proofs.store_rows.Tie as tie
+
+abbrev Inv-loop : tie.InvT-loop
+Inv-loop rows₀ from count map keys nx ny nz block j shift width i₀ rows i =
+    (i ≤ count) × (length rows ≡ length rows₀) × (rows ≡ overlay rows₀ (width * from) (λ x. rowIn (sizeOf block) shift map j (suc (x / width)) (x % width)) (width * i))
+
+abbrev μ-loop : tie.MeasureT-loop
+μ-loop rows₀ from count map keys nx ny nz block j shift width i₀ rows i = count - i
+
+mul-width : tie.Need-mul-width Inv-loop μ-loop
+mul-width c = search needs
+
+sub-width : tie.Need-sub-width Inv-loop μ-loop
+sub-width c = search needs
+
+loop-holds : tie.Need-loop-holds Inv-loop μ-loop
+loop-holds c = (omega arith, refl, rows-none _ _ _ _)
+
+add-row-for : tie.Need-add-row-for Inv-loop μ-loop
+add-row-for c = search needs
+
+mul-row-for : tie.Need-mul-row-for Inv-loop μ-loop
+mul-row-for c = search needs
+
+shared-slice-read-row-for : tie.Need-shared-slice-read-row-for Inv-loop μ-loop
+shared-slice-read-row-for c = search needs
+
+row-for-requires : tie.Need-row-for-requires Inv-loop μ-loop
+row-for-requires c κs =
+    let p = c .before .before .before .before .before .before .pre in
+    (p .0, p .1, number-has (p .0) _ _ _ (p .2) _ (p .3 .at _ (omega arith)))
+
+add-put-row : tie.Need-add-put-row Inv-loop μ-loop
+add-put-row c = search needs
+
+mul-put-row : tie.Need-mul-put-row Inv-loop μ-loop
+mul-put-row c = omega (arith, row-room (6 - 2 * c .before .before .before .before .before .before .before .before .args .j) (c .before .before .before .before .before .before .before .before .args .from) (c .before .before .before .before .before .before .before .before .args .count) (c .before .before .before .before .loop .i) (omega arith), c .before .before .before .before .before .before .before .before .pre .4)
+
+put-row-requires : tie.Need-put-row-requires Inv-loop μ-loop
+put-row-requires c κs =
+    let a = c .before .before .before .before .before .before .before .before .args in
+    let p = c .before .before .before .before .before .before .before .before .pre in
+    let l = c .before .before .before .before .loop in (
+      omega (arith, row-room (6 - 2 * a .j) (a .from) (a .count) (l .i) (omega arith), p .4, l .inv .1),
+      omega arith,
+      row-fits (p .0) _ _ _ (p .2) _ (p .3 .at _ (omega arith)) _ (p .5) _ (c .before .row-for .ensures),
+    )
+
+add-i : tie.Need-add-i Inv-loop μ-loop
+add-i c = search needs
+
+loop-less : tie.Need-loop-less Inv-loop μ-loop
+loop-less c = search needs
+
+loop-again : tie.Need-loop-again Inv-loop μ-loop
+loop-again c =
+    let a = c .before .before .before .before .before .before .before .before .before .before .before .args in
+    let p = c .before .before .before .before .before .before .before .before .before .before .before .pre in
+    let i = c .before .before .before .before .before .before .before .loop .inv in
+    let r = number-row (p .0) _ _ _ (p .2) _ (p .3 .at _ (omega arith)) _ (c .before .before .before .before .row-for .ensures) in
+    (omega arith, omega arith, rows-next _ _ _ (λ x k. rowIn (sizeOf (a .block)) (a .shift) (a .map .now) (a .j) (suc x) k) _ _ _ _ (i .2) (c .before .before .put-row .ensures) (row-entry _ _ _ _ _ _ r))
+
+same-length : tie.Need-same-length Inv-loop μ-loop
+same-length c = search needs
+
+returns : tie.Need-returns Inv-loop μ-loop
+returns c = let i = c .before .loop .inv in rows-all _ _ _ _ _ _ _ (i .0) (omega arith) (i .2)
+
+pub store-rows-spec : {M : Type 1} → statement M
+store-rows-spec =
+    tie.close
+    (tie.spec
+    Inv-loop
+    μ-loop
+    mul-width
+    sub-width
+    loop-holds
+    add-row-for
+    mul-row-for
+    shared-slice-read-row-for
+    row-for-requires
+    add-put-row
+    mul-put-row
+    put-row-requires
+    add-i
+    loop-less
+    loop-again
+    same-length
+    returns)

@@ -1,0 +1,62 @@
+-- `pass_point::store_cell` meets its contract.
+use borrow.Author.Needs.{needs}
+use Rattle.pass_point.proofs.StoreLaws.{store-none, store-one, room-one}
+use Rattle.pass_point.proofs.store_cell.Statement.{statement}
+use Rattle.pass_point.proofs.store_cell.Tie as tie
+
+found-row-requires : tie.Need-found-row-requires
+found-row-requires c κs = search needs
+
+array-read-if1 : tie.Need-array-read-if1
+array-read-if1 c = search needs
+
+returns : tie.Need-returns
+returns c = store-none _ _ _ _ _ _ _ _ _ _ _ (c .before .found-row .ensures) (c .if1 .taken)
+
+mul-keys : tie.Need-mul-keys
+mul-keys c = search needs
+
+add-keys : tie.Need-add-keys
+add-keys c = search needs
+
+mul-keys-2 : tie.Need-mul-keys-2
+mul-keys-2 c = search needs
+
+slice-write-keys : tie.Need-slice-write-keys
+slice-write-keys c = room-one _ _ _ _ _ _ _ _ _ (c .before .found-row .ensures) (c .if1 .left) (c .before .before .before .before .before .before .pre .4) .0
+
+mul-put-row : tie.Need-mul-put-row
+mul-put-row c = search needs
+
+put-row-requires : tie.Need-put-row-requires
+put-row-requires c κs = room-one _ _ _ _ _ _ _ _ _ (c .before .before .found-row .ensures) (c .before .if1 .left) (c .before .before .before .before .before .before .before .pre .4) .1
+
+add-result : tie.Need-add-result
+add-result c = search needs
+
+same-length : tie.Need-same-length
+same-length c = search needs
+
+same-length-2 : tie.Need-same-length-2
+same-length-2 c = search needs
+
+returns-2 : tie.Need-returns-2
+returns-2 c = search store-one
+
+pub store-cell-spec : {M : Type 1} → statement M
+store-cell-spec =
+    tie.close
+    (tie.spec
+    found-row-requires
+    array-read-if1
+    returns
+    mul-keys
+    add-keys
+    mul-keys-2
+    slice-write-keys
+    mul-put-row
+    put-row-requires
+    add-result
+    same-length
+    same-length-2
+    returns-2)

@@ -1,0 +1,93 @@
+-- `pass_point::store_points` meets its contract. The loop's invariant: the points from line l on are left.
+use Prim.Native.Nat.{_-_, _≤_}
+use mathlib.Core.Path.{refl}
+use native.Mathlib.Omega.{arith}
+use borrow.Author.Needs.{needs}
+use Rattle.cells.specs.Box.{triple}
+use Rattle.cells.specs.Grid.{sides}
+use Rattle.lines.specs.Lines.{lineCount}
+use Rattle.lines.proofs.LineLaws.{lines-high}
+use Rattle.blocks.specs.Blocks.{sizeOf}
+use Rattle.pass_survey.proofs.SurveyLaws.{fromLine, from-next, from-last}
+use Rattle.pass_point.proofs.PointLaws.{found-all}
+use Rattle.pass_point.proofs.StoreLaws.{Left, left-all, left-none, left-room, left-next, all-room, stored-keys, stored-rows}
+use Rattle.pass_point.proofs.store_points.Statement.{statement}
+use Rattle.pass_point.proofs.store_points.Tie as tie
+
+abbrev Inv-loop : tie.InvT-loop
+Inv-loop keys₀ rows₀ at map nx ny nz block b numbers from lines n₀ l₀ keys rows n l =
+    (l ≤ lines) × Left (triple nx ny nz) block b map numbers from (fromLine (sizeOf block) 0 0) at keys₀ rows₀ (fromLine (sizeOf block) 0 l) n keys rows
+
+abbrev μ-loop : tie.MeasureT-loop
+μ-loop keys₀ rows₀ at map nx ny nz block b numbers from lines n₀ l₀ keys rows n l = lines - l
+
+mul-lines : tie.Need-mul-lines Inv-loop μ-loop
+mul-lines c = search needs
+
+sub-lines : tie.Need-sub-lines Inv-loop μ-loop
+sub-lines c = search needs
+
+mul-lines-2 : tie.Need-mul-lines-2 Inv-loop μ-loop
+mul-lines-2 c = search needs
+
+sub-lines-2 : tie.Need-sub-lines-2 Inv-loop μ-loop
+sub-lines-2 c = search needs
+
+mul-lines-3 : tie.Need-mul-lines-3 Inv-loop μ-loop
+unfolding lineCount sides
+mul-lines-3 c = omega (arith, lines-high (c .before .before .before .before .before .before .pre .0 .sized))
+
+loop-holds : tie.Need-loop-holds Inv-loop μ-loop
+loop-holds c = (omega arith, left-all _ _ _ _ _ _ _ _ _ _ _ refl)
+
+store-line-requires : tie.Need-store-line-requires Inv-loop μ-loop
+unfolding lineCount sides
+store-line-requires c κs =
+    let p = c .before .before .before .before .before .before .before .before .before .before .pre in
+    let i = c .before .before .before .loop .inv in
+    (p .0, p .1, p .2, omega arith, left-room _ _ _ _ _ _ _ _ _ _ _ _ _ _ (i .1) _ _ (from-next _ _ _ (omega arith)) (all-room _ _ _ _ _ _ _ (p .3)))
+
+add-l : tie.Need-add-l Inv-loop μ-loop
+unfolding lineCount sides
+add-l c = omega (arith, lines-high (c .before .before .before .before .before .before .before .before .before .before .before .before .before .before .before .pre .0 .sized))
+
+loop-less : tie.Need-loop-less Inv-loop μ-loop
+loop-less c = search needs
+
+loop-again : tie.Need-loop-again Inv-loop μ-loop
+unfolding lineCount sides
+loop-again c =
+    let i = c .before .before .before .before .before .before .before .before .loop .inv in
+    (omega arith, left-next _ _ _ _ _ _ _ _ _ _ _ _ _ _ (i .1) _ _ (from-next _ _ _ (omega arith)) _ _ _ (c .before .before .before .before .store-line .ensures))
+
+same-length : tie.Need-same-length Inv-loop μ-loop
+same-length c = search needs
+
+same-length-2 : tie.Need-same-length-2 Inv-loop μ-loop
+same-length-2 c = search needs
+
+returns : tie.Need-returns Inv-loop μ-loop
+unfolding lineCount sides
+returns c =
+    let s = left-none _ _ _ _ _ _ _ _ _ _ _ _ _ _ (c .before .loop .inv .1) (from-last _ _ _ (omega arith)) in
+    (stored-keys _ _ _ _ _ _ _ (found-all _ _ _ _) _ _ _ _ _ _ s, stored-rows _ _ _ _ _ _ _ (found-all _ _ _ _) _ _ _ _ _ _ s)
+
+pub store-points-spec : {M : Type 1} → statement M
+store-points-spec =
+    tie.close
+    (tie.spec
+    Inv-loop
+    μ-loop
+    mul-lines
+    sub-lines
+    mul-lines-2
+    sub-lines-2
+    mul-lines-3
+    loop-holds
+    store-line-requires
+    add-l
+    loop-less
+    loop-again
+    same-length
+    same-length-2
+    returns)

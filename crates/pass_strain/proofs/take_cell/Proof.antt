@@ -1,0 +1,28 @@
+-- `pass_strain::take_cell` meets its contract.
+use Rattle.pass_strain.proofs.SumLaws.{away-sums, away-counts, own-sums, own-counts}
+use borrow.Author.Needs.{needs}
+use Rattle.pass_strain.proofs.take_cell.Statement.{statement}
+use Rattle.pass_strain.proofs.take_cell.Tie as tie
+
+own-face-requires : tie.Need-own-face-requires
+own-face-requires c κs = search needs
+
+returns : tie.Need-returns
+returns c = let s = c .before .before .before .before .before .before .before .before .pre in (away-sums _ _ _ _ _ _ _ _ _ _ (c .before .own-face .ensures) (s .1) _ (c .if1 .taken), away-counts _ _ _ _ _ _ _ _ _ _ (c .before .own-face .ensures) (s .1) _ (c .if1 .taken))
+
+take-face-requires : tie.Need-take-face-requires
+take-face-requires c κs = search needs
+
+same-length : tie.Need-same-length
+same-length c = search needs
+
+same-length-2 : tie.Need-same-length-2
+same-length-2 c = search needs
+
+returns-2 : tie.Need-returns-2
+returns-2 c = (search own-sums, search own-counts)
+
+pub take-cell-spec : {M : Type 1} → statement M
+take-cell-spec =
+    tie.close
+    (tie.spec own-face-requires returns take-face-requires same-length same-length-2 returns-2)

@@ -1,0 +1,113 @@
+// What every step of a job learns of a map first: whether each voxel has a code, and the largest number of each order.
+use lines::first_x;
+ghost use mathlib.Core.Path.{_≡_};
+ghost use mathlib.Core.Bool.{_&&_};
+ghost use Prim.Native.Nat.{_+_, _-_, _*_, _≤_, _<_, max};
+ghost use lib.ListN.{length};
+ghost use Rattle.cells.specs.Box.{triple};
+ghost use Rattle.cells.specs.Extents.{Sized};
+ghost use Rattle.cells.specs.Grid.{cells};
+ghost use Rattle.labels.specs.Components.{largest};
+ghost use Rattle.lines.specs.Lines.{lineCount, lineY, lineZ};
+ghost use Rattle.joiner.specs.Declines.{filled};
+ghost use Rattle.pass_survey.specs.Surveys.{onLine, most, full, lineAdded};
+
+// Whether no voxel is 0, and the largest number of a face, a curve and a point.
+pub struct Survey {
+    pub filled: bool,
+    pub faces: u32,
+    pub curves: u32,
+    pub points: u32,
+}
+
+// The larger of two numbers.
+fn larger(m: u32, n: u32) -> u32
+    ensures { λ r. ⌜ r ≡ max m n ⌝ }
+{
+    if m < n { n } else { m }
+}
+
+// The larger of a number and the largest one of the cells of order j on line l, of which q axes are odd.
+fn larger_on(
+    map: &[u32],
+    nx: usize,
+    ny: usize,
+    nz: usize,
+    j: usize,
+    l: usize,
+    q: usize,
+    number: u32,
+) -> u32
+    requires { ⌜ Sized 64 (triple nx ny nz) × (length (now map) ≡ cells (triple nx ny nz)) × (j ≤ 2) × (l < lineCount (triple nx ny nz)) × (q ≡ lineY (triple nx ny nz) l + lineZ (triple nx ny nz) l) ⌝ }
+    ensures { λ r. ⌜ r ≡ max number (most (now (map .entry)) (onLine (triple nx ny nz) j l)) ⌝ }
+{
+    let w = 2 * nx - 1;
+    let start = first_x(3 - j, q, w);
+    let base = l * w;
+    let mut m = number;
+    let mut x = start;
+    while x < w {
+        m = larger(m, map[base + x]);
+        x += 2;
+    }
+    m
+}
+
+// Whether no voxel was 0 so far, and none is on line l, of which q axes are odd.
+fn full_on(map: &[u32], nx: usize, ny: usize, nz: usize, l: usize, q: usize, filled: bool) -> bool
+    requires { ⌜ Sized 64 (triple nx ny nz) × (length (now map) ≡ cells (triple nx ny nz)) × (l < lineCount (triple nx ny nz)) × (q ≡ lineY (triple nx ny nz) l + lineZ (triple nx ny nz) l) ⌝ }
+    ensures { λ r. ⌜ r ≡ (filled && full (now (map .entry)) (onLine (triple nx ny nz) 3 l)) ⌝ }
+{
+    if !filled {
+        return false;
+    }
+    let width = 2 * nx - 1;
+    let start = first_x(0, q, width);
+    let base = l * width;
+    let mut x = start;
+    while x < width {
+        if map[base + x] == 0 {
+            return false;
+        }
+        x += 2;
+    }
+    true
+}
+
+// Takes in line l. It has cells of two orders at most: the loops for the others end at once.
+fn take_line(map: &[u32], nx: usize, ny: usize, nz: usize, l: usize, s: Survey) -> Survey
+    requires { ⌜ Sized 64 (triple nx ny nz) × (length (now map) ≡ cells (triple nx ny nz)) × (l < lineCount (triple nx ny nz)) ⌝ }
+    ensures { λ r. ⌜ r ≡ lineAdded (triple nx ny nz) (now (map .entry)) l s ⌝ }
+{
+    let h = 2 * ny - 1;
+    let q = l % h % 2 + l / h % 2;
+    Survey {
+        filled: full_on(map, nx, ny, nz, l, q, s.filled),
+        faces: larger_on(map, nx, ny, nz, 2, l, q, s.faces),
+        curves: larger_on(map, nx, ny, nz, 1, l, q, s.curves),
+        points: larger_on(map, nx, ny, nz, 0, l, q, s.points),
+    }
+}
+
+// Surveys a map in one pass. Not an entry.
+pub fn survey_map(map: &[u32], nx: usize, ny: usize, nz: usize) -> Survey
+    requires { ⌜ Sized 64 (triple nx ny nz) × (length (now map) ≡ cells (triple nx ny nz)) ⌝ }
+    ensures filled { λ r. ⌜ r .filled ≡ filled (triple nx ny nz) (now (map .entry)) ⌝ }
+    ensures faces { λ r. ⌜ r .faces ≡ largest (triple nx ny nz) (now (map .entry)) 2 ⌝ }
+    ensures curves { λ r. ⌜ r .curves ≡ largest (triple nx ny nz) (now (map .entry)) 1 ⌝ }
+    ensures points { λ r. ⌜ r .points ≡ largest (triple nx ny nz) (now (map .entry)) 0 ⌝ }
+{
+    let lines = (2 * ny - 1) * (2 * nz - 1);
+    let mut s = Survey {
+        filled: true,
+        faces: 0,
+        curves: 0,
+        points: 0,
+    };
+    let mut l: usize = 0;
+    while l < lines {
+        s = take_line(map, nx, ny, nz, l, s);
+        l += 1;
+    }
+    s
+}

@@ -1,0 +1,20 @@
+-- `reading_cell::position_at` meets its contract.
+use borrow.Author.Needs.{needs}
+use Rattle.judge.proofs.StepLaws.{past}
+use Rattle.reading_cell.proofs.position_at.Statement.{statement}
+use Rattle.reading_cell.proofs.position_at.Tie as tie
+
+mul-result : tie.Need-mul-result
+mul-result c = search needs
+
+shared-slice-read-result : tie.Need-shared-slice-read-result
+shared-slice-read-result c = search needs
+
+returns : tie.Need-returns
+returns c = search needs
+
+returns-2 : tie.Need-returns-2
+returns-2 c = search past
+
+pub position-at-spec : {M : Type 1} → statement M
+position-at-spec = tie.close (tie.spec mul-result shared-slice-read-result returns returns-2)

@@ -1,0 +1,150 @@
+// The row reading of a closed job: the row of one face, curve or point, as a part of the lent table of its kind.
+use extents::off_size;
+use job::Job;
+use job::Stage;
+use job::row_tray;
+use job::same_stage;
+use job::tallies_fit;
+use refusals::NO_SUCH_PLACE;
+use refusals::OFF_SIZE;
+use refusals::STRAY_LABEL;
+use refusals::WRONG_STAGE;
+use refusals::WRONG_TRAY;
+ghost use mathlib.Core.Path.{_≡_};
+ghost use mathlib.Core.Bool.{_&&_};
+ghost use Prim.Native.Nat.{_-_, _*_, _≤_, _<_};
+ghost use lib.Dec.{leb, ltb};
+ghost use lib.ListN.{length, take, drop};
+ghost use Rattle.joiner.specs.Calls.{reading, answer};
+ghost use Rattle.joiner.specs.Entries.{CallStep};
+ghost use Rattle.job.specs.Jobs.{anyCuts, stateOf};
+ghost use Rattle.reading_row.specs.Inner.{kindOf, lent, numberedOf, traysFit, refusalOf, HasRow, rowIn};
+
+// What the tables hold.
+pub enum Kind {
+    Face,
+    Curve,
+    Point,
+}
+
+// The lengths of the tables of rows.
+struct Sizes {
+    faces: usize,
+    curves: usize,
+    points: usize,
+}
+
+// How many of a kind are numbered.
+fn numbered(job: Job, kind: Kind) -> u32
+    ensures { λ r. ⌜ r ≡ numberedOf job kind ⌝ }
+{
+    match kind {
+        Kind::Face => job.numbered_faces,
+        Kind::Curve => job.numbered_curves,
+        Kind::Point => job.numbered_points,
+    }
+}
+
+// Whether a kind has a component of this number.
+fn has_number(job: Job, kind: Kind, number: u32) -> bool
+    ensures { λ r. ⌜ r ≡ (ltb 0 number && leb number (numberedOf job kind)) ⌝ }
+{
+    if 0 < number {
+        return number <= numbered(job, kind);
+    }
+    false
+}
+
+// Whether the tables have the stated lengths.
+fn trays_fit(job: Job, sizes: Sizes) -> bool
+    ensures { λ r. ⌜ r ≡ traysFit (job .«face_entries») (job .«curve_entries») (job .«point_entries») sizes ⌝ }
+{
+    if !row_tray(2, job.face_entries, sizes.faces) {
+        return false;
+    }
+    if !row_tray(4, job.curve_entries, sizes.curves) {
+        return false;
+    }
+    row_tray(6, job.point_entries, sizes.points)
+}
+
+// The number of the refusal, the lowest that applies, and 0 for none.
+fn refuse(job: Job, kind: Kind, number: u32, sizes: Sizes) -> u32
+    ensures { λ r. ⌜ r ≡ refusalOf job kind number sizes ⌝ }
+{
+    if off_size(1024, job.nx as usize, job.ny as usize, job.nz as usize) {
+        return OFF_SIZE;
+    }
+    let now = job.stage;
+    if !same_stage(now, Stage::Closed) {
+        return WRONG_STAGE;
+    }
+    if !has_number(job, kind, number) {
+        return NO_SUCH_PLACE;
+    }
+    if !trays_fit(job, sizes) {
+        return WRONG_TRAY;
+    }
+    if !tallies_fit(job) {
+        return STRAY_LABEL;
+    }
+    0
+}
+
+// Row `number`, counted from 1, of a table whose rows have `width` places.
+fn row_of<'a>(rows: &'a [u32], width: u8, number: u32) -> &'a [u32]
+    requires { ⌜ (0 < number) × (width * number ≤ length (now rows)) ⌝ }
+    ensures { λ r. ⌜ now r ≡ take width (drop (width * (number - 1)) (now (rows .entry))) ⌝ }
+{
+    let w = width as usize;
+    let a = w * (number as usize - 1);
+    let e = a + w;
+    &rows[a..e]
+}
+
+// The row of a component: a part of the table of its kind.
+fn part<'a>(
+    kind: Kind,
+    number: u32,
+    face_listed: &'a [u32],
+    curve_listed: &'a [u32],
+    point_listed: &'a [u32],
+) -> &'a [u32]
+    requires { ⌜ HasRow kind number (now «face_listed») (now «curve_listed») (now «point_listed») ⌝ }
+    ensures { λ r. ⌜ now r ≡ rowIn kind number (now («face_listed» .entry)) (now («curve_listed» .entry)) (now («point_listed» .entry)) ⌝ }
+{
+    match kind {
+        Kind::Face => row_of(face_listed, 2, number),
+        Kind::Curve => row_of(curve_listed, 4, number),
+        Kind::Point => row_of(point_listed, 6, number),
+    }
+}
+
+// The row of one face, curve or point of a closed job: two, four or six places of the lent table of its kind. A refused reading gives an
+// empty part. The number of the refusal, 0 for none, is stored in `refusal`.
+pub fn row<'a>(
+    job: Job,
+    kind: Kind,
+    number: u32,
+    face_listed: &'a [u32],
+    curve_listed: &'a [u32],
+    point_listed: &'a [u32],
+    refusal: &mut u32,
+) -> &'a [u32]
+    ensures { λ r. ⌜ anyCuts (λ cx cy cz. CallStep
+        (stateOf job cx cy cz (lent (now («face_listed» .entry)) (now («curve_listed» .entry)) (now («point_listed» .entry))))
+        (reading (kindOf kind) number) (answer (now (refusal .exit)) 0 (now r))
+        (stateOf job cx cy cz (lent (now («face_listed» .entry)) (now («curve_listed» .entry)) (now («point_listed» .entry))))) ⌝ }
+{
+    let sizes = Sizes {
+        faces: face_listed.len(),
+        curves: curve_listed.len(),
+        points: point_listed.len(),
+    };
+    let declined = refuse(job, kind, number, sizes);
+    *refusal = declined;
+    if declined != 0 {
+        return &face_listed[..0];
+    }
+    part(kind, number, face_listed, curve_listed, point_listed)
+}

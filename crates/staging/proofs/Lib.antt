@@ -1,2 +1,0 @@
--- The laws that callers cite, and those of this crate's own proofs.
-pub mod StagingLaws

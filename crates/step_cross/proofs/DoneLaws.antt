@@ -1,0 +1,270 @@
+-- The tests by lengths are the joiner's, and what an accepted crossing step leaves is what the joiner asks for.
+-- Assumes nothing.
+use mathlib.Core.Path.{_≡_, refl, sym, ap, _∙_}
+use mathlib.Core.Bool.{Bool, true, false, not, cond, _&&_, _||_}
+use mathlib.Core.Logic.{_≢_}
+use mathlib.Core.List.{List, [], _∷_, _++_, map}
+use Prim.Native.Nat.{ℕ, _+_, _*_, _≤_, _<_}
+use native.Mathlib.Omega.{arith}
+use lib.Dec.{eqb}
+use lib.ListN.{getD, length}
+use borrow.Author.Tests.{eqb-true, eqb-false, not-true, not-false, ltb-true}
+use Rattle.lists.specs.Lists.{consecutive, allOf}
+use Rattle.lists.proofs.Cases.{and-first}
+use Rattle.cells.specs.Grid.{cells}
+use Rattle.cutting.specs.Cutting.{Cutting, blocks, blockExtents}
+use Rattle.cutting.proofs.CutLaws.{block-sized}
+use Rattle.joiner.specs.Job.{Kind, Face, Curve, Point, Stage, Points, Tables, State, tray, sameStage, stageNumber, fromOf, ticked, lengthsFit, blockTrays, linkTrays, foundTrays, numberTrays, firstTrays, listedTrays, kindTrays}
+use Rattle.joiner.specs.Job as joiner
+use Rattle.joiner.specs.Stages.{crossingStep, finished, stepsOf}
+use Rattle.joiner.specs.Calls.{cross, answer, mapsFit}
+use Rattle.joiner.specs.Declines.{adds, allLinksStand, lastCrossing, lentTo, mapStands, refusal, rowsStand, standsFor, talliesFit}
+use Rattle.joiner.specs.Entries.{CrossingDone, NumberedKind, CallStep, Merged, AtCrossing, Ticked, classOf, rowFinal}
+use Rattle.joiner.proofs.Accepted.{stage-same}
+use Rattle.theory_model.proofs.Facts.{Facts, facts, fits-at, tally-fits, faces-stand, curves-stand}
+use Rattle.pass_cross.proofs.MergeLaws.{crossing-merged}
+use Rattle.kind_numbers.proofs.NumberedLaws.{numbered-kind}
+use Rattle.job.specs.declared.Job.{Job}
+use Rattle.job.specs.Jobs.{byKind, toldOf, jobOf, stateOf}
+use Rattle.job.specs.Jobs as job
+use Rattle.job.proofs.JobLaws.{fits-append}
+use Rattle.stages.specs.Ticks.{tickedIn}
+use Rattle.judge.specs.Steps.{reachedOf, lateOf, entryOf, linksStandIn, mapStandsIn}
+use Rattle.judge.proofs.StepLaws.{or-none, or-six, six-none, refusal-reached, late-none, few-of, stands-is, links-is, ticked-by, numbered-kept, step-refused, step-accepted}
+use Rattle.step_cross.specs.declared.Totals.{Totals}
+use Rattle.step_cross.proofs.CrossingLaws.{map-length}
+use Rattle.step_cross.specs.Inner.{lent, sizesOf, kindFits, traysFit, crossedBut, lastIn, rowsIn, allReady, numberable, standIn, laterRefusal, refusalOf, Ready, JoinReady, TalliesFit, CurvesJoined, KindRoom, BothNumbered}
+
+and-three : (a b c d : Bool) → (a && (b && (c && d))) ≡ ((a && (b && c)) && d)
+and-three true true c d = refl
+and-three true false c d = refl
+and-three false b c d = refl
+
+-- one refusal decided in two steps
+in-two : (a b : Bool) → _≡_ {A = ℕ} (cond (not (a && b)) 8 0) (cond (not a) 8 (cond (not b) 8 0))
+in-two true b = refl
+in-two false b = refl
+
+all-map : (f : ℕ → Bool) (g : ℕ → ℕ) (l : List ℕ) → allOf f (map g l) ≡ allOf (λ x. f (g x)) l
+all-map f g [] = refl
+all-map f g (x ∷ l) = ap (λ (t : Bool). f (g x) && t) (all-map f g l)
+
+-- a test of stages
+is-stage : (s t : Stage) → sameStage s t ≡ true → s ≡ t
+unfolding sameStage
+is-stage s t e = stage-same s t (eqb-true _ _ e)
+
+not-stage : (s t : Stage) → sameStage s t ≡ false → s ≢ t
+unfolding sameStage
+not-stage s t e q = eqb-false (stageNumber s) (stageNumber t) e (ap stageNumber q)
+
+module _ (s : State) (b : ℕ) (m : List ℕ) where
+  abbrev k : Cutting
+  k = s .job .told .cutting
+
+  -- ---- the tests by lengths are the joiner's
+
+  trays-is : (mapsFit k (cross b m) && lengthsFit (lentTo (s .job .told) (s .tables) (cross b m)))
+      ≡ traysFit (blocks k) (blockExtents k b) (s .job .told .entries Face) (s .job .told .entries Curve) (sizesOf (s .tables) (length m))
+  unfolding blockTrays linkTrays kindTrays foundTrays numberTrays firstTrays listedTrays traysFit kindFits
+  trays-is =
+      let o = s .job .told in
+      let t = s .tables in
+      ap (λ (x : Bool). mapsFit k (cross b m) && x)
+      (fits-append (blockTrays o t) (linkTrays o t ++ kindTrays o t Face ++ kindTrays o t Curve) ∙
+      ap (λ (x : Bool). lengthsFit (blockTrays o t) && x)
+      (fits-append (linkTrays o t) (kindTrays o t Face ++ kindTrays o t Curve) ∙ ap (λ (x : Bool). lengthsFit (linkTrays o t) && x) (fits-append (kindTrays o t Face) (kindTrays o t Curve))))
+
+  last-is : lastCrossing s b ≡ lastIn (s .tables .ticks) b (blocks k)
+  unfolding lastCrossing finished stepsOf crossingStep ticked tickedIn lastIn crossedBut
+  last-is = all-map (λ i. eqb (6 * b + 4) i || ticked (s .tables) i) (λ x. 6 * x + 4) (consecutive 0 (blocks k))
+
+  all-is : cond (lastCrossing s b) (rowsStand s && allLinksStand s) true ≡ numberable (s .tables .ticks) b (blocks k) (s .tables .rows Curve) (s .job .told .entries Face) (s .job .sofar Face) (s .job .sofar Curve) (s .tables .links Face) (s .tables .links Curve)
+  unfolding numberable allReady rowsStand rowsIn allLinksStand
+  all-is = rw last-is
+
+  abbrev first-part : Bool
+  first-part =
+      standIn (talliesFit (s .job)) (blockExtents k b) (entryOf (s .tables .blocks) b) (s .job .told .entries Face) (s .job .told .entries Curve) m (s .tables .links Face) (s .tables .links Curve)
+
+  abbrev last-part : Bool
+  last-part =
+      numberable (s .tables .ticks) b (blocks k) (s .tables .rows Curve) (s .job .told .entries Face) (s .job .sofar Face) (s .job .sofar Curve) (s .tables .links Face) (s .tables .links Curve)
+
+  stand-is : (talliesFit (s .job) && standsFor s (cross b m)) ≡ (first-part && last-part)
+  unfolding standIn
+  stand-is = rw (stands-is s (blockExtents k b) b m, links-is s b, all-is)
+      (and-three (talliesFit (s .job)) (mapStandsIn (blockExtents k b) (entryOf (s .tables .blocks) b) (s .job .told .entries Face) (s .job .told .entries Curve) m)
+      (linksStandIn (entryOf (s .tables .blocks) b) (s .tables .links Face) (s .tables .links Curve)) last-part)
+
+  none-added : (κ : Kind) → adds s (cross b m) κ ≡ 0
+  unfolding adds
+  none-added κ = refl
+
+  adds-none : (κ : Kind) → adds s (cross b m) κ ≡ byKind 0 0 0 κ
+  unfolding adds
+  adds-none Face = refl
+  adds-none Curve = refl
+  adds-none Point = refl
+
+  pub refusal-is : refusal s (cross b m) ≡ refusalOf (s .job) (s .tables .ticks) (sizesOf (s .tables) (length m)) (s .tables .blocks) (s .tables .rows Curve) (s .tables .links Face) (s .tables .links Curve) b m
+  unfolding refusalOf laterRefusal lateOf ticked tickedIn crossingStep
+  refusal-is = refusal-reached s (cross b m) refl b (6 * b + 4) refl refl ∙ rw (← in-two first-part last-part, ← trays-is, ← stand-is, ← late-none s (cross b m) none-added false)
+
+  -- ---- what an accepted step has passed
+
+  module _ (acc : Ready s b m) where
+    call-facts : Facts s (cross b m)
+    call-facts = facts s (cross b m) (refusal-is ∙ acc .none)
+
+    at : (i : ℕ) → getD (lentTo (s .job .told) (s .tables) (cross b m)) i (tray 0 0) .has ≡ getD (lentTo (s .job .told) (s .tables) (cross b m)) i (tray 0 0) .states
+    at i = fits-at (lentTo (s .job .told) (s .tables) (cross b m)) i (call-facts .lent)
+
+    tally : (κ : Kind) → s .job .sofar κ ≤ s .job .told .entries κ
+    tally = tally-fits (s .job) (call-facts .tallies)
+
+    stands : mapStands s (blockExtents k b) b m ≡ true
+    stands = and-first (mapStands s (blockExtents k b) b m) _ (call-facts .stands)
+
+    trays-fit : traysFit (blocks k) (blockExtents k b) (s .job .told .entries Face) (s .job .told .entries Curve) (sizesOf (s .tables) (length m)) ≡ true
+    unfolding refusalOf laterRefusal
+    trays-fit =
+        let r = or-none (reachedOf (s .job) joiner.Crossing (s .tables .ticks) b (6 * b + 4)) _ (acc .none) .1 in
+        six-none _ (or-none _ _ (sym (or-six (traysFit (blocks k) (blockExtents k b) (s .job .told .entries Face) (s .job .told .entries Curve) (sizesOf (s .tables) (length m))) _) ∙ r) .0)
+
+    map-whole : length m ≡ cells (blockExtents k b)
+    map-whole = map-length (blockExtents k b) (blocks k) _ _ (sizesOf (s .tables) (length m)) _ refl (ap not trays-fit) (length m) refl
+
+    there : b < blocks k
+    there = ltb-true b (blocks k) (call-facts .at)
+
+    -- what the tick and the joins require
+    pub join-ready : s .job .told .entries Face < 4294967296 → s .job .told .entries Curve < 4294967296
+        → JoinReady k (s .tables .ticks) (s .tables .blocks) (s .tables .links Face) (s .tables .links Curve) b m
+    unfolding blockTrays linkTrays fromOf entryOf
+    join-ready hf hc =
+        let fs = faces-stand s (blockExtents k b) b m stands in
+        let cs = curves-stand s (blockExtents k b) b m stands in
+        record {
+          within = omega (arith, there, at 0);
+          few = few-of k (call-facts .cut);
+          trays = record {
+            sized = block-sized k (call-facts .cut) b there;
+            whole = map-whole;
+            low = omega arith;
+            high = omega arith;
+            upper = record { most = omega (arith, fs .most, fs .behind, tally Face, at 2); fits = omega (arith, at 2, hf) };
+            own = record { most = omega (arith, cs .most, cs .behind, tally Curve, at 3); fits = omega (arith, at 3, hc) };
+          };
+        }
+
+    pub tallies-are : TalliesFit (s .job)
+    tallies-are = record { each = tally }
+
+    -- what the numbering requires
+    pub faces-room : KindRoom 2 (s .job .sofar Face) (length (s .tables .keys Face)) (length (s .tables .numbers Face)) (length (s .tables .firsts Face)) (length (s .tables .listed Face))
+    unfolding blockTrays linkTrays kindTrays foundTrays numberTrays firstTrays listedTrays
+    faces-room =
+        record { on-keys = omega (arith, tally Face, at 4); on-numbers = omega (arith, tally Face, at 6); on-firsts = omega (arith, tally Face, at 7); on-listed = omega (arith, tally Face, at 8) }
+
+    pub curves-room : KindRoom 4 (s .job .sofar Curve) (length (s .tables .keys Curve)) (length (s .tables .numbers Curve)) (length (s .tables .firsts Curve)) (length (s .tables .listed Curve))
+    unfolding blockTrays linkTrays kindTrays foundTrays numberTrays firstTrays listedTrays
+    curves-room =
+        record { on-keys = omega (arith, tally Curve, at 9); on-numbers = omega (arith, tally Curve, at 11); on-firsts = omega (arith, tally Curve, at 12); on-listed = omega (arith, tally Curve, at 13) }
+
+  -- ---- the entry
+
+  module _ (number′ : ℕ) (e : number′ ≡ refusalOf (s .job) (s .tables .ticks) (sizesOf (s .tables) (length m)) (s .tables .blocks) (s .tables .rows Curve) (s .tables .links Face) (s .tables .links Curve) b m) where
+    told-number : number′ ≡ refusal s (cross b m)
+    told-number = e ∙ sym refusal-is
+
+    pub cross-refused : (number′ ≡ 0 → ⊥) → CallStep s (cross b m) (answer number′ 0 []) s
+    cross-refused = step-refused s (cross b m) number′ told-number
+
+    pub ready : number′ ≡ 0 → Ready s b m
+    ready z = record { none = sym e ∙ z }
+
+    pub cross-accepted : number′ ≡ 0 → (t : State) → CrossingDone s b m t → CallStep s (cross b m) (answer 0 0 []) t
+    cross-accepted z t d = step-accepted s (cross b m) number′ told-number z (answer 0 0 []) t refl (refl, d)
+
+-- ---- what an accepted step leaves
+
+-- The job with so many faces and curves numbered.
+abbrev numberedJob : Job → Totals → Job
+numberedJob q r =
+    record {
+      stage = q .stage;
+      nx = q .nx;
+      ny = q .ny;
+      nz = q .nz;
+      «face_entries» = q .«face_entries»;
+      «curve_entries» = q .«curve_entries»;
+      «point_entries» = q .«point_entries»;
+      faces = q .faces;
+      curves = q .curves;
+      points = q .points;
+      «numbered_faces» = r .faces;
+      «numbered_curves» = r .curves;
+      «numbered_points» = q .«numbered_points»;
+    }
+
+module _ (j : Job) (cx cy cz ticks ticks′ table fl fl′ cl cl′ fk ck fr cr fn cn ff cf fs cs : List ℕ) (b : ℕ) (m : List ℕ) (q : Job)
+    (J : CurvesJoined j cx cy cz ticks ticks′ table fl fl′ cl cl′ b m q) (t : Bool) (e : t ≡ sameStage (job.stageOf (q .stage)) Points) where
+  abbrev before : State
+  before = stateOf j cx cy cz (lent ticks table fl cl fk ck fr cr fn cn ff cf fs cs)
+
+  curves-merged : Merged cl cl′ (AtCrossing (toldOf j cx cy cz .cutting) (before .tables) b m)
+  unfolding fromOf entryOf
+  curves-merged = crossing-merged (toldOf j cx cy cz .cutting) (before .tables) b m _ fl _ _ cl cl′ refl refl refl refl (J .crossed .joined)
+
+  tally-kept : (κ : Kind) → jobOf q cx cy cz .numbered κ ≡ jobOf j cx cy cz .numbered κ
+  tally-kept = numbered-kept j cx cy cz ticks ticks′ (6 * b + 4) 0 0 0 q (J .moved)
+
+  abbrev after : List ℕ → List ℕ → List ℕ → List ℕ → List ℕ → List ℕ → Tables
+  after fn′ cn′ ff′ cf′ fs′ cs′ = lent ticks′ table fl′ cl′ fk ck fr cr fn′ cn′ ff′ cf′ fs′ cs′
+
+  step-done : (fn′ cn′ ff′ cf′ fs′ cs′ : List ℕ) → Ticked before (stateOf q cx cy cz (after fn′ cn′ ff′ cf′ fs′ cs′)) (cross b m) (6 * b + 4)
+  step-done fn′ cn′ ff′ cf′ fs′ cs′ =
+      ticked-by j cx cy cz (before .tables) (after fn′ cn′ ff′ cf′ fs′ cs′) (cross b m) (6 * b + 4) 0 0 0 (adds-none before b m) q (J .moved)
+
+  -- before the last
+  pub done-before : not t ≡ true → CrossingDone before b m (stateOf q cx cy cz (after fn cn ff cf fs cs))
+  unfolding crossingStep
+  done-before n = record {
+    step = step-done fn cn ff cf fs cs;
+    blocks = refl;
+    faces = J .crossed .kept;
+    curves = curves-merged;
+    found = λ κ. record { keys = refl; rows = refl };
+    last = λ p. absurd (not-stage (job.stageOf (q .stage)) Points (sym e ∙ not-true t n) p);
+    before = λ _. (record { numbered = tally-kept Face; numbers = refl; firsts = refl; listed = refl }, record { numbered = tally-kept Curve; numbers = refl; firsts = refl; listed = refl });
+    points = record { numbered = tally-kept Point; numbers = refl; firsts = refl; listed = refl };
+  }
+
+  -- the last
+  module _ (fn′ cn′ ff′ cf′ fs′ cs′ : List ℕ) (r : Totals) (N : BothNumbered fl′ cl′ fk ck fr cr fn fn′ cn cn′ ff ff′ cf cf′ fs fs′ cs cs′ (j .faces) (j .curves) r) where
+    abbrev closed : State
+    closed = stateOf (numberedJob q r) cx cy cz (after fn′ cn′ ff′ cf′ fs′ cs′)
+
+    faces-numbered : NumberedKind before closed Face (j .faces)
+    unfolding classOf rowFinal
+    faces-numbered = numbered-kind before closed Face (j .faces) (N .of-faces (closed .tables) Face refl (λ x. refl) refl refl (λ x. refl))
+
+    curves-numbered : NumberedKind before closed Curve (j .curves)
+    unfolding classOf
+    curves-numbered = numbered-kind before closed Curve (j .curves) (N .of-curves (closed .tables) refl (λ x. refl) refl refl)
+
+    pub done-last : not t ≡ false → CrossingDone before b m closed
+    unfolding crossingStep
+    done-last n =
+        let T = step-done fn′ cn′ ff′ cf′ fs′ cs′ in
+        record {
+          step = record { told = T .told; ticks = T .ticks; stage = T .stage; sofar = T .sofar };
+          blocks = refl;
+          faces = J .crossed .kept;
+          curves = curves-merged;
+          found = λ κ. record { keys = refl; rows = refl };
+          last = λ _. (faces-numbered, curves-numbered);
+          before = λ p. absurd (p (is-stage (job.stageOf (q .stage)) Points (sym e ∙ not-false t n)));
+          points = record { numbered = tally-kept Point; numbers = refl; firsts = refl; listed = refl };
+        }

@@ -1,0 +1,13 @@
+-- `step_cross::face_in` meets its contract.
+use borrow.Author.Needs.{needs}
+use Rattle.step_cross.proofs.face_in.Statement.{statement}
+use Rattle.step_cross.proofs.face_in.Tie as tie
+
+at-requires : tie.Need-at-requires
+at-requires c κs = search needs
+
+returns : tie.Need-returns
+returns c = cc
+
+pub face-in-spec : {M : Type 1} → statement M
+face-in-spec = tie.close (tie.spec at-requires returns)

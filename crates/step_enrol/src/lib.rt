@@ -1,0 +1,371 @@
+// The enrolment of a block: what a job takes in of its map.
+use blocks::Block;
+use blocks::block_at;
+use blocks::block_count;
+use job::Job;
+use job::Stage;
+use job::block_trays;
+use job::found_trays;
+use job::link_trays;
+use job::tallies_fit;
+use judge::advance;
+use judge::map_fits;
+use judge::reached;
+use lists::write_zeros;
+use pass_enrol::store_keys;
+use pass_enrol::store_rows;
+use pass_survey::Survey;
+use pass_survey::survey_map;
+use refusals::STRAY_LABEL;
+use refusals::TABLE_FULL;
+use refusals::WRONG_TRAY;
+ghost use mathlib.Core.Path.{_≡_};
+ghost use mathlib.Core.Bool.{true};
+ghost use mathlib.Core.List.{[]};
+ghost use Prim.Native.Nat.{_+_, _*_, _≤_, _<_};
+ghost use lib.Dec.{ltb};
+ghost use lib.ListN.{length};
+ghost use Rattle.lists.specs.Lists.{overlay};
+ghost use Rattle.cells.specs.Box.{triple};
+ghost use Rattle.cutting.specs.Cutting.{blocks, goodCut};
+ghost use Rattle.joiner.specs.Calls.{enrol, answer, full};
+ghost use Rattle.joiner.specs.Entries.{EnrolDone, CallStep};
+ghost use Rattle.blocks.specs.Blocks.{cutOf};
+ghost use Rattle.job.specs.Jobs.{byKind, anyCuts, toldOf, jobOf, tablesOf, stateOf};
+ghost use Rattle.step_enrol.specs.Inner.{tablesFit, lentFit, earlyOf, lateOf, Judged, KindReady, KindDone, blockNumbers, Ready, Planned};
+
+// What an enrolment answers: the number of its refusal, 0 for none, and the job.
+pub struct Enrolled {
+    pub refusal: u32,
+    pub job: Job,
+}
+
+// The lengths of the tables.
+struct Sizes {
+    ticks: usize,
+    blocks: usize,
+    face_links: usize,
+    curve_links: usize,
+    face_keys: usize,
+    curve_keys: usize,
+    face_rows: usize,
+    curve_rows: usize,
+}
+
+// The number of the refusal, and the block's largest numbers where it is 0.
+struct Plan {
+    refusal: u32,
+    faces: u32,
+    curves: u32,
+    points: u32,
+}
+
+// ---- what is declined
+
+// Whether every table has the stated length.
+fn tables_fit(blocks: usize, job: Job, sizes: Sizes) -> bool
+    requires { ⌜ blocks ≤ 16384 ⌝ }
+    ensures { λ r. ⌜ r ≡ tablesFit blocks (job .«face_entries») (job .«curve_entries») sizes ⌝ }
+{
+    if !block_trays(blocks, sizes.ticks, sizes.blocks) {
+        return false;
+    }
+    if !link_trays(
+        job.face_entries,
+        job.curve_entries,
+        sizes.face_links,
+        sizes.curve_links,
+    ) {
+        return false;
+    }
+    if !found_trays(2, job.face_entries, sizes.face_keys, sizes.face_rows) {
+        return false;
+    }
+    found_trays(4, job.curve_entries, sizes.curve_keys, sizes.curve_rows)
+}
+
+// Whether a map of this length is one of block b, and every table has the stated length.
+fn lent_fit(
+    job: Job,
+    cx: &[u32],
+    cy: &[u32],
+    cz: &[u32],
+    sizes: Sizes,
+    b: u32,
+    length: usize,
+) -> bool
+    requires { ⌜ (goodCut (cutOf (job .nx) (job .ny) (job .nz) (now cx) (now cy) (now cz)) ≡ true) × (b < blocks (cutOf (job .nx) (job .ny) (job .nz) (now cx) (now cy) (now cz))) ⌝ }
+    ensures { λ r. ⌜ r ≡ lentFit (toldOf job (now (cx .entry)) (now (cy .entry)) (now (cz .entry))) sizes b length ⌝ }
+{
+    let block = block_at(cx, cy, cz, b as usize);
+    if !map_fits(block, length) {
+        return false;
+    }
+    let blocks = block_count(cx, cy, cz);
+    tables_fit(blocks, job, sizes)
+}
+
+// The refusals that need no look at the map, 0 for none.
+fn early(
+    job: Job,
+    cx: &[u32],
+    cy: &[u32],
+    cz: &[u32],
+    ticks: &[u32],
+    sizes: Sizes,
+    b: u32,
+    length: usize,
+) -> u32
+    ensures { λ r. ⌜ r ≡ earlyOf (jobOf job (now (cx .entry)) (now (cy .entry)) (now (cz .entry))) (now (ticks .entry)) sizes b length ⌝ }
+{
+    let step = 6 * (b as usize);
+    let number = reached(job, cx, cy, cz, ticks, Stage::Enrol, b, step);
+    if number != 0 {
+        return number;
+    }
+    if !lent_fit(job, cx, cy, cz, sizes, b, length) {
+        return WRONG_TRAY;
+    }
+    0
+}
+
+// Whether with so many more a tally would exceed its table's entries.
+fn overfull(entries: u32, sofar: u32, more: u32) -> bool
+    ensures { λ r. ⌜ r ≡ ltb entries (sofar + more) ⌝ }
+{
+    (sofar as u64) + (more as u64) > entries as u64
+}
+
+// Whether the faces or the curves would exceed their entries. No points are added.
+fn full(job: Job, faces: u32, curves: u32) -> bool
+    requires { ⌜ job .points ≤ job .«point_entries» ⌝ }
+    ensures { λ r. ⌜ r ≡ full (byKind (job .«face_entries») (job .«curve_entries») (job .«point_entries»)) (byKind (job .faces) (job .curves) (job .points)) (byKind faces curves 0) ⌝ }
+{
+    if overfull(job.face_entries, job.faces, faces) {
+        return true;
+    }
+    overfull(job.curve_entries, job.curves, curves)
+}
+
+// The refusals by the tallies and the map, 0 for none.
+fn late(job: Job, survey: Survey) -> u32
+    ensures { λ r. ⌜ anyCuts (λ cx cy cz. r ≡ lateOf (jobOf job cx cy cz) (survey .filled) (byKind (survey .faces) (survey .curves) 0)) ⌝ }
+{
+    if !tallies_fit(job) {
+        return STRAY_LABEL;
+    }
+    if !survey.filled {
+        return STRAY_LABEL;
+    }
+    if full(job, survey.faces, survey.curves) {
+        return TABLE_FULL;
+    }
+    0
+}
+
+// The number of the refusal, the lowest that applies, and 0 for none; then the block's largest numbers too.
+fn judge(
+    job: Job,
+    cx: &[u32],
+    cy: &[u32],
+    cz: &[u32],
+    ticks: &[u32],
+    sizes: Sizes,
+    b: u32,
+    m: &[u32],
+) -> Plan
+    ensures { λ r. ⌜ Judged (jobOf job (now (cx .entry)) (now (cy .entry)) (now (cz .entry))) (now (ticks .entry)) sizes b (now (m .entry)) r ⌝ }
+{
+    let number = early(job, cx, cy, cz, ticks, sizes, b, m.len());
+    if number != 0 {
+        return Plan {
+            refusal: number,
+            faces: 0,
+            curves: 0,
+            points: 0,
+        };
+    }
+    let block = block_at(cx, cy, cz, b as usize);
+    let survey = survey_map(m, block.nx, block.ny, block.nz);
+    Plan {
+        refusal: late(job, survey),
+        faces: survey.faces,
+        curves: survey.curves,
+        points: survey.points,
+    }
+}
+
+// ---- what is stored
+
+// Writes the five numbers of block b: its largest ones, and the places of its first face and first curve.
+fn put_block(blocks: &mut [u32], b: usize, plan: Plan, face: u32, curve: u32)
+    requires { ⌜ (b < 16384) × (5 * b + 5 ≤ length (now blocks)) ⌝ }
+    ensures { λ _. ⌜ now (blocks .exit) ≡ overlay (now (blocks .entry)) (5 * b) (blockNumbers plan face curve) 5 ⌝ }
+{
+    let at = 5 * b;
+    blocks[at] = plan.faces;
+    blocks[at + 1] = plan.curves;
+    blocks[at + 2] = plan.points;
+    blocks[at + 3] = face;
+    blocks[at + 4] = curve;
+}
+
+// Enrols the components of order j: none is joined to another, and each has its key and its row.
+fn enrol_kind(
+    links: &mut [u32],
+    keys: &mut [u64],
+    rows: &mut [u32],
+    from: usize,
+    count: usize,
+    m: &[u32],
+    nx: u32,
+    ny: u32,
+    nz: u32,
+    block: Block,
+    b: usize,
+    j: usize,
+    shift: u32,
+)
+    requires { ⌜ KindReady (triple nx ny nz) block b (now m) j shift from count (length (now links)) (length (now keys)) (length (now rows)) ⌝ }
+    ensures { λ _. ⌜ KindDone (triple nx ny nz) block b (now (m .entry)) j shift from count (now (links .entry)) (now (keys .entry)) (now (rows .entry)) (now (links .exit)) (now (keys .exit)) (now (rows .exit)) ⌝ }
+{
+    write_zeros(links, from, count);
+    store_keys(keys, from, count, m, nx, ny, nz, block, b, j);
+    store_rows(rows, from, count, m, keys, nx, ny, nz, block, j, shift);
+}
+
+// Stores what an accepted enrolment leaves.
+fn act(
+    job: Job,
+    cx: &[u32],
+    cy: &[u32],
+    cz: &[u32],
+    ticks: &mut [u32],
+    blocks: &mut [u32],
+    face_links: &mut [u32],
+    curve_links: &mut [u32],
+    face_keys: &mut [u64],
+    curve_keys: &mut [u64],
+    face_rows: &mut [u32],
+    curve_rows: &mut [u32],
+    block: u32,
+    m: &[u32],
+    plan: Plan,
+) -> Job
+    requires { ⌜ Ready (stateOf job (now cx) (now cy) (now cz)
+        (tablesOf (now ticks) (now blocks) (now «face_links») (now «curve_links») (now «face_keys») (now «curve_keys») [] (now «face_rows») (now «curve_rows») [] [] [] [] [] [] [] [] [] []))
+        block (now m) × Planned (jobOf job (now cx) (now cy) (now cz)) block (now m) plan ⌝ }
+    ensures { λ r. ⌜ EnrolDone
+        (stateOf job (now (cx .entry)) (now (cy .entry)) (now (cz .entry))
+        (tablesOf (now (ticks .entry)) (now (blocks .entry)) (now («face_links» .entry)) (now («curve_links» .entry)) (now («face_keys» .entry)) (now («curve_keys» .entry)) []
+        (now («face_rows» .entry)) (now («curve_rows» .entry)) [] [] [] [] [] [] [] [] [] []))
+        block (now (m .entry))
+        (stateOf r (now (cx .entry)) (now (cy .entry)) (now (cz .entry))
+        (tablesOf (now (ticks .exit)) (now (blocks .exit)) (now («face_links» .exit)) (now («curve_links» .exit)) (now («face_keys» .exit)) (now («curve_keys» .exit)) []
+        (now («face_rows» .exit)) (now («curve_rows» .exit)) [] [] [] [] [] [] [] [] [] [])) ⌝ }
+{
+    let b = block as usize;
+    let step = 6 * b;
+    let faces = job.faces as usize;
+    let curves = job.curves as usize;
+    let more_faces = plan.faces as usize;
+    let more_curves = plan.curves as usize;
+    let r = block_at(cx, cy, cz, b);
+    put_block(blocks, b, plan, job.faces, job.curves);
+    enrol_kind(
+        face_links,
+        face_keys,
+        face_rows,
+        faces,
+        more_faces,
+        m,
+        job.nx,
+        job.ny,
+        job.nz,
+        r,
+        b,
+        2,
+        0,
+    );
+    enrol_kind(
+        curve_links,
+        curve_keys,
+        curve_rows,
+        curves,
+        more_curves,
+        m,
+        job.nx,
+        job.ny,
+        job.nz,
+        r,
+        b,
+        1,
+        job.faces,
+    );
+    advance(job, ticks, cx, cy, cz, step, plan.faces, plan.curves, 0)
+}
+
+// Enrols a block with its map.
+pub fn enrol(
+    job: Job,
+    cx: &[u32],
+    cy: &[u32],
+    cz: &[u32],
+    ticks: &mut [u32],
+    blocks: &mut [u32],
+    face_links: &mut [u32],
+    curve_links: &mut [u32],
+    face_keys: &mut [u64],
+    curve_keys: &mut [u64],
+    face_rows: &mut [u32],
+    curve_rows: &mut [u32],
+    block: u32,
+    m: &[u32],
+) -> Enrolled
+    ensures { λ r. ⌜ CallStep
+        (stateOf job (now (cx .entry)) (now (cy .entry)) (now (cz .entry))
+        (tablesOf (now (ticks .entry)) (now (blocks .entry)) (now («face_links» .entry)) (now («curve_links» .entry)) (now («face_keys» .entry)) (now («curve_keys» .entry)) []
+        (now («face_rows» .entry)) (now («curve_rows» .entry)) [] [] [] [] [] [] [] [] [] []))
+        (enrol block (now (m .entry))) (answer (r .refusal) 0 [])
+        (stateOf (r .job) (now (cx .entry)) (now (cy .entry)) (now (cz .entry))
+        (tablesOf (now (ticks .exit)) (now (blocks .exit)) (now («face_links» .exit)) (now («curve_links» .exit)) (now («face_keys» .exit)) (now («curve_keys» .exit)) []
+        (now («face_rows» .exit)) (now («curve_rows» .exit)) [] [] [] [] [] [] [] [] [] [])) ⌝ }
+{
+    let sizes = Sizes {
+        ticks: ticks.len(),
+        blocks: blocks.len(),
+        face_links: face_links.len(),
+        curve_links: curve_links.len(),
+        face_keys: face_keys.len(),
+        curve_keys: curve_keys.len(),
+        face_rows: face_rows.len(),
+        curve_rows: curve_rows.len(),
+    };
+    let plan = judge(job, cx, cy, cz, ticks, sizes, block, m);
+    if plan.refusal != 0 {
+        return Enrolled {
+            refusal: plan.refusal,
+            job: job,
+        };
+    }
+    Enrolled {
+        refusal: 0,
+        job: act(
+            job,
+            cx,
+            cy,
+            cz,
+            ticks,
+            blocks,
+            face_links,
+            curve_links,
+            face_keys,
+            curve_keys,
+            face_rows,
+            curve_rows,
+            block,
+            m,
+            plan,
+        ),
+    }
+}

@@ -1,0 +1,255 @@
+-- The tests by lengths are the joiner's, and what an accepted point step leaves is what the joiner asks for.
+-- Assumes nothing.
+use mathlib.Core.Path.{_≡_, refl, sym, ap, _∙_, subst}
+use mathlib.Core.Bool.{Bool, true, false, not, cond, _&&_, true≢false, false≢true}
+use mathlib.Core.Logic.{_≢_}
+use mathlib.Core.List.{List, [], _++_}
+use Prim.Native.Nat.{ℕ, _+_, _*_, _/_, _%_, _≤_, _<_}
+use native.Mathlib.Omega.{arith}
+use lib.Dec.{eqb, ltb}
+use lib.ListN.{length, getD}
+use borrow.Author.Tests.{eqb-true, eq-eqb, ne-eqb, le-ltb, not-true, not-false}
+use Rattle.lists.specs.Lists.{overlay}
+use Rattle.lists.proofs.Cases.{by-test, and-first}
+use Rattle.lists.proofs.Overlay.{length-overlay}
+use Rattle.cells.specs.Box.{triple}
+use Rattle.cells.specs.Grid.{cells}
+use Rattle.cutting.specs.Cutting.{Cutting, intervals, blocks, blockExtents}
+use Rattle.joiner.specs.Job.{Kind, Face, Curve, Point, Points, Closed, State, sameStage, stageNumber, keyOf, countOf, fromOf, lengthsFit, ticked, blockTrays, numberTrays, foundTrays, firstTrays, listedTrays, kindTrays}
+use Rattle.joiner.specs.Job as joiner
+use Rattle.joiner.specs.Stages.{pointStep}
+use Rattle.joiner.specs.Calls.{point, answer, mapsFit, full, overfull}
+use Rattle.joiner.specs.Declines.{adds, curvesStand, lentTo, mapStands, numberStands, pointCells, refusal, stray, talliesFit}
+use Rattle.joiner.specs.Entries.{PointDone, CallStep, Ticked, rowFinal}
+use Rattle.joiner.proofs.Accepted.{stage-same}
+use Rattle.theory_model.proofs.Facts.{Facts, facts, fits-at, tally-fits, points-room}
+use Rattle.ranking.proofs.HeadLaws.{class-point}
+use Rattle.blocks.specs.Blocks.{Tells, sizeOf, anyExtents}
+use Rattle.blocks.specs.declared.Block.{Block}
+use Rattle.pass_enrol.specs.Enrolment.{Lies, positionIn}
+use Rattle.pass_enrol.proofs.KeyLaws.{lies-told}
+use Rattle.pass_point.specs.Findings.{foundCells, foundRow, Room}
+use Rattle.pass_point.proofs.FoundLaws.{found-cells, found-room, found-keys, found-rows}
+use Rattle.kind_numbers.specs.Numbered.{Numbered, anyCopied}
+use Rattle.kind_numbers.proofs.NumberedLaws.{numbered-kind}
+use Rattle.job.specs.declared.Job.{Job}
+use Rattle.job.specs.Jobs.{byKind, stageOf, toldOf, jobOf, stateOf}
+use Rattle.job.proofs.JobLaws.{fits-append}
+use Rattle.stages.specs.Ticks.{tickedIn}
+use Rattle.judge.specs.declared.Entry.{Entry}
+use Rattle.judge.specs.Steps.{reachedOf, entryOf, numberStandsIn, Advanced}
+use Rattle.judge.specs.Steps as steps
+use Rattle.judge.proofs.StepLaws.{or-none, or-six, six-none, refusal-reached, reached-passed, Passed, few-of, count-few, stands-is, ticked-by, numbered-kept, step-refused, step-accepted}
+use Rattle.step_point.specs.declared.Plan.{Plan}
+use Rattle.step_point.specs.Inner.{lent, sizesOf, traysFit, curvesIn, standIn, foundBy, lateOf, foundOf, refusalOf, Plans, Ready, withNumbered, Closes}
+
+-- ---- the ways of `close`
+
+module _ (j : Job) (n : ℕ) (keys rows numbers firsts listed : List ℕ) (u : Bool) (e : u ≡ sameStage (stageOf (j .stage)) Closed) where
+  pub close-before : not u ≡ true → Closes j n keys rows numbers numbers firsts firsts listed listed j
+  close-before q = record { is = refl; last = λ y. absurd (false≢true (sym (not-true u q) ∙ e ∙ y)); before = λ _. (refl, refl, refl, refl) }
+
+  pub close-last : not u ≡ false → (total : ℕ) (numbers′ firsts′ listed′ : List ℕ)
+      → anyCopied [] keys rows 6 (λ t κ. Numbered t κ n total numbers numbers′ firsts firsts′ listed listed′)
+      → Closes j n keys rows numbers numbers′ firsts firsts′ listed listed′ (withNumbered j total)
+  unfolding rowFinal
+  close-last q total numbers′ firsts′ listed′ N = record {
+    is = refl;
+    last = λ _ t x r. N t Point x (class-point t) r refl (λ _. refl);
+    before = λ y. absurd (true≢false (sym (not-false u q) ∙ e ∙ y));
+  }
+
+-- a test of stages
+is-closed : (s : joiner.Stage) → s ≡ Closed → sameStage s Closed ≡ true
+unfolding sameStage
+is-closed s e = eq-eqb _ _ (ap stageNumber e)
+
+not-closed : (s : joiner.Stage) → s ≢ Closed → sameStage s Closed ≡ false
+unfolding sameStage
+not-closed s n = ne-eqb _ _ (λ e. n (stage-same s Closed e))
+
+-- ---- the tests are the joiner's
+
+six-passed : (a : Bool) (x : ℕ) → _≡_ {A = ℕ} (cond (not a) 6 x) 0 → a ≡ true
+six-passed a x h = six-none a (or-none (cond (not a) 6 0) x (sym (or-six a x) ∙ h) .0)
+
+-- 10 by the points alone, where the tallies fit
+full-points : (s : State) (b : ℕ) (m : List ℕ) → talliesFit (s .job) ≡ true
+    → full (s .job .told .entries) (s .job .sofar) (adds s (point b m)) ≡ ltb (s .job .told .entries Point) (s .job .sofar Point + adds s (point b m) Point)
+unfolding full overfull adds
+full-points s b m t =
+    let h : (κ : Kind) → s .job .sofar κ ≤ s .job .told .entries κ = tally-fits (s .job) t in
+    rw (le-ltb (s .job .told .entries Face) (s .job .sofar Face + 0) (omega (arith, h Face)), le-ltb (s .job .told .entries Curve) (s .job .sofar Curve + 0) (omega (arith, h Curve)))
+
+module _ (j : Job) (cx cy cz ticks table curves keys rows numbers firsts listed : List ℕ) (b : ℕ) (m : List ℕ) where
+  abbrev k : Cutting
+  k = toldOf j cx cy cz .cutting
+
+  abbrev before : State
+  before = stateOf j cx cy cz (lent ticks table curves keys rows numbers firsts listed)
+
+  trays-is : (mapsFit k (point b m) && lengthsFit (lentTo (before .job .told) (before .tables) (point b m)))
+      ≡ traysFit (blocks k) (blockExtents k b) (j .«curve_entries») (j .«point_entries») (sizesOf ticks table curves keys rows numbers firsts listed) (length m)
+  unfolding blockTrays numberTrays kindTrays foundTrays firstTrays listedTrays traysFit
+  trays-is =
+      let o = before .job .told in
+      let t = before .tables in
+      ap (λ (x : Bool). mapsFit k (point b m) && x)
+      (fits-append (blockTrays o t) (numberTrays o t Curve ++ kindTrays o t Point) ∙ ap (λ (x : Bool). lengthsFit (blockTrays o t) && x) (fits-append (numberTrays o t Curve) (kindTrays o t Point)))
+
+  place-is : fromOf (before .tables) Curve b ≡ entryOf table b .«curve_from»
+  unfolding fromOf entryOf
+  place-is = refl
+
+  found-is : foundOf k table curves b m ≡ adds before (point b m) Point
+  unfolding foundOf foundBy adds
+  found-is = ap length (found-cells k (before .tables) b m refl refl place-is)
+
+  curves-is : curvesStand before b ≡ curvesIn curves (before .job .numbered Curve) (entryOf table b .«curve_from») (entryOf table b .curves)
+  unfolding curvesStand curvesIn numberStands numberStandsIn fromOf countOf entryOf
+  curves-is = refl
+
+  late-is : _≡_ {A = ℕ} (cond (stray before (point b m)) 8 (cond (full (before .job .told .entries) (before .job .sofar) (adds before (point b m))) 10 0))
+      (lateOf (before .job) (blockExtents k b) (entryOf table b) curves m (foundOf k table curves b m))
+  unfolding stray lateOf standIn
+  late-is =
+      rw (← stands-is before (blockExtents k b) b m, ← curves-is, found-is)
+      (by-test (talliesFit (before .job) && (mapStands before (blockExtents k b) b m && curvesStand before b))
+      (λ t. rw (t, full-points before b m (and-first (talliesFit (before .job)) (mapStands before (blockExtents k b) b m && curvesStand before b) t)))
+      (λ t. rw t))
+
+  pub refusal-is : refusal before (point b m) ≡ refusalOf j cx cy cz ticks (sizesOf ticks table curves keys rows numbers firsts listed) table curves b m
+  unfolding refusalOf steps.lateOf ticked tickedIn pointStep
+  refusal-is = refusal-reached before (point b m) refl b (6 * b + 5) refl refl ∙ rw (← trays-is, ← late-is)
+
+  -- ---- what an accepted step has passed
+
+  module _ (points : ℕ) (R : Ready j cx cy cz (lent ticks table curves keys rows numbers firsts listed) b m points) where
+    call-facts : Facts before (point b m)
+    call-facts = facts before (point b m) (R .none)
+
+    abbrev trays : Bool
+    trays = traysFit (blocks k) (blockExtents k b) (j .«curve_entries») (j .«point_entries») (sizesOf ticks table curves keys rows numbers firsts listed) (length m)
+
+    rungs : (reachedOf (jobOf j cx cy cz) Points ticks b (6 * b + 5) ≡ 0) × (trays ≡ true)
+    unfolding refusalOf
+    rungs =
+        let n = or-none (reachedOf (jobOf j cx cy cz) Points ticks b (6 * b + 5)) (cond (not trays) 6 (lateOf (jobOf j cx cy cz) (blockExtents k b) (entryOf table b) curves m (foundOf k table curves b m))) (sym refusal-is ∙ R .none) in
+        (n .0, six-passed trays _ (n .1))
+
+    passed : Passed (jobOf j cx cy cz) Points × (b < blocks k)
+    passed = reached-passed (jobOf j cx cy cz) Points ticks b (6 * b + 5) (rungs .0)
+
+    map-size : length m ≡ cells (blockExtents k b)
+    unfolding traysFit
+    map-size = eqb-true _ _ (and-first (eqb (length m) (cells (blockExtents k b))) _ (rungs .1))
+
+    record Lengths : Type 0 where
+      on-ticks : length ticks ≡ 6 * blocks k
+      on-keys : length keys ≡ j .«point_entries»
+      on-rows : length rows ≡ 6 * j .«point_entries»
+      on-numbers : length numbers ≡ j .«point_entries»
+      on-firsts : length firsts ≡ j .«point_entries»
+      on-listed : length listed ≡ 6 * j .«point_entries»
+
+    lengths : Lengths
+    unfolding blockTrays numberTrays kindTrays foundTrays firstTrays listedTrays
+    lengths =
+        let at : (i : ℕ) → _ = λ i. fits-at (lentTo (before .job .told) (before .tables) (point b m)) i (call-facts .lent) in
+        record { on-ticks = at 0; on-keys = at 3; on-rows = at 4; on-numbers = at 5; on-firsts = at 6; on-listed = at 7 }
+
+    room : j .points + points ≤ j .«point_entries»
+    room = rw (R .counted) (points-room (before .job .told .entries) (before .job .sofar) (adds before (point b m)) (call-facts .room))
+
+    -- what `advance` requires
+    pub accept-advance : ((6 * b + 5 < length ticks) × (intervals cx * intervals cy * intervals cz ≤ 16384))
+        × ((j .faces + 0 ≤ j .«face_entries») × (j .curves + 0 ≤ j .«curve_entries») × (j .points + points ≤ j .«point_entries»))
+    accept-advance =
+        let h : (κ : Kind) → before .job .sofar κ ≤ before .job .told .entries κ = tally-fits (before .job) (call-facts .tallies) in
+        ((omega (arith, lengths .on-ticks, passed .1), few-of k (call-facts .cut)), (omega (arith, h Face), omega (arith, h Curve), room))
+
+    module _ (r : Block) (T : anyExtents cx cy cz (λ k. Tells k b r)) (d : Entry) (f : d ≡ entryOf table b) where
+      abbrev tells : Tells k b r
+      tells = T (j .nx) (j .ny) (j .nz)
+
+      from-is : fromOf (before .tables) Curve b ≡ d .«curve_from»
+      from-is = place-is ∙ ap (λ (x : Entry). x .«curve_from») (sym f)
+
+      abbrev here : List ℕ
+      here = foundCells (sizeOf r) curves (d .«curve_from») m
+
+      fits-points : (j .points + length (pointCells k (before .tables) b m) ≤ length keys) × (6 * (j .points + length (pointCells k (before .tables) b m)) ≤ length rows)
+      unfolding adds
+      fits-points = (omega (arith, room, R .counted, lengths .on-keys), omega (arith, room, R .counted, lengths .on-rows))
+
+      -- .. and `store_points`
+      pub accept-store : Lies (triple (j .nx) (j .ny) (j .nz)) r × (length m ≡ cells (sizeOf r)) × (b < 16384) × Room (length here) (j .points) (length keys) (length rows)
+      accept-store = (
+        lies-told k b r tells (call-facts .cut) (passed .1) (passed .0 .sized),
+        map-size ∙ ap cells (sym (tells .size)),
+        omega (arith, passed .1, count-few k (call-facts .cut) (blocks k) refl),
+        found-room k (before .tables) b m (tells .size) refl from-is (j .points) (length keys) (length rows) (fits-points .0) (fits-points .1),
+      )
+
+      module _ (next : Job) (ticks′ : List ℕ) (A : Advanced j cx cy cz ticks ticks′ (6 * b + 5) 0 0 points next) (keys′ : List ℕ)
+          (K : keys′ ≡ overlay keys (j .points) (λ i. keyOf (positionIn (triple (j .nx) (j .ny) (j .nz)) r (getD here i 0)) b) (length here)) where
+        -- .. and `close`
+        pub accept-close : (next .points ≤ length keys′) × (next .points ≤ length numbers) × (next .points ≤ length firsts) × (6 * next .points ≤ length listed)
+        accept-close =
+            let n : next .points ≡ j .points + points = ap (λ (x : Job). x .points) (A .is) in
+            let l : length keys′ ≡ length keys = ap length K ∙ length-overlay keys (j .points) _ (length here) in
+            (omega (arith, n, room, l, lengths .on-keys), omega (arith, n, room, lengths .on-numbers), omega (arith, n, room, lengths .on-firsts), omega (arith, n, room, lengths .on-listed))
+
+        -- what all of them leave
+        module _ (rows′ : List ℕ) (L : rows′ ≡ overlay rows (6 * j .points) (λ i. getD (foundRow (sizeOf r) curves (d .«curve_from») m (getD here (i / 6) 0)) (i % 6) 0) (6 * length here))
+            (numbers′ firsts′ listed′ : List ℕ) where
+          abbrev after : Job → State
+          after q = stateOf q cx cy cz (lent ticks′ table curves keys′ rows′ numbers′ firsts′ listed′)
+
+          more : (κ : Kind) → adds before (point b m) κ ≡ byKind 0 0 points κ
+          unfolding adds
+          more Face = refl
+          more Curve = refl
+          more Point = sym (R .counted)
+
+          stepped : Ticked before (after next) (point b m) (6 * b + 5)
+          stepped = ticked-by j cx cy cz (before .tables) (after next .tables) (point b m) (6 * b + 5) 0 0 points more next A
+
+          tally-kept : (κ : Kind) → jobOf next cx cy cz .numbered κ ≡ jobOf j cx cy cz .numbered κ
+          tally-kept = numbered-kept j cx cy cz ticks ticks′ (6 * b + 5) 0 0 points next A
+
+          done-by : (total : ℕ) → Closes next (next .points) keys′ rows′ numbers numbers′ firsts firsts′ listed listed′ (withNumbered next total) → PointDone before b m (after (withNumbered next total))
+          unfolding adds pointStep
+          done-by total C = record {
+            step = record { told = stepped .told; ticks = stepped .ticks; stage = stepped .stage; sofar = stepped .sofar };
+            blocks = refl;
+            face-links = refl;
+            curve-links = refl;
+            faces = (record { keys = refl; rows = refl }, record { numbered = tally-kept Face; numbers = refl; firsts = refl; listed = refl });
+            curves = (record { keys = refl; rows = refl }, record { numbered = tally-kept Curve; numbers = refl; firsts = refl; listed = refl });
+            keys = found-keys k (before .tables) b m r tells refl from-is (j .points) keys keys′ K;
+            rows = found-rows k (before .tables) b m r tells refl from-is (j .points) rows rows′ L;
+            last = λ e. numbered-kind before (after (withNumbered next total)) Point (next .points) (C .last (is-closed _ e) (after (withNumbered next total) .tables) refl refl);
+            before = λ e. let p = C .before (not-closed _ e) in record { numbered = p .0 ∙ tally-kept Point; numbers = p .1; firsts = p .2; listed = p .3 };
+          }
+
+          pub accept-done : (q : Job) → Closes next (next .points) keys′ rows′ numbers numbers′ firsts firsts′ listed listed′ q → PointDone before b m (after q)
+          accept-done q C =
+              let n = q .«numbered_points» in
+              subst (λ (x : Job). PointDone before b m (after x)) (sym (C .is))
+              (done-by n (subst (λ (x : Job). Closes next (next .points) keys′ rows′ numbers numbers′ firsts firsts′ listed listed′ x) (C .is) C))
+
+  -- ---- the entry
+
+  module _ (p : Plan) (P : Plans (refusalOf j cx cy cz ticks (sizesOf ticks table curves keys rows numbers firsts listed) table curves b m) (foundOf k table curves b m) p) where
+    told-number : p .refusal ≡ refusal before (point b m)
+    told-number = P .told ∙ sym refusal-is
+
+    pub point-refused : (p .refusal ≡ 0 → ⊥) → CallStep before (point b m) (answer (p .refusal) 0 []) before
+    point-refused = step-refused before (point b m) (p .refusal) told-number
+
+    pub point-ready : p .refusal ≡ 0 → Ready j cx cy cz (lent ticks table curves keys rows numbers firsts listed) b m (p .points)
+    point-ready z = record { none = sym told-number ∙ z; counted = P .counted (sym (P .told) ∙ z) ∙ found-is }
+
+    pub point-accepted : p .refusal ≡ 0 → (t : State) → PointDone before b m t → CallStep before (point b m) (answer 0 0 []) t
+    point-accepted z t D = step-accepted before (point b m) (p .refusal) told-number z (answer 0 0 []) t refl (refl, D)

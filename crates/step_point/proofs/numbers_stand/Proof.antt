@@ -1,0 +1,62 @@
+-- `step_point::numbers_stand` meets its contract. The invariant: what is left to test has the answer of all. The measure is what is left.
+use Prim.Native.Nat.{_+_, _-_, _≤_}
+use mathlib.Core.Path.{_≡_, _∙_, sym}
+use native.Mathlib.Omega.{arith}
+use borrow.Author.Needs.{needs}
+use borrow.Author.Tests.{not-true, not-false}
+use Rattle.lists.specs.Lists.{consecutive, allOf}
+use Rattle.union_find.proofs.SoundLaws.{test-same, test-passed, test-failed, test-none}
+use Rattle.judge.specs.Steps.{numberStandsIn}
+use Rattle.step_point.specs.Inner.{curvesIn}
+use Rattle.step_point.proofs.numbers_stand.Statement.{statement}
+use Rattle.step_point.proofs.numbers_stand.Tie as tie
+
+abbrev Inv-loop : tie.InvT-loop
+Inv-loop curves most from count start n i₀ i = (i ≤ n) × (allOf (numberStandsIn curves most) (consecutive (start + i) (n - i)) ≡ curvesIn curves most start n)
+
+abbrev μ-loop : tie.MeasureT-loop
+μ-loop curves most from count start n i₀ i = n - i
+
+loop-holds : tie.Need-loop-holds Inv-loop μ-loop
+unfolding curvesIn
+loop-holds c = let a = c .before .args in (omega arith, test-same (numberStandsIn (a .curves .now) (a .most)) (a .from + 0) (a .count - 0) (a .from) (a .count) (omega arith) (omega arith))
+
+add-number-stands : tie.Need-add-number-stands Inv-loop μ-loop
+add-number-stands c = search needs
+
+number-stands-requires : tie.Need-number-stands-requires Inv-loop μ-loop
+number-stands-requires c κs = search needs
+
+returns : tie.Need-returns Inv-loop μ-loop
+returns c =
+    let l = c .before .before .before .loop in
+    test-failed (numberStandsIn _ _) _ _ (omega arith) (sym (c .before .number-stands .ensures) ∙ not-true _ (c .if1 .taken)) ∙ l .inv .1
+
+add-i : tie.Need-add-i Inv-loop μ-loop
+add-i c = search needs
+
+loop-less : tie.Need-loop-less Inv-loop μ-loop
+loop-less c = search needs
+
+loop-again : tie.Need-loop-again Inv-loop μ-loop
+loop-again c =
+    let l = c .before .before .before .loop in
+    (omega arith, test-passed (numberStandsIn _ _) _ _ _ _ (omega arith) (omega arith) (sym (c .before .number-stands .ensures) ∙ not-false _ (c .if1 .left)) ∙ l .inv .1)
+
+returns-2 : tie.Need-returns-2 Inv-loop μ-loop
+returns-2 c = let l = c .before .loop in test-none (numberStandsIn _ _) _ _ (omega arith) ∙ l .inv .1
+
+pub numbers-stand-spec : {M : Type 1} → statement M
+numbers-stand-spec =
+    tie.close
+    (tie.spec
+    Inv-loop
+    μ-loop
+    loop-holds
+    add-number-stands
+    number-stands-requires
+    returns
+    add-i
+    loop-less
+    loop-again
+    returns-2)

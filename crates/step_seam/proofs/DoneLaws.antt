@@ -1,0 +1,172 @@
+-- The tests by lengths are the joiner's, and what an accepted seam step leaves is what the joiner asks for.
+-- Assumes nothing.
+use mathlib.Core.Path.{_≡_, refl, sym, ap, _∙_, subst}
+use mathlib.Core.Bool.{Bool, true, false, not, cond, _&&_}
+use mathlib.Core.List.{List, []}
+use Prim.Native.Nat.{ℕ, _+_, _-_, _*_, _≤_, _<_}
+use native.Mathlib.Nat.{le-refl}
+use native.Mathlib.Omega.{arith}
+use lib.ListN.{length, set}
+use borrow.Author.Tests.{le-ltb}
+use Rattle.lists.proofs.Cases.{by-test, and-first, and-second}
+use Rattle.refusals.specs.Refusals.{number, table, first, givenBy, standsIn}
+use Rattle.closure.specs.Joined.{joins}
+use Rattle.union_find.specs.Links.{root, Rooted}
+use Rattle.cells.specs.Box.{Triple}
+use Rattle.cells.specs.Extents.{Sized}
+use Rattle.labels.specs.Components.{largest}
+use Rattle.labels.proofs.CountLaws.{largest-bound}
+use Rattle.cutting.specs.Cutting.{Cutting, intervals, blocks, blockExtents}
+use Rattle.joiner.specs.Job.{Kind, Face, Curve, Point, State, orderOf, countOf, fromOf, lengthsFit, blockTrays, linkTrays, ticked}
+use Rattle.joiner.specs.Stages.{seamAxis, seamStep, nextAfter}
+use Rattle.joiner.specs.Calls.{join, answer, layersDiffer, mapsFit, full, overfull}
+use Rattle.joiner.specs.Declines.{adds, counted, declines, lentTo, mapStands, refusal, standing, standsFor, stray, talliesFit}
+use Rattle.joiner.specs.Entries.{SeamDone, CallStep, Merged, AtSeam}
+use Rattle.joiner.proofs.Shared.{seam-listed}
+use Rattle.joiner.proofs.SeamSteps.{axis-bound}
+use Rattle.theory_model.proofs.Facts.{Facts, facts, fits-at, tally-fits, Standing, faces-stand, curves-stand}
+use Rattle.pass_seam.specs.Walks.{layerEdges}
+use Rattle.pass_seam.proofs.SeamWalks.{seam-joined}
+use Rattle.blocks.specs.Blocks.{Tells, sizeOf}
+use Rattle.blocks.specs.declared.Block.{Block}
+use Rattle.job.specs.declared.Job.{Job}
+use Rattle.job.specs.Jobs.{byKind, toldOf, jobOf, stateOf}
+use Rattle.job.proofs.JobLaws.{fits-append}
+use Rattle.stages.specs.Ticks.{tickedIn}
+use Rattle.judge.specs.declared.Entry.{Entry}
+use Rattle.judge.specs.Steps.{entryOf, placedOf, lateOf, Advanced}
+use Rattle.judge.proofs.StepLaws.{refusal-opened, late-none, few-of, block-sized, stands-is, links-is, ticked-by, numbered-kept, step-refused, step-accepted}
+use Rattle.step_seam.specs.declared.Joined.{Joined}
+use Rattle.step_seam.specs.declared.Shared.{Shared}
+use Rattle.step_seam.specs.Inner.{lent, sizesOf, mapsFitIn, traysFit, standIn, laterRefusal, refusalOf, Ready, SharedBy, Linked}
+
+module _ (j : Job) (cx cy cz ticks blocks′ faces curves : List ℕ) (b c : ℕ) (m n : List ℕ) where
+  abbrev pub k : Cutting
+  k = toldOf j cx cy cz .cutting
+
+  abbrev pub before : State
+  before = stateOf j cx cy cz (lent ticks blocks′ faces curves)
+
+  -- ---- the tests by lengths are the joiner's
+
+  trays-is : (mapsFit k (join b c m n) && lengthsFit (lentTo (before .job .told) (before .tables) (join b c m n)))
+      ≡ traysFit (blocks k) (blockExtents k b) (blockExtents k c) (j .«face_entries») (j .«curve_entries») (sizesOf ticks blocks′ faces curves m n)
+  unfolding blockTrays linkTrays traysFit mapsFitIn
+  trays-is = ap (λ (x : Bool). mapsFit k (join b c m n) && x) (fits-append (blockTrays (before .job .told) (before .tables)) (linkTrays (before .job .told) (before .tables)))
+
+  stands-both : (talliesFit (before .job) && standsFor before (join b c m n))
+      ≡ standIn (talliesFit (jobOf j cx cy cz)) (blockExtents k b) (blockExtents k c) (entryOf blocks′ b) (entryOf blocks′ c) (j .«face_entries») (j .«curve_entries») m n faces curves
+  unfolding standIn
+  stands-both = rw (stands-is before (blockExtents k b) b m, stands-is before (blockExtents k c) c n, links-is before b, links-is before c)
+
+  none-added : (κ : Kind) → adds before (join b c m n) κ ≡ 0
+  unfolding adds
+  none-added κ = refl
+
+  adds-none : (κ : Kind) → adds before (join b c m n) κ ≡ byKind 0 0 0 κ
+  unfolding adds
+  adds-none Face = refl
+  adds-none Curve = refl
+  adds-none Point = refl
+
+  pub refusal-is : refusal before (join b c m n) ≡ refusalOf j cx cy cz ticks (sizesOf ticks blocks′ faces curves m n) blocks′ faces curves b c m n
+  unfolding refusalOf laterRefusal placedOf lateOf ticked tickedIn seamStep
+  refusal-is = refusal-opened before (join b c m n) refl ∙ rw (← trays-is, ← stands-both, ← late-none before (join b c m n) none-added (layersDiffer k (join b c m n)))
+
+  -- ---- what an accepted step has passed
+
+  module _ (acc : Ready j cx cy cz ticks blocks′ faces curves b c m n) where
+    call-facts : Facts before (join b c m n)
+    call-facts = facts before (join b c m n) (refusal-is ∙ acc .none)
+
+    pub seam-few : intervals cx * intervals cy * intervals cz ≤ 16384
+    seam-few = few-of k (call-facts .cut)
+
+    pub low-sized : (r : Block) → Tells k b r → Sized 64 (sizeOf r)
+    low-sized = block-sized k (call-facts .cut) b (seam-listed k b c (call-facts .at) .0)
+
+    pub high-sized : (r : Block) → Tells k c r → Sized 64 (sizeOf r)
+    high-sized = block-sized k (call-facts .cut) c (seam-listed k b c (call-facts .at) .1)
+
+    pub step-in : (axis step : ℕ) → axis ≡ seamAxis k b c → step ≡ 6 * b + axis → step < length ticks
+    unfolding blockTrays
+    step-in axis step e f = omega (arith, axis-bound k b c, seam-listed k b c (call-facts .at) .0, fits-at (lentTo (before .job .told) (before .tables) (join b c m n)) 0 (call-facts .lent))
+
+    pub seam-sums : (j .faces + 0 ≤ j .«face_entries») × (j .curves + 0 ≤ j .«curve_entries») × (j .points + 0 ≤ j .«point_entries»)
+    seam-sums =
+        let h : (κ : Kind) → before .job .sofar κ ≤ before .job .told .entries κ = tally-fits (before .job) (call-facts .tallies) in
+        (omega (arith, h Face), omega (arith, h Curve), omega (arith, h Point))
+
+    pub face-length : length faces ≡ j .«face_entries»
+    unfolding blockTrays linkTrays
+    face-length = fits-at (lentTo (before .job .told) (before .tables) (join b c m n)) 2 (call-facts .lent)
+
+    pub curve-length : length curves ≡ j .«curve_entries»
+    unfolding blockTrays linkTrays
+    curve-length = fits-at (lentTo (before .job .told) (before .tables) (join b c m n)) 3 (call-facts .lent)
+
+    lower-stands : mapStands before (blockExtents k b) b m ≡ true
+    lower-stands = and-first (mapStands before (blockExtents k b) b m) _ (call-facts .stands)
+
+    upper-stands : mapStands before (blockExtents k c) c n ≡ true
+    upper-stands = and-first (mapStands before (blockExtents k c) c n) _ (and-second (mapStands before (blockExtents k b) b m) _ (call-facts .stands))
+
+    -- ---- what it leaves
+
+    module _ (axis : ℕ) (low high : Block) (sh : Shared) (number-is : axis ≡ seamAxis k b c) (A : Tells k b low) (B : Tells k c high) (S : SharedBy low high axis sh) where
+      merged : (κ : Kind) (odd size : ℕ) → odd ≡ 3 - orderOf κ → Standing before (blockExtents k b) b m κ → Standing before (blockExtents k c) c n κ → before .job .told .entries κ ≤ size
+          → (xs ys : List ℕ)
+          → Rooted xs ys (joins (root xs) (layerEdges m (sh .lower) n (sh .upper) odd (fromOf (before .tables) κ b) (fromOf (before .tables) κ c) size (sh .columns) (sh .rows)))
+          → Merged xs ys (AtSeam k (before .tables) κ b c m n)
+      merged κ odd size o L U h xs ys J =
+          seam-joined k (call-facts .cut) b c (call-facts .at) axis (sh .columns) (sh .rows) number-is m (sh .lower) n (sh .upper)
+          (rw (A .size) at (S .last)) (rw (B .size) at (S .first)) (rw (A .size) at (S .wide)) (rw (A .size) at (S .deep))
+          (before .tables) κ odd size o
+          (λ p i q. omega (arith, largest-bound (blockExtents k b) m p i, ap (largest (blockExtents k b) m) q, L .most))
+          (λ p i q. omega (arith, largest-bound (blockExtents k c) n p i, ap (largest (blockExtents k c) n) q, U .most))
+          (omega (arith, L .behind, h)) (omega (arith, U .behind, h)) xs ys J
+
+      module _ (faces′ curves′ : List ℕ) (K : Linked faces faces′ curves curves′ sh (entryOf blocks′ b) (entryOf blocks′ c) (j .«face_entries») (j .«curve_entries») m n) where
+        faces-merged : Merged faces faces′ (AtSeam k (before .tables) Face b c m n)
+        unfolding fromOf entryOf
+        faces-merged =
+            merged Face 1 (j .«face_entries») refl (faces-stand before (blockExtents k b) b m lower-stands) (faces-stand before (blockExtents k c) c n upper-stands)
+            (le-refl (j .«face_entries»)) faces faces′ (K .of-faces)
+
+        curves-merged : Merged curves curves′ (AtSeam k (before .tables) Curve b c m n)
+        unfolding fromOf entryOf
+        curves-merged =
+            merged Curve 2 (j .«curve_entries») refl (curves-stand before (blockExtents k b) b m lower-stands) (curves-stand before (blockExtents k c) c n upper-stands)
+            (le-refl (j .«curve_entries»)) curves curves′ (K .of-curves)
+
+      pub seam-done : (d g : Entry) → d ≡ entryOf blocks′ b → g ≡ entryOf blocks′ c → (step : ℕ) → step ≡ 6 * b + axis → (next : Job) (ticks′ faces′ curves′ : List ℕ)
+          → Advanced j cx cy cz ticks ticks′ step 0 0 0 next → Linked faces faces′ curves curves′ sh d g (j .«face_entries») (j .«curve_entries») m n
+          → SeamDone before b c m n (stateOf next cx cy cz (lent ticks′ blocks′ faces′ curves′))
+      unfolding seamStep
+      seam-done d g p q step e next ticks′ faces′ curves′ T K =
+          let L = rw (p, q) at K in
+          let A = rw (e, number-is) at T in
+          record {
+            step = ticked-by j cx cy cz (lent ticks blocks′ faces curves) (lent ticks′ blocks′ faces′ curves′) (join b c m n) (6 * b + seamAxis k b c) 0 0 0 adds-none next A;
+            blocks = refl;
+            faces = faces-merged faces′ curves′ L;
+            curves = curves-merged faces′ curves′ L;
+            found = λ κ. record { keys = refl; rows = refl };
+            numbers = λ κ. record { numbered = numbered-kept j cx cy cz ticks ticks′ step 0 0 0 next T κ; numbers = refl; firsts = refl; listed = refl };
+          }
+
+  -- ---- the entry
+
+  module _ (number′ : ℕ) (e : number′ ≡ refusalOf j cx cy cz ticks (sizesOf ticks blocks′ faces curves m n) blocks′ faces curves b c m n) where
+    told-number : number′ ≡ refusal before (join b c m n)
+    told-number = e ∙ sym refusal-is
+
+    pub seam-refused : (number′ ≡ 0 → ⊥) → CallStep before (join b c m n) (answer number′ 0 []) before
+    seam-refused = step-refused before (join b c m n) number′ told-number
+
+    pub ready : number′ ≡ 0 → Ready j cx cy cz ticks blocks′ faces curves b c m n
+    ready z = record { none = sym e ∙ z }
+
+    pub seam-accepted : number′ ≡ 0 → (r : Joined) (t : State) → (r .refusal ≡ 0) × SeamDone before b c m n t → CallStep before (join b c m n) (answer (r .refusal) 0 []) t
+    seam-accepted z r t u =
+        step-accepted before (join b c m n) number′ told-number z (answer (r .refusal) 0 []) t (u .0) (ap (λ (x : ℕ). answer x 0 []) (u .0), u .1)

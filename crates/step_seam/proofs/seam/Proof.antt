@@ -1,0 +1,53 @@
+-- `step_seam::seam` meets its contract.
+use borrow.Author.Needs.{needs}
+use Rattle.step_seam.proofs.DoneLaws.{seam-refused, seam-accepted}
+use Rattle.step_seam.proofs.seam.Statement.{statement}
+use Rattle.step_seam.proofs.seam.Tie as tie
+
+refusal-requires : tie.Need-refusal-requires
+refusal-requires c κs = search needs
+
+same-length : tie.Need-same-length
+same-length c = search needs
+
+same-length-2 : tie.Need-same-length-2
+same-length-2 c = search needs
+
+same-length-3 : tie.Need-same-length-3
+same-length-3 c = search needs
+
+returns : tie.Need-returns
+returns c = seam-refused _ _ _ _ _ _ _ _ _ _ _ _ _ (c .before .refusal .ensures) (c .if1 .taken)
+
+accept-requires : tie.Need-accept-requires
+accept-requires c κs = search needs
+
+same-length-4 : tie.Need-same-length-4
+same-length-4 c = search needs
+
+same-length-5 : tie.Need-same-length-5
+same-length-5 c = search needs
+
+same-length-6 : tie.Need-same-length-6
+same-length-6 c = search needs
+
+returns-2 : tie.Need-returns-2
+returns-2 c =
+    seam-accepted _ _ _ _ _ _ _ _ _ _ _ _ _ (c .before .before .before .before .before .before .before .before .before .before .before .refusal .ensures)
+    (c .before .before .before .before .before .before .before .before .before .before .if1 .left)
+    (c .before .before .before .before .before .before .accept .result) _ (c .before .before .before .before .before .before .accept .ensures)
+
+pub seam-spec : {M : Type 1} → statement M
+seam-spec =
+    tie.close
+    (tie.spec
+    refusal-requires
+    same-length
+    same-length-2
+    same-length-3
+    returns
+    accept-requires
+    same-length-4
+    same-length-5
+    same-length-6
+    returns-2)

@@ -1,0 +1,56 @@
+-- `step_strain::strain` meets its contract.
+use native.Mathlib.Omega.{arith}
+use borrow.Author.Needs.{needs}
+use Rattle.step_strain.proofs.DoneLaws.{strain-refused, strain-ready, strain-accepted}
+use Rattle.step_strain.proofs.strain.Statement.{statement}
+use Rattle.step_strain.proofs.strain.Tie as tie
+
+judge-requires : tie.Need-judge-requires
+judge-requires c κs = search needs
+
+same-length : tie.Need-same-length
+same-length c = search needs
+
+same-length-2 : tie.Need-same-length-2
+same-length-2 c = search needs
+
+same-length-3 : tie.Need-same-length-3
+same-length-3 c = search needs
+
+returns : tie.Need-returns
+returns c =
+    strain-refused (c .before .before .before .before .before .before .before .before .before .before .before .before .before .before .before .before .args .job) _ _ _ _ _ _ _ _ _ _ _ _ _ (c .before .judge .ensures) (λ z. omega (arith, z, c .if1 .taken))
+
+accept-requires : tie.Need-accept-requires
+accept-requires c κs =
+    strain-ready (c .before .before .before .before .before .before .before .before .before .before .before .before .before .before .before .before .before .before .before .args .job) _ _ _ _ _ _ _ _ _ _ _ _ _ (c .before .before .before .before .judge .ensures) (c .before .before .before .if1 .left)
+
+same-length-4 : tie.Need-same-length-4
+same-length-4 c = search needs
+
+same-length-5 : tie.Need-same-length-5
+same-length-5 c = search needs
+
+same-length-6 : tie.Need-same-length-6
+same-length-6 c = search needs
+
+returns-2 : tie.Need-returns-2
+returns-2 c =
+    let called = c .before .before .before .before .before .before in
+    let judged = called .before .before .before .before in
+    strain-accepted (judged .before .before .before .before .before .before .before .before .before .before .before .before .before .before .before .before .args .job) _ _ _ _ _ _ _ _ _ _ _ _ _ (judged .before .judge .ensures) (judged .if1 .left) _ (called .accept .ensures)
+
+pub strain-spec : {M : Type 1} → statement M
+strain-spec =
+    tie.close
+    (tie.spec
+    judge-requires
+    same-length
+    same-length-2
+    same-length-3
+    returns
+    accept-requires
+    same-length-4
+    same-length-5
+    same-length-6
+    returns-2)

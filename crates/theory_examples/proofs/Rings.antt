@@ -1,0 +1,47 @@
+-- The volume of two holes that touch at an edge, cut everywhere: nine blocks, twelve seams.
+-- Assumes nothing.
+use mathlib.Core.Path.{_∙_, _≡_, ap, refl}
+use lib.ListN.{getD}
+use Rattle.lists.specs.Lists.{consecutive, tabulate, zeros, overlay}
+use Rattle.closure.specs.Joined.{mergeIds, joinClasses as join-roots, joins, rep}
+use Rattle.closure.specs.Numbered.{countBelow, leader, numberBy, label}
+use Rattle.closure.specs.Trees.{ancestor, rootOf}
+use Rattle.union_find.specs.Links.{parent, root, soundAt, soundWay, soundFrom, soundBelow, soundRange, stepsWithin, depth, depths, soundWays}
+use Rattle.refusals.specs.Refusals.{number as refusal-number, table, first, givenBy, standsIn}
+use Rattle.cells.specs.Box.{stride, volume, index, place}
+use Rattle.cells.specs.Extents.{isExtent, offSize}
+use Rattle.cells.specs.Grid.{sides, cells, parity, order, voxel, along, upperNeighbours}
+use Rattle.cells.specs.Row.{rowOf, row, occupied, active}
+use Rattle.labels.specs.Number.{pairs, alike, edgesAt, orderBelow, edges, activeOf, number, numberedAt, numbered as numbered-of, codeAt, mapDown, labels}
+use Rattle.labels.specs.Components.{ofOrder, largest, component, rowAtFirst, componentRow}
+use Rattle.cutting.specs.Cutting.{ascends, cutList, intervals, lowEnd, highEnd, blockSides, blocks, goodCut, interval, origin, blockExtents, embed, blockCodes, follows, sameInterval, seam}
+use Rattle.joiner.specs.Job.{stageNumber, sameStage, ticked, countOf, fromOf, node, keyOf, firstAt, lengthsFit, blockTrays, linkTrays, foundTrays, numberTrays, firstTrays, listedTrays, kindTrays}
+use Rattle.joiner.specs.Stages.{hasOn, hasCell, products, shared, seams, enrolStep, seamAxis, seamStep, crossingStep, pointStep, stepsOf, nextStage, finished, nextAfter}
+use Rattle.joiner.specs.Calls.{differs, overfull, full}
+use Rattle.joiner.specs.Declines.{tallyFits, talliesFit, filled, counted, standing, mapStands, waysStand, linksStand, allLinksStand, rowsStand, numberStands, curvesStand, handedStands, lookStands, lastCrossing, stray, finalOf, finalRow, pointCells, adds, declines, refusal}
+use Rattle.joiner.specs.Entries.{allTrays, openDeclines, openRefusal, nothing, throughLinks, joinedRow, firstOf, enrolledKey, shifted, enrolledRow, blockEntry, notAfter, classOf, isOne, leads, heads, rank, headOf, rowAt, finalFace, rowFinal}
+use Rattle.theory_examples.specs.Large.{rings}
+use Rattle.theory_model.specs.Model.{relinked, atSeam, seamEdge, seamEdges, atCrossing, crossEdge, crossEdgesAt, crossEdges, instead, numberKind, moved, enrolTables, seamTables, crossTables, crossLast, crossed, pointTables, pointLast, pointed, acceptedState, after, freshJob, cleared, openedState}
+use Rattle.theory_model.specs.Scripts.{used, mapOf, steps, held, outcome, joinedUp}
+use Rattle.theory_examples.proofs.Images.{threeKinds, imageOf, stateOf, runImage, run-by-image}
+
+opened-told : openedState (rings .told) (used (rings .told)) .job .told ≡ rings .told
+unfolding rings consecutive tabulate zeros refusal-number table first givenBy standsIn volume isExtent offSize ascends cutList intervals blockSides blocks goodCut lengthsFit blockTrays linkTrays foundTrays numberTrays firstTrays listedTrays kindTrays allTrays openDeclines openRefusal nothing freshJob cleared openedState used
+opened-told = refl
+
+-- The middle block has a point 1, which is none in the volume.
+its-point : getD (mapOf (rings .told .cutting) (rings .codes) 4) 13 0 ≡ 1
+unfolding rings consecutive tabulate mergeIds join-roots joins rep countBelow leader numberBy label stride volume index place sides cells parity order voxel along upperNeighbours rowOf row occupied active pairs alike edgesAt orderBelow edges activeOf number numberedAt numbered-of codeAt mapDown labels intervals lowEnd highEnd blockSides interval origin blockExtents blockCodes mapOf
+its-point = refl
+
+closed-is : outcome
+    (stateOf (rings .told) (runImage (rings .told) (imageOf (openedState (rings .told) (used (rings .told)))) (steps (rings .told .cutting) (mapOf (rings .told .cutting) (rings .codes)))))
+    ≡ rings .listed
+unfolding rings consecutive tabulate zeros overlay mergeIds join-roots joins rep countBelow leader numberBy label ancestor rootOf parent root refusal-number table first givenBy standsIn stride volume index place isExtent offSize sides cells parity order voxel along upperNeighbours rowOf row occupied active pairs alike edgesAt orderBelow edges activeOf number numberedAt numbered-of codeAt mapDown labels ofOrder largest component rowAtFirst componentRow ascends cutList intervals lowEnd highEnd blockSides blocks goodCut interval origin blockExtents embed blockCodes follows sameInterval seam stageNumber sameStage ticked countOf fromOf node keyOf firstAt lengthsFit blockTrays linkTrays foundTrays numberTrays firstTrays listedTrays kindTrays hasOn hasCell products shared seams enrolStep seamAxis seamStep crossingStep pointStep stepsOf nextStage finished nextAfter differs overfull full tallyFits talliesFit filled counted standing mapStands waysStand linksStand allLinksStand soundAt soundWay soundFrom soundBelow soundRange stepsWithin depth depths soundWays rowsStand numberStands curvesStand handedStands lookStands lastCrossing stray finalOf finalRow pointCells adds declines refusal allTrays openDeclines openRefusal nothing throughLinks joinedRow firstOf enrolledKey shifted enrolledRow blockEntry notAfter classOf isOne leads heads rank headOf rowAt finalFace rowFinal relinked atSeam seamEdge seamEdges atCrossing crossEdge crossEdgesAt crossEdges instead numberKind moved enrolTables seamTables crossTables crossLast crossed pointTables pointLast pointed acceptedState after freshJob cleared openedState used mapOf steps held outcome threeKinds imageOf stateOf runImage
+closed-is = refl
+
+pub rings-joined : joinedUp (rings .told) (rings .codes) ≡ rings .listed
+unfolding joinedUp
+rings-joined =
+    ap outcome (run-by-image (openedState (rings .told) (used (rings .told))) (rings .told) (steps (rings .told .cutting) (mapOf (rings .told .cutting) (rings .codes))) _ opened-told refl)
+    ∙ closed-is

@@ -1,0 +1,75 @@
+-- Cutting leaves no trace in the totals: where the readings are those of one volume, no block says another.
+-- Assumes nothing.
+use mathlib.Core.Path.{_≡_, sym, ap, _∙_, subst}
+use mathlib.Core.Bool.{true}
+use mathlib.Core.List.{List, List·Memᴰ, Memᴰ·of-map}
+use Prim.Native.Nat.{ℕ, suc, _<_}
+use lib.Ieee.{Float}
+use Rattle.cells.specs.Box.{place, index, volume}
+use Rattle.cells.specs.Grid.{sides, cells, order, upperNeighbours, voxel, voxelCell}
+use Rattle.cells.proofs.BoxLaws.{index-place}
+use Rattle.cells.proofs.GridLaws.{Upper, upper-neighbour, voxel-inside, cell-voxel}
+use Rattle.labels.specs.Number.{labels}
+use Rattle.cutting.specs.Cutting.{Cutting, blocks, goodCut, blockExtents, embed}
+use Rattle.cutting.proofs.CutLaws.{embed-order, embed-up}
+use Rattle.joiner.specs.Stages.{hasCell, local, lowestBlock}
+use Rattle.joiner.proofs.Codes.{has-held, lowest-has}
+use Rattle.joiner.proofs.Sheets.{codes-back}
+use Rattle.joiner.proofs.Statement3.{opened-passed}
+use Rattle.strains.specs.declared.Reading.{Reading}
+use Rattle.totals.specs.Totals.{readingAt}
+use Rattle.theory_totals.specs.Book.{faceTotals, readingFrom}
+use Rattle.theory_totals.specs.Statement.{CuttingFree}
+use Rattle.theory_totals.proofs.OwnCells.{embed-local}
+use Rattle.theory_totals.proofs.TotalsRead.{face-same, totals-exact}
+
+module _ (k : Cutting) (good : goodCut k ≡ true) (reading : ℕ → Reading) (values : ℕ → List Float) (kinds : ℕ → List ℕ)
+    (one : (b v : ℕ) → b < blocks k → v < volume (blockExtents k b) → readingAt (values b) (kinds b) v ≡ reading (voxel (k .extents) (embed k b (voxelCell (blockExtents k b) v)))) where
+  -- the reading of a voxel beside a face cell is the volume's, whichever block it is read from
+  reading-one : (t : ℕ) → t < cells (k .extents) → order (k .extents) t ≡ 2 → (q : ℕ) → List·Memᴰ q (upperNeighbours (k .extents) t) → readingFrom k values kinds t q ≡ reading (voxel (k .extents) q)
+  unfolding readingFrom
+  reading-one t ht ot q i =
+      subst (λ (x : ℕ). readingAt (values b) (kinds b) (voxel (blockExtents k b) (local k b (place (sides (k .extents)) x))) ≡ reading (voxel (k .extents) x)) (f .2)
+      (ap (λ (x : ℕ). readingAt (values b) (kinds b) (voxel (blockExtents k b) x)) (embed-local k good b hb r (u .within))
+      ∙ one b (voxel (blockExtents k b) r) hb (voxel-inside (blockExtents k b) r (u .within))
+      ∙ ap (λ (x : ℕ). reading (voxel (k .extents) (embed k b x))) (cell-voxel (blockExtents k b) r (u .within) (u .higher ∙ ap suc level)))
+    where
+      b : ℕ
+      b = lowestBlock k (place (sides (k .extents)) t)
+
+      w : (b < blocks k) × (hasCell k b (place (sides (k .extents)) t) ≡ true)
+      w = lowest-has k good t ht
+
+      hb : b < blocks k
+      hb = w .0
+
+      p : ℕ
+      p = local k b (place (sides (k .extents)) t)
+
+      h : (p < cells (blockExtents k b)) × (embed k b p ≡ index (sides (k .extents)) (place (sides (k .extents)) t))
+      h = has-held k good b hb (place (sides (k .extents)) t) (w .1)
+
+      is : embed k b p ≡ t
+      is = h .1 ∙ index-place (sides (k .extents)) t
+
+      level : order (blockExtents k b) p ≡ 2
+      level = sym (embed-order k good b hb p (h .0)) ∙ ap (order (k .extents)) is ∙ ot
+
+      -- the voxel is one of the block's
+      f : (r : ℕ) × List·Memᴰ r (upperNeighbours (blockExtents k b) p) × (embed k b r ≡ q)
+      f = Memᴰ·of-map (embed k b) (upperNeighbours (blockExtents k b) p) (subst (List·Memᴰ q) (sym (embed-up k good b hb p (h .0) ∙ ap (upperNeighbours (k .extents)) is)) i)
+
+      r : ℕ
+      r = f .0
+
+      u : Upper (blockExtents k b) p r
+      u = upper-neighbour (blockExtents k b) p (h .0) (f .1)
+
+-- "Cutting leaves no trace", in totals.
+pub cutting-free : CuttingFree
+cutting-free o codes reading own values kinds n T many maps one X =
+    let k : Cutting = o .cutting in
+    let good : goodCut k ≡ true = opened-passed o (X .lent) (X .opened .opened .accepted) .1 in
+    totals-exact o own values kinds n T X
+    ∙ ap (λ (c : List ℕ). faceTotals (k .extents) (labels (k .extents) c) (readingFrom k values kinds) n) (codes-back k good codes own many maps)
+    ∙ face-same (k .extents) (labels (k .extents) codes) (readingFrom k values kinds) (λ t q. reading (voxel (k .extents) q)) n (reading-one k good reading values kinds one)
