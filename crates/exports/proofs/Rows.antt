@@ -16,14 +16,14 @@ use Rattle.joiner.specs.Job.{Kind, Face, Curve, Point, width, State, listedTray
 use Rattle.joiner.specs.Calls.{reading}
 use Rattle.joiner.specs.Declines.{lentTo, refusal}
 use Rattle.joiner.specs.Entries.{rowTaken}
-use Rattle.theory_model.proofs.Facts.{Facts, facts, fits-at, numbered-fits}
+use Rattle.joiner.proofs.Passed.{Passed, passed, fits-at, numbered-fits}
 use Rattle.reading_row.proofs.ReadingLaws.{row-end}
 use Rattle.exports.specs.Exports.{sixOf}
 
 -- The row of an accepted reading has its two, four or six places.
 module _ (s : State) (κ : Kind) (n : ℕ) (e : refusal s (reading κ n) ≡ 0) where
-  call-facts : Facts s (reading κ n)
-  call-facts = facts s (reading κ n) e
+  call-facts : Passed s (reading κ n)
+  call-facts = passed s (reading κ n) e
 
   long : (κ′ : Kind) → length (s .tables .listed κ′) ≡ width κ′ * s .job .told .entries κ′
   unfolding listedTrays
@@ -34,8 +34,8 @@ module _ (s : State) (κ : Kind) (n : ℕ) (e : refusal s (reading κ n) ≡ 0) 
   pub row-wide : length (rowTaken s κ n) ≡ width κ
   unfolding rowTaken
   row-wide =
-      let some : 0 < n = ltb-true 0 n (and-first (ltb 0 n) (leb n (s .job .numbered κ)) (call-facts .at)) in
-      let most : n ≤ s .job .numbered κ = leb-true n (s .job .numbered κ) (and-second (ltb 0 n) (leb n (s .job .numbered κ)) (call-facts .at)) in
+      let some : 0 < n = ltb-true 0 n (and-first (ltb 0 n) (leb n (s .job .numbered κ)) (call-facts .placed-in)) in
+      let most : n ≤ s .job .numbered κ = leb-true n (s .job .numbered κ) (and-second (ltb 0 n) (leb n (s .job .numbered κ)) (call-facts .placed-in)) in
       let within : n ≤ s .job .told .entries κ = omega (arith, most, numbered-fits (s .job) (call-facts .tallies) κ) in
       let inside : width κ * n ≤ length (s .tables .listed κ) = rw (long κ) (mul-le-mul-left (width κ) within) in
       let a = length-take (width κ) (drop (width κ * (n - 1)) (s .tables .listed κ)) in

@@ -1,4 +1,4 @@
--- What an accepted call passed, and what every accepted step keeps.
+-- What every accepted step keeps.
 -- Assumes nothing.
 use mathlib.Core.Bool.{Bool, _||_, cond, false, not, true}
 use mathlib.Core.List.{List, List·Memᴰ, _∷_}
@@ -25,43 +25,6 @@ use Rattle.refusals.proofs.RefusalLaws.{given-none}
 use Rattle.cells.proofs.GridLaws.{inside}
 use Rattle.joiner.proofs.Inv.{Inv}
 use Rattle.joiner.proofs.Progress.{Progress, progress-more}
-
-stageAt : ℕ → Stage
-stageAt zero = Enrol
-stageAt (suc zero) = Seam
-stageAt (suc (suc zero)) = Crossing
-stageAt (suc (suc (suc zero))) = Points
-stageAt (suc (suc (suc (suc n)))) = Closed
-
-stage-at : (s : Stage) → stageAt (stageNumber s) ≡ s
-unfolding stageAt stageNumber
-stage-at Enrol = refl
-stage-at Seam = refl
-stage-at Crossing = refl
-stage-at Points = refl
-stage-at Closed = refl
-
-pub stage-same : (s t : Stage) → stageNumber s ≡ stageNumber t → s ≡ t
-stage-same s t e = sym (stage-at s) ∙ ap stageAt e ∙ stage-at t
-
-pub record Passed (s : State) (c : Call) : Type 0 where
-  pub stage : s .job .stage ≡ stageOf c
-  pub placed-in : placed (s .job .told .cutting) (s .job .numbered) c ≡ true
-  pub fresh : repeated (s .job .told .cutting) (ticked (s .tables)) c ≡ false
-  pub layers : layersDiffer (s .job .told .cutting) c ≡ false
-  pub room : full (s .job .told .entries) (s .job .sofar) (adds s c) ≡ false
-
-pub passed : (s : State) (c : Call) → refusal s c ≡ 0 → Passed s c
-unfolding refusal declines standsIn number sameStage
-passed s c e =
-    let n : (r : Refusal) → standsIn (declines s c) r ≡ false = given-none (standsIn (declines s c)) .0 e in
-    record {
-      stage = stage-same (s .job .stage) (stageOf c) (eqb-true _ _ (not-false _ (n wrong-stage)));
-      placed-in = not-false _ (n no-such-place);
-      fresh = n done-already;
-      layers = n layers-differ;
-      room = n table-full;
-    }
 
 -- ---- a tick
 

@@ -26,12 +26,12 @@ use Rattle.lists.proofs.Cases.{by-test}
 use Rattle.lists.proofs.Lists.{consecutive-in, length-keep, length-consecutive, map-same}
 use Rattle.lists.proofs.Overlay.{length-overlay}
 use Rattle.lists.proofs.Table.{at, every}
-use Rattle.joiner.proofs.Accepted.{Passed, stage-same}
 use Rattle.joiner.proofs.Inv.{CrossEdge, EdgeDone, In, Inv, SeamEdge}
 use Rattle.joiner.proofs.Later.{Later, after, cross-inside, edge-inside, inv-later, move-cross, move-seam, same-node, same-sofar, seam-there}
 use Rattle.joiner.proofs.Progress.{crossing-level, point-level, seam-level, stepStage}
 use Rattle.joiner.proofs.Roots.{Connected, connected-more, together-map}
 use Rattle.joiner.proofs.Sizes.{Sizes}
+use Rattle.joiner.proofs.Passed.{Passed, stage-same}
 
 pub heads-most : (t : Tables) (κ : Kind) (n : ℕ) → length (heads t κ n) ≤ n
 unfolding heads

@@ -34,12 +34,13 @@ use Rattle.union_find.proofs.LinkLaws.{own-root, root-idem, root-low, root-own}
 use Rattle.labels.proofs.ComponentLaws.{component-in}
 use Rattle.labels.proofs.CountLaws.{Somewhere, every-number}
 use Rattle.labels.proofs.LabelLaws.{labels-numbering}
-use Rattle.joiner.proofs.Accepted.{Passed, progress-kept, room-kept, sofar-kept, stage-kept, ticks-kept, told-kept}
+use Rattle.joiner.proofs.Accepted.{progress-kept, room-kept, sofar-kept, stage-kept, ticks-kept, told-kept}
 use Rattle.joiner.proofs.Classes.{order-small}
 use Rattle.joiner.proofs.Inv.{EdgeDone, In, Inv, Kept, Numbered}
 use Rattle.joiner.proofs.Progress.{crossing-level, seam-level, stepStage, steps-level}
 use Rattle.joiner.proofs.Roots.{Connected, together-keeps}
 use Rattle.joiner.proofs.Sizes.{Sizes}
+use Rattle.joiner.proofs.Passed.{Passed}
 
 pub blocks-most : (k : Cutting) → goodCut k ≡ true → blocks k ≤ 16384
 unfolding goodCut

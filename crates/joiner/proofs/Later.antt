@@ -26,11 +26,12 @@ use Rattle.cells.proofs.GridLaws.{Upper, upper-neighbour}
 use Rattle.labels.proofs.ComponentLaws.{of-order-out}
 use Rattle.labels.proofs.CountLaws.{largest-bound}
 use Rattle.cutting.proofs.CutLaws.{embed-order}
-use Rattle.joiner.proofs.Accepted.{Passed, progress-kept, room-kept, sofar-kept, stage-kept, ticks-kept, told-kept}
+use Rattle.joiner.proofs.Accepted.{progress-kept, room-kept, sofar-kept, stage-kept, ticks-kept, told-kept}
 use Rattle.joiner.proofs.Inv.{EdgeDone, In, Inv, Kept, Numbered, SeamEdge}
 use Rattle.joiner.proofs.Roots.{Connected}
 use Rattle.joiner.proofs.Shared.{Shares, seam-listed, shared-out}
 use Rattle.joiner.proofs.Sizes.{Sizes}
+use Rattle.joiner.proofs.Passed.{Passed}
 
 -- ---- edges carried from tables to tables that have the same offsets
 

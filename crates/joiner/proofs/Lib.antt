@@ -11,6 +11,7 @@ pub mod Ladder
 pub mod Sizes
 pub mod Own
 pub mod Inv
+pub mod Passed
 pub mod Accepted
 pub mod Enrolling
 pub mod Later

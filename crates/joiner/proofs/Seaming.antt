@@ -18,7 +18,6 @@ use Rattle.joiner.specs.Entries.{AtSeam, Merged, SeamDone, Ticked}
 use Rattle.joiner.specs.Job.{Curve, Face, Kind, Seam, Stage, State, Told, node, stageNumber}
 use Rattle.joiner.specs.Stages.{crossingStep, seamStep, shared, stepsOf}
 use Rattle.lists.proofs.Table.{at, every}
-use Rattle.joiner.proofs.Accepted.{Passed}
 use Rattle.joiner.proofs.Inv.{EdgeDone, In, Inv, SeamEdge}
 use Rattle.joiner.proofs.Later.{Later, after, edge-inside, inv-later, move-seam, same-node, same-sofar, seam-inside, seam-there}
 use Rattle.joiner.proofs.Progress.{crossing-level, seam-level, stepStage}
@@ -26,6 +25,7 @@ use Rattle.joiner.proofs.Roots.{Connected, connected-more}
 use Rattle.joiner.proofs.SeamSteps.{axis-bound, seam-in, seam-step-same}
 use Rattle.joiner.proofs.Shared.{seam-listed}
 use Rattle.joiner.proofs.Sizes.{Sizes}
+use Rattle.joiner.proofs.Passed.{Passed}
 
 module _ (o : Told) (own : ℕ → List ℕ) (good : goodCut (o .cutting) ≡ true) (B : Book) (s : State) (I : Inv o own B s) (every : (b : ℕ) → b < blocks (o .cutting) → In o own B b)
     (t : State) (b c : ℕ) (z : seam (o .cutting) b c ≡ true) (at-stage : B .stage ≡ Seam) (D : SeamDone s b c (own b) (own c) t) (room : Passed s (join b c (own b) (own c))) where

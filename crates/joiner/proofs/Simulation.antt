@@ -30,7 +30,6 @@ use Rattle.lists.proofs.Cases.{and-both, and-first, and-second, by-test, picked
 use Rattle.lists.proofs.Lists.{consecutive-in}
 use Rattle.lists.proofs.Tests.{is-in}
 use Rattle.cells.proofs.RowLaws.{row-same}
-use Rattle.joiner.proofs.Accepted.{passed}
 use Rattle.joiner.proofs.Classes.{vol}
 use Rattle.joiner.proofs.Crossings.{cross-keeps, point-keeps}
 use Rattle.joiner.proofs.Enrolling.{enrol-keeps}
@@ -44,6 +43,7 @@ use Rattle.joiner.proofs.Progress.{closed-all, crossing-level, point-le
 use Rattle.joiner.proofs.Readings.{cell-read, row-read}
 use Rattle.joiner.proofs.Seaming.{join-keeps}
 use Rattle.joiner.proofs.Shared.{seam-listed}
+use Rattle.joiner.proofs.Passed.{passed}
 
 -- ---- the stages after a step
 

@@ -1,22 +1,35 @@
-// What the steps and readings of a job share: the tests that come first, what the block table tells of a block, and the tick.
+// The judge of a job's calls: the tests that come first, the lengths of what is lent, a block's map against the block table; and the tick of an accepted step.
+// Each call then has its own tests.
 use blocks::Block;
+use blocks::block_at;
+use blocks::block_count;
 use blocks::good_cut;
 use blocks::has_block;
 use extents::off_size;
 use job::Job;
 use job::Stage;
+use job::block_trays;
+use job::entry_tray;
+use job::found_trays;
+use job::kind_trays;
+use job::link_trays;
+use job::row_tray;
 use job::same_stage;
+use job::tallies_fit;
 use pass_survey::Survey;
 use pass_survey::survey_map;
 use refusals::BAD_CUT;
 use refusals::DONE_ALREADY;
 use refusals::NO_SUCH_PLACE;
 use refusals::OFF_SIZE;
+use refusals::STRAY_LABEL;
 use refusals::WRONG_STAGE;
+use refusals::WRONG_TRAY;
 use stages::is_ticked;
 use stages::next_stage;
 use union_find::sound_ways;
 ghost use mathlib.Core.Path.{_≡_};
+ghost use mathlib.Core.Bool.{true, _&&_};
 ghost use Prim.Native.Nat.{_+_, _*_, _≤_, _<_};
 ghost use lib.Dec.{eqb, leb};
 ghost use lib.ListN.{getD, length};
@@ -24,8 +37,10 @@ ghost use Rattle.cells.specs.Extents.{Sized};
 ghost use Rattle.cells.specs.Grid.{cells};
 ghost use Rattle.cutting.specs.Cutting.{intervals};
 ghost use Rattle.blocks.specs.Blocks.{sizeOf};
-ghost use Rattle.job.specs.Jobs.{stageOf, jobOf};
-ghost use Rattle.judge.specs.Steps.{openedOf, reachedOf, entryOf, standsBy, mapStandsIn, linksStandIn, numberStandsIn, Advanced};
+ghost use Rattle.joiner.specs.Job.{lengthsFit};
+ghost use Rattle.job.specs.Jobs.{anyCuts, stageOf, jobOf};
+ghost use Rattle.judge.specs.declared.CallName.{CallName};
+ghost use Rattle.judge.specs.Judge.{entriesOf, lentBy, stageFor, fitsIn, mapJudged, lengthsJudged, judgedOf, openedOf, reachedOf, entryOf, standsBy, mapStandsIn, linksStandIn, numberStandsIn, Advanced};
 
 // What the block table tells of a block: its largest numbers, and the places of its first face and first curve.
 pub struct Entry {
@@ -34,6 +49,35 @@ pub struct Entry {
     pub points: u32,
     pub face_from: u32,
     pub curve_from: u32,
+}
+
+// The calls of a job by name.
+pub enum CallName {
+    Enrol,
+    Seam,
+    Crossing,
+    Points,
+    Lookup,
+    Row,
+}
+
+// The lengths of the tables of one sort. One that a call is not lent has 0.
+pub struct KindLengths {
+    pub faces: usize,
+    pub curves: usize,
+    pub points: usize,
+}
+
+// The lengths of the tables that a call is lent.
+pub struct Lengths {
+    pub ticks: usize,
+    pub blocks: usize,
+    pub links: KindLengths,
+    pub keys: KindLengths,
+    pub rows: KindLengths,
+    pub numbers: KindLengths,
+    pub firsts: KindLengths,
+    pub listed: KindLengths,
 }
 
 // ---- the tests that come first
@@ -79,6 +123,144 @@ pub fn reached(
         return DONE_ALREADY;
     }
     0
+}
+
+// ---- the lengths of what is lent
+
+fn both(a: bool, b: bool) -> bool
+    ensures { λ r. ⌜ r ≡ (a && b) ⌝ }
+{
+    if a {
+        return b;
+    }
+    false
+}
+
+// Whether the tables that a call is lent have the stated lengths: those of a seam.
+fn seam_lent(count: usize, job: Job, z: Lengths) -> bool
+    requires { ⌜ count ≤ 16384 ⌝ }
+    ensures { λ r. ⌜ r ≡ lengthsFit (lentBy CallName.Seam count (entriesOf job) z) ⌝ }
+{
+    both(
+        block_trays(count, z.ticks, z.blocks),
+        link_trays(
+            job.face_entries,
+            job.curve_entries,
+            z.links.faces,
+            z.links.curves,
+        ),
+    )
+}
+
+// .. of an enrolment.
+fn enrol_lent(count: usize, job: Job, z: Lengths) -> bool
+    requires { ⌜ count ≤ 16384 ⌝ }
+    ensures { λ r. ⌜ r ≡ lengthsFit (lentBy CallName.Enrol count (entriesOf job) z) ⌝ }
+{
+    both(
+        seam_lent(count, job, z),
+        both(
+            found_trays(2, job.face_entries, z.keys.faces, z.rows.faces),
+            found_trays(4, job.curve_entries, z.keys.curves, z.rows.curves),
+        ),
+    )
+}
+
+// .. of a crossing.
+fn crossing_lent(count: usize, job: Job, z: Lengths) -> bool
+    requires { ⌜ count ≤ 16384 ⌝ }
+    ensures { λ r. ⌜ r ≡ lengthsFit (lentBy CallName.Crossing count (entriesOf job) z) ⌝ }
+{
+    both(
+        seam_lent(count, job, z),
+        both(
+            kind_trays(
+                2,
+                job.face_entries,
+                z.keys.faces,
+                z.rows.faces,
+                z.numbers.faces,
+                z.firsts.faces,
+                z.listed.faces,
+            ),
+            kind_trays(
+                4,
+                job.curve_entries,
+                z.keys.curves,
+                z.rows.curves,
+                z.numbers.curves,
+                z.firsts.curves,
+                z.listed.curves,
+            ),
+        ),
+    )
+}
+
+// .. of a point step.
+fn points_lent(count: usize, job: Job, z: Lengths) -> bool
+    requires { ⌜ count ≤ 16384 ⌝ }
+    ensures { λ r. ⌜ r ≡ lengthsFit (lentBy CallName.Points count (entriesOf job) z) ⌝ }
+{
+    both(
+        block_trays(count, z.ticks, z.blocks),
+        both(
+            entry_tray(job.curve_entries, z.numbers.curves),
+            kind_trays(
+                6,
+                job.point_entries,
+                z.keys.points,
+                z.rows.points,
+                z.numbers.points,
+                z.firsts.points,
+                z.listed.points,
+            ),
+        ),
+    )
+}
+
+// .. of a lookup.
+fn lookup_lent(count: usize, job: Job, z: Lengths) -> bool
+    requires { ⌜ count ≤ 16384 ⌝ }
+    ensures { λ r. ⌜ r ≡ lengthsFit (lentBy CallName.Lookup count (entriesOf job) z) ⌝ }
+{
+    both(
+        block_trays(count, z.ticks, z.blocks),
+        both(
+            entry_tray(job.face_entries, z.numbers.faces),
+            both(
+                entry_tray(job.curve_entries, z.numbers.curves),
+                entry_tray(job.point_entries, z.firsts.points),
+            ),
+        ),
+    )
+}
+
+// .. of a row reading, which is lent no table of blocks.
+fn row_lent(count: usize, job: Job, z: Lengths) -> bool
+    ensures { λ r. ⌜ r ≡ lengthsFit (lentBy CallName.Row count (entriesOf job) z) ⌝ }
+{
+    both(
+        row_tray(2, job.face_entries, z.listed.faces),
+        both(
+            row_tray(4, job.curve_entries, z.listed.curves),
+            row_tray(6, job.point_entries, z.listed.points),
+        ),
+    )
+}
+
+// .. of any call, of a job of so many blocks. Not an entry.
+pub fn lent_fits(call: CallName, count: usize, job: Job, z: Lengths) -> bool
+    requires { ⌜ count ≤ 16384 ⌝ }
+    ensures { λ r. ⌜ r ≡ lengthsFit (lentBy call count (entriesOf job) z) ⌝ }
+{
+    match call {
+        CallName::Enrol => enrol_lent(count, job, z),
+        CallName::Seam => seam_lent(count, job, z),
+        CallName::Crossing => crossing_lent(count, job, z),
+        CallName::Points => points_lent(count, job, z),
+        CallName::Lookup => lookup_lent(count, job, z),
+        CallName::Row => row_lent(count, job, z),
+    }
 }
 
 // ---- a block's map and its entry
@@ -181,6 +363,103 @@ pub fn number_stands(numbers: &[u32], most: u32, place: usize) -> bool
         return false;
     }
     n <= most
+}
+
+// ---- the judge of a call that brings a block's map
+
+// The stage of a call.
+fn stage_of(call: CallName) -> Stage
+    ensures { λ r. ⌜ stageOf r ≡ stageFor call ⌝ }
+{
+    match call {
+        CallName::Enrol => Stage::Enrol,
+        CallName::Seam => Stage::Seam,
+        CallName::Crossing => Stage::Crossing,
+        CallName::Points => Stage::Points,
+        CallName::Lookup => Stage::Closed,
+        CallName::Row => Stage::Closed,
+    }
+}
+
+// 6: whether the map of so many cells and the tables have the stated lengths. Not an entry.
+pub fn fits(call: CallName, count: usize, block: Block, job: Job, z: Lengths, length: usize) -> bool
+    requires { ⌜ (count ≤ 16384) × Sized 64 (sizeOf block) ⌝ }
+    ensures { λ r. ⌜ r ≡ fitsIn call count (sizeOf block) (entriesOf job) z length ⌝ }
+{
+    if !map_fits(block, length) {
+        return false;
+    }
+    lent_fits(call, count, job, z)
+}
+
+// The refusals 6 and 8 of a call with a map, 0 for none: `whole` tells whether what is lent has the stated lengths. Not an entry.
+pub fn judge_map(job: Job, block: Block, entry: Entry, whole: bool, m: &[u32]) -> u32
+    requires { ⌜ Sized 64 (sizeOf block) × (whole ≡ true → length (now m) ≡ cells (sizeOf block)) ⌝ }
+    ensures { λ r. ⌜ anyCuts (λ cx cy cz. r ≡ mapJudged (jobOf job cx cy cz) (sizeOf block) entry whole (now (m .entry))) ⌝ }
+{
+    if !whole {
+        return WRONG_TRAY;
+    }
+    if !tallies_fit(job) {
+        return STRAY_LABEL;
+    }
+    if !map_stands(m, block, entry, job.face_entries, job.curve_entries) {
+        return STRAY_LABEL;
+    }
+    0
+}
+
+// The refusals up to 6 of a step of one block that brings a map of so many cells, 0 for none.
+pub fn judge_lengths(
+    job: Job,
+    cx: &[u32],
+    cy: &[u32],
+    cz: &[u32],
+    ticks: &[u32],
+    call: CallName,
+    z: Lengths,
+    b: u32,
+    step: usize,
+    length: usize,
+) -> u32
+    ensures { λ r. ⌜ r ≡ lengthsJudged (jobOf job (now (cx .entry)) (now (cy .entry)) (now (cz .entry))) (now (ticks .entry)) call z b step length ⌝ }
+{
+    let number = reached(job, cx, cy, cz, ticks, stage_of(call), b, step);
+    if number != 0 {
+        return number;
+    }
+    let block = block_at(cx, cy, cz, b as usize);
+    let count = block_count(cx, cy, cz);
+    if !fits(call, count, block, job, z, length) {
+        return WRONG_TRAY;
+    }
+    0
+}
+
+// The refusals up to 8 of a step of one block, as far as first tests, lengths, tallies, map and block table decide, 0 for none.
+pub fn judge(
+    job: Job,
+    cx: &[u32],
+    cy: &[u32],
+    cz: &[u32],
+    ticks: &[u32],
+    table: &[u32],
+    call: CallName,
+    z: Lengths,
+    b: u32,
+    step: usize,
+    m: &[u32],
+) -> u32
+    ensures { λ r. ⌜ r ≡ judgedOf (jobOf job (now (cx .entry)) (now (cy .entry)) (now (cz .entry))) (now (ticks .entry)) (now (table .entry)) call z b step (now (m .entry)) ⌝ }
+{
+    let number = reached(job, cx, cy, cz, ticks, stage_of(call), b, step);
+    if number != 0 {
+        return number;
+    }
+    let block = block_at(cx, cy, cz, b as usize);
+    let count = block_count(cx, cy, cz);
+    let whole = fits(call, count, block, job, z, m.len());
+    judge_map(job, block, entry_of(table, b), whole, m)
 }
 
 // ---- the tick

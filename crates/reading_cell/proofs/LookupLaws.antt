@@ -24,8 +24,8 @@ use Rattle.job.specs.declared.Job.{Job}
 use Rattle.job.specs.Jobs.{anyCuts, jobOf, toldOf, stateOf}
 use Rattle.job.proofs.JobLaws.{fits-append}
 use Rattle.judge.specs.declared.Entry.{Entry}
-use Rattle.judge.specs.Steps.{firstRefusal, openedOf, entryOf, placedOf, lateOf, mapStandsIn}
-use Rattle.judge.proofs.StepLaws.{Passed, opened-passed, or-first, or-then, or-none, or-else-assoc, refusal-opened, late-none, block-sized, stands-is, step-refused, step-accepted}
+use Rattle.judge.specs.Judge.{firstRefusal, openedOf, entryOf, placedOf, lateOf, mapStandsIn}
+use Rattle.judge.proofs.JudgeLaws.{FirstTests, opened-passed, or-first, or-then, or-none, or-else-assoc, refusal-opened, late-none, block-sized, stands-is, step-refused, step-accepted}
 use Rattle.reading_cell.specs.declared.Looked.{Looked}
 use Rattle.reading_cell.specs.declared.Sizes.{Sizes}
 use Rattle.reading_cell.specs.Inner.{lent, sizesOf, traysFit, standIn, laterRefusal, refusalOf, Ready, HasPlace, Looks}
@@ -168,7 +168,7 @@ module _ (j : Job) (cx cy cz ticks table faces curves points : List ℕ) (b : �
   -- ---- an accepted lookup
 
   module _ (acc : Ready j cx cy cz ticks table faces curves points b m c) where
-    passed : Passed (jobOf j cx cy cz) Closed
+    passed : FirstTests (jobOf j cx cy cz) Closed
     unfolding refusalOf
     passed = opened-passed (jobOf j cx cy cz) Closed (or-none (openedOf (jobOf j cx cy cz) Closed) _ (acc .none) .0)
 

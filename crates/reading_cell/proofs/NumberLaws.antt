@@ -23,7 +23,7 @@ use Rattle.blocks.proofs.BlockLaws.{in-low, in-high, local-told, shift-inside-t
 use Rattle.job.specs.declared.Job.{Job}
 use Rattle.job.specs.Jobs.{toldOf, stateOf}
 use Rattle.judge.specs.declared.Entry.{Entry}
-use Rattle.judge.specs.Steps.{entryOf, numberStandsIn}
+use Rattle.judge.specs.Judge.{entryOf, numberStandsIn}
 use Rattle.reading_cell.specs.Inner.{lent, finalIn, orderAt, HasPlace, numberIn, handedIn, lookIn}
 
 -- ---- the ways of `final_of`

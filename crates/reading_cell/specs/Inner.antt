@@ -19,7 +19,7 @@ use Rattle.blocks.specs.declared.Block.{Block}
 use Rattle.job.specs.declared.Job.{Job}
 use Rattle.job.specs.Jobs.{blockLengths, tablesOf, toldOf, jobOf}
 use Rattle.judge.specs.declared.Entry.{Entry}
-use Rattle.judge.specs.Steps.{firstRefusal, openedOf, entryOf, mapStandsIn, numberStandsIn}
+use Rattle.judge.specs.Judge.{firstRefusal, openedOf, entryOf, mapStandsIn, numberStandsIn}
 use Rattle.reading_cell.specs.declared.Looked.{Looked}
 use Rattle.reading_cell.specs.declared.Sizes.{Sizes}
 use Rattle.reading_cell.specs.declared.Span.{Span}

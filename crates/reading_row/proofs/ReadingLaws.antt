@@ -16,11 +16,11 @@ use Rattle.joiner.specs.Job as joiner
 use Rattle.joiner.specs.Calls.{Call, reading, answer}
 use Rattle.joiner.specs.Declines.{adds, declines, lentTo, refusal, standsFor, talliesFit, tallyFits}
 use Rattle.joiner.specs.Entries.{CallStep, rowTaken}
-use Rattle.theory_model.proofs.Facts.{Facts, facts, fits-at, numbered-fits}
+use Rattle.joiner.proofs.Passed.{Passed, passed, fits-at, numbered-fits}
 use Rattle.job.specs.declared.Job.{Job}
 use Rattle.job.specs.Jobs.{jobOf, stateOf, anyCuts}
 use Rattle.job.proofs.JobLaws.{cond-not-here, cond-not-next, fits-append}
-use Rattle.judge.proofs.StepLaws.{late-none, step-refused, step-accepted}
+use Rattle.judge.proofs.JudgeLaws.{late-none, step-refused, step-accepted}
 use Rattle.reading_row.specs.declared.Kind.{Kind}
 use Rattle.reading_row.specs.Inner.{kindOf, lent, sizesOf, numberedOf, traysFit, refusalOf, HasRow, rowIn}
 
@@ -98,14 +98,14 @@ module _ (j : Job) (kind : Kind) (n : ℕ) (faces curves points : List ℕ) (cx 
   -- ---- an accepted reading
 
   module _ (acc : refusalOf j kind n (sizesOf faces curves points) ≡ 0) where
-    call-facts : Facts before call
-    call-facts = facts before call (refusal-is ∙ acc)
+    call-facts : Passed before call
+    call-facts = passed before call (refusal-is ∙ acc)
 
     some : 0 < n
-    some = ltb-true 0 n (and-first (ltb 0 n) (leb n (numberedOf j kind)) (call-facts .at))
+    some = ltb-true 0 n (and-first (ltb 0 n) (leb n (numberedOf j kind)) (call-facts .placed-in))
 
     most : n ≤ before .job .told .entries (kindOf kind)
-    most = omega (arith, leb-true n (numberedOf j kind) (and-second (ltb 0 n) (leb n (numberedOf j kind)) (call-facts .at)), numbered-fits (before .job) (call-facts .tallies) (kindOf kind))
+    most = omega (arith, leb-true n (numberedOf j kind) (and-second (ltb 0 n) (leb n (numberedOf j kind)) (call-facts .placed-in)), numbered-fits (before .job) (call-facts .tallies) (kindOf kind))
 
     long : (κ : joiner.Kind) → length (before .tables .listed κ) ≡ width κ * before .job .told .entries κ
     unfolding listedTrays

@@ -19,13 +19,13 @@ use Rattle.cutting.specs.Cutting.{Cutting, intervals, blocks, goodCut}
 use Rattle.joiner.specs.Job.{Face, Closed, Tables, State, sameStage, lengthsFit}
 use Rattle.joiner.specs.Job as joiner
 use Rattle.joiner.specs.Declines.{talliesFit}
-use Rattle.theory_model.proofs.Facts.{fits-at, numbered-fits}
+use Rattle.joiner.proofs.Passed.{fits-at, numbered-fits}
 use Rattle.blocks.specs.Blocks.{anyExtents}
 use Rattle.job.specs.declared.Job.{Job}
 use Rattle.job.specs.Jobs.{anyCuts, jobOf, stateOf, totalLengths}
 use Rattle.stages.specs.Ticks.{tickedIn}
-use Rattle.judge.specs.Steps.{firstRefusal, openedOf}
-use Rattle.judge.proofs.StepLaws.{or-first, or-then, or-none, opened-passed, few-of}
+use Rattle.judge.specs.Judge.{firstRefusal, openedOf}
+use Rattle.judge.proofs.JudgeLaws.{or-first, or-then, or-none, opened-passed, few-of}
 use Rattle.totals.specs.Totals.{Holds, bothStand, totalsOf}
 use Rattle.totals.proofs.TotalLaws.{fewer-held}
 use Rattle.totals.specs.declared.Side.{Side}

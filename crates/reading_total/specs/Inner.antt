@@ -9,7 +9,7 @@ use Rattle.cells.specs.Grid.{cells}
 use Rattle.joiner.specs.Job.{Face, Closed, Job, lengthsFit}
 use Rattle.joiner.specs.Declines.{talliesFit}
 use Rattle.stages.specs.Ticks.{tickedIn}
-use Rattle.judge.specs.Steps.{firstRefusal, openedOf}
+use Rattle.judge.specs.Judge.{firstRefusal, openedOf}
 use Rattle.totals.specs.Totals.{bothStand}
 use Rattle.strain_calls.specs.Tables.{TotalTables, totalTrays}
 use Rattle.strain_calls.specs.Calls.{allCome}

@@ -20,8 +20,8 @@ use Rattle.job.specs.declared.Job.{Job}
 use Rattle.job.specs.Jobs.{jobOf, toldOf}
 use Rattle.stages.specs.Ticks.{tickedIn}
 use Rattle.judge.specs.declared.Entry.{Entry}
-use Rattle.judge.specs.Steps.{reachedOf, entryOf, mapStandsIn, linksStandIn, Advanced}
-use Rattle.judge.proofs.StepLaws.{or-first, or-then, reached-passed}
+use Rattle.judge.specs.Judge.{reachedOf, entryOf, mapStandsIn, linksStandIn, Advanced}
+use Rattle.judge.proofs.JudgeLaws.{or-first, or-then, reached-passed}
 use Rattle.step_cross.specs.declared.Sizes.{Sizes}
 use Rattle.step_cross.specs.Inner.{traysFit, crossedBut, numberable, standIn, laterRefusal, refusalOf, JoinReady, TalliesFit, CurvesJoined}
 

@@ -20,8 +20,7 @@ use Rattle.joiner.specs.Stages.{crossingStep, finished, stepsOf}
 use Rattle.joiner.specs.Calls.{cross, answer, mapsFit}
 use Rattle.joiner.specs.Declines.{adds, allLinksStand, lastCrossing, lentTo, mapStands, refusal, rowsStand, standsFor, talliesFit}
 use Rattle.joiner.specs.Entries.{CrossingDone, NumberedKind, CallStep, Merged, AtCrossing, Ticked, classOf, rowFinal}
-use Rattle.joiner.proofs.Accepted.{stage-same}
-use Rattle.theory_model.proofs.Facts.{Facts, facts, fits-at, tally-fits, faces-stand, curves-stand}
+use Rattle.joiner.proofs.Passed.{stage-same, Passed, passed, fits-at, tally-fits, faces-stand, curves-stand}
 use Rattle.pass_cross.proofs.MergeLaws.{crossing-merged}
 use Rattle.kind_numbers.proofs.NumberedLaws.{numbered-kind}
 use Rattle.job.specs.declared.Job.{Job}
@@ -29,8 +28,8 @@ use Rattle.job.specs.Jobs.{byKind, toldOf, jobOf, stateOf}
 use Rattle.job.specs.Jobs as job
 use Rattle.job.proofs.JobLaws.{fits-append}
 use Rattle.stages.specs.Ticks.{tickedIn}
-use Rattle.judge.specs.Steps.{reachedOf, lateOf, entryOf, linksStandIn, mapStandsIn}
-use Rattle.judge.proofs.StepLaws.{or-none, or-six, six-none, refusal-reached, late-none, few-of, stands-is, links-is, ticked-by, numbered-kept, step-refused, step-accepted}
+use Rattle.judge.specs.Judge.{reachedOf, lateOf, entryOf, linksStandIn, mapStandsIn}
+use Rattle.judge.proofs.JudgeLaws.{or-none, or-six, six-none, refusal-reached, late-none, few-of, stands-is, links-is, ticked-by, numbered-kept, step-refused, step-accepted}
 use Rattle.step_cross.specs.declared.Totals.{Totals}
 use Rattle.step_cross.proofs.CrossingLaws.{map-length}
 use Rattle.step_cross.specs.Inner.{lent, sizesOf, kindFits, traysFit, crossedBut, lastIn, rowsIn, allReady, numberable, standIn, laterRefusal, refusalOf, Ready, JoinReady, TalliesFit, CurvesJoined, KindRoom, BothNumbered}
@@ -114,8 +113,8 @@ module _ (s : State) (b : ℕ) (m : List ℕ) where
   -- ---- what an accepted step has passed
 
   module _ (acc : Ready s b m) where
-    call-facts : Facts s (cross b m)
-    call-facts = facts s (cross b m) (refusal-is ∙ acc .none)
+    call-facts : Passed s (cross b m)
+    call-facts = passed s (cross b m) (refusal-is ∙ acc .none)
 
     at : (i : ℕ) → getD (lentTo (s .job .told) (s .tables) (cross b m)) i (tray 0 0) .has ≡ getD (lentTo (s .job .told) (s .tables) (cross b m)) i (tray 0 0) .states
     at i = fits-at (lentTo (s .job .told) (s .tables) (cross b m)) i (call-facts .lent)
@@ -136,7 +135,7 @@ module _ (s : State) (b : ℕ) (m : List ℕ) where
     map-whole = map-length (blockExtents k b) (blocks k) _ _ (sizesOf (s .tables) (length m)) _ refl (ap not trays-fit) (length m) refl
 
     there : b < blocks k
-    there = ltb-true b (blocks k) (call-facts .at)
+    there = ltb-true b (blocks k) (call-facts .placed-in)
 
     -- what the tick and the joins require
     pub join-ready : s .job .told .entries Face < 4294967296 → s .job .told .entries Curve < 4294967296

@@ -21,7 +21,7 @@ use Rattle.job.specs.declared.Job.{Job}
 use Rattle.job.specs.Jobs.{tablesOf, toldOf, blockLengths, linkLengths, kindLengths}
 use Rattle.stages.specs.Ticks.{tickedIn}
 use Rattle.judge.specs.declared.Entry.{Entry}
-use Rattle.judge.specs.Steps.{firstRefusal, reachedOf, entryOf, mapStandsIn, linksStandIn, Advanced}
+use Rattle.judge.specs.Judge.{firstRefusal, reachedOf, entryOf, mapStandsIn, linksStandIn, Advanced}
 use Rattle.step_cross.specs.declared.KindSizes.{KindSizes}
 use Rattle.step_cross.specs.declared.Sizes.{Sizes}
 use Rattle.step_cross.specs.declared.Totals.{Totals}

@@ -24,6 +24,7 @@ use Rattle.joiner.specs.Stages.{enrolStep}
 use Rattle.joiner.specs.Calls.{enrol, answer, full, overfull}
 use Rattle.joiner.specs.Declines.{talliesFit, filled, stray, adds, refusal}
 use Rattle.joiner.specs.Entries.{enrolledRow, EnrolDone, blockEntry, CallStep}
+use Rattle.joiner.proofs.Passed.{tally-fits}
 use Rattle.blocks.specs.Blocks.{cutOf, anyExtents, sizeOf, Tells}
 use Rattle.blocks.specs.declared.Block.{Block}
 use Rattle.blocks.proofs.BlockLaws.{good-few, told-sized}
@@ -31,14 +32,13 @@ use Rattle.blocks.proofs.CodeLaws.{blocks-are}
 use Rattle.pass_enrol.specs.Enrolment.{Lies, keyIn, Firsts}
 use Rattle.pass_enrol.proofs.KeyLaws.{lies-told, enrolled-keys, stored-firsts}
 use Rattle.pass_enrol.proofs.RowLaws.{enrolled-faces, enrolled-curves}
-use Rattle.theory_model.proofs.Facts.{tally-fits}
 use Rattle.job.specs.declared.Job.{Job}
 use Rattle.job.specs.Jobs.{byKind, anyCuts, toldOf, jobOf, tablesOf, stateOf}
 use Rattle.job.proofs.JobLaws.{fits-append}
 use Rattle.stages.specs.Ticks.{tickedIn}
-use Rattle.judge.specs.Steps.{firstRefusal, reachedOf, Advanced}
-use Rattle.judge.specs.Steps as steps
-use Rattle.judge.proofs.StepLaws.{or-first, or-then, or-none, or-else-assoc, or-six, six-none, reached-passed, refusal-reached, ticked-by, numbered-kept, step-refused, step-accepted}
+use Rattle.judge.specs.Judge.{firstRefusal, reachedOf, Advanced}
+use Rattle.judge.specs.Judge as steps
+use Rattle.judge.proofs.JudgeLaws.{or-first, or-then, or-none, or-else-assoc, or-six, six-none, reached-passed, refusal-reached, ticked-by, numbered-kept, step-refused, step-accepted}
 use Rattle.pass_survey.specs.declared.Survey.{Survey}
 use Rattle.step_enrol.specs.declared.Sizes.{Sizes}
 use Rattle.step_enrol.specs.declared.Plan.{Plan}

@@ -22,7 +22,7 @@ use Rattle.blocks.specs.Blocks.{sizeOf}
 use Rattle.blocks.specs.declared.Block.{Block}
 use Rattle.pass_enrol.specs.Enrolment.{Lies, keyIn, rowIn}
 use Rattle.job.specs.Jobs.{byKind, blockLengths, linkLengths, foundLengths}
-use Rattle.judge.specs.Steps.{firstRefusal, reachedOf}
+use Rattle.judge.specs.Judge.{firstRefusal, reachedOf}
 use Rattle.step_enrol.specs.declared.Sizes.{Sizes}
 use Rattle.step_enrol.specs.declared.Plan.{Plan}
 

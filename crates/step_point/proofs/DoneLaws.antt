@@ -21,8 +21,7 @@ use Rattle.joiner.specs.Stages.{pointStep}
 use Rattle.joiner.specs.Calls.{point, answer, mapsFit, full, overfull}
 use Rattle.joiner.specs.Declines.{adds, curvesStand, lentTo, mapStands, numberStands, pointCells, refusal, stray, talliesFit}
 use Rattle.joiner.specs.Entries.{PointDone, CallStep, Ticked, rowFinal}
-use Rattle.joiner.proofs.Accepted.{stage-same}
-use Rattle.theory_model.proofs.Facts.{Facts, facts, fits-at, tally-fits, points-room}
+use Rattle.joiner.proofs.Passed.{stage-same, Passed, passed, fits-at, tally-fits, points-room}
 use Rattle.ranking.proofs.HeadLaws.{class-point}
 use Rattle.blocks.specs.Blocks.{Tells, sizeOf, anyExtents}
 use Rattle.blocks.specs.declared.Block.{Block}
@@ -37,9 +36,9 @@ use Rattle.job.specs.Jobs.{byKind, stageOf, toldOf, jobOf, stateOf}
 use Rattle.job.proofs.JobLaws.{fits-append}
 use Rattle.stages.specs.Ticks.{tickedIn}
 use Rattle.judge.specs.declared.Entry.{Entry}
-use Rattle.judge.specs.Steps.{reachedOf, entryOf, numberStandsIn, Advanced}
-use Rattle.judge.specs.Steps as steps
-use Rattle.judge.proofs.StepLaws.{or-none, or-six, six-none, refusal-reached, reached-passed, Passed, few-of, count-few, stands-is, ticked-by, numbered-kept, step-refused, step-accepted}
+use Rattle.judge.specs.Judge.{reachedOf, entryOf, numberStandsIn, Advanced}
+use Rattle.judge.specs.Judge as steps
+use Rattle.judge.proofs.JudgeLaws.{or-none, or-six, six-none, refusal-reached, reached-passed, FirstTests, few-of, count-few, stands-is, ticked-by, numbered-kept, step-refused, step-accepted}
 use Rattle.step_point.specs.declared.Plan.{Plan}
 use Rattle.step_point.specs.Inner.{lent, sizesOf, traysFit, curvesIn, standIn, foundBy, lateOf, foundOf, refusalOf, Plans, Ready, withNumbered, Closes}
 
@@ -125,8 +124,8 @@ module _ (j : Job) (cx cy cz ticks table curves keys rows numbers firsts listed 
   -- ---- what an accepted step has passed
 
   module _ (points : ℕ) (R : Ready j cx cy cz (lent ticks table curves keys rows numbers firsts listed) b m points) where
-    call-facts : Facts before (point b m)
-    call-facts = facts before (point b m) (R .none)
+    call-facts : Passed before (point b m)
+    call-facts = passed before (point b m) (R .none)
 
     abbrev trays : Bool
     trays = traysFit (blocks k) (blockExtents k b) (j .«curve_entries») (j .«point_entries») (sizesOf ticks table curves keys rows numbers firsts listed) (length m)
@@ -137,8 +136,8 @@ module _ (j : Job) (cx cy cz ticks table curves keys rows numbers firsts listed 
         let n = or-none (reachedOf (jobOf j cx cy cz) Points ticks b (6 * b + 5)) (cond (not trays) 6 (lateOf (jobOf j cx cy cz) (blockExtents k b) (entryOf table b) curves m (foundOf k table curves b m))) (sym refusal-is ∙ R .none) in
         (n .0, six-passed trays _ (n .1))
 
-    passed : Passed (jobOf j cx cy cz) Points × (b < blocks k)
-    passed = reached-passed (jobOf j cx cy cz) Points ticks b (6 * b + 5) (rungs .0)
+    first-passed : FirstTests (jobOf j cx cy cz) Points × (b < blocks k)
+    first-passed = reached-passed (jobOf j cx cy cz) Points ticks b (6 * b + 5) (rungs .0)
 
     map-size : length m ≡ cells (blockExtents k b)
     unfolding traysFit
@@ -166,7 +165,7 @@ module _ (j : Job) (cx cy cz ticks table curves keys rows numbers firsts listed 
         × ((j .faces + 0 ≤ j .«face_entries») × (j .curves + 0 ≤ j .«curve_entries») × (j .points + points ≤ j .«point_entries»))
     accept-advance =
         let h : (κ : Kind) → before .job .sofar κ ≤ before .job .told .entries κ = tally-fits (before .job) (call-facts .tallies) in
-        ((omega (arith, lengths .on-ticks, passed .1), few-of k (call-facts .cut)), (omega (arith, h Face), omega (arith, h Curve), room))
+        ((omega (arith, lengths .on-ticks, first-passed .1), few-of k (call-facts .cut)), (omega (arith, h Face), omega (arith, h Curve), room))
 
     module _ (r : Block) (T : anyExtents cx cy cz (λ k. Tells k b r)) (d : Entry) (f : d ≡ entryOf table b) where
       abbrev tells : Tells k b r
@@ -185,9 +184,9 @@ module _ (j : Job) (cx cy cz ticks table curves keys rows numbers firsts listed 
       -- .. and `store_points`
       pub accept-store : Lies (triple (j .nx) (j .ny) (j .nz)) r × (length m ≡ cells (sizeOf r)) × (b < 16384) × Room (length here) (j .points) (length keys) (length rows)
       accept-store = (
-        lies-told k b r tells (call-facts .cut) (passed .1) (passed .0 .sized),
+        lies-told k b r tells (call-facts .cut) (first-passed .1) (first-passed .0 .sized),
         map-size ∙ ap cells (sym (tells .size)),
-        omega (arith, passed .1, count-few k (call-facts .cut) (blocks k) refl),
+        omega (arith, first-passed .1, count-few k (call-facts .cut) (blocks k) refl),
         found-room k (before .tables) b m (tells .size) refl from-is (j .points) (length keys) (length rows) (fits-points .0) (fits-points .1),
       )
 

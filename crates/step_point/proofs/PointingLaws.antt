@@ -21,8 +21,8 @@ use Rattle.pass_point.specs.Findings.{foundCells}
 use Rattle.job.specs.declared.Job.{Job}
 use Rattle.job.specs.Jobs.{anyCuts, jobOf, toldOf}
 use Rattle.judge.specs.declared.Entry.{Entry}
-use Rattle.judge.specs.Steps.{reachedOf, entryOf}
-use Rattle.judge.proofs.StepLaws.{or-first, or-then, or-none, reached-passed, few-of, count-few, block-sized}
+use Rattle.judge.specs.Judge.{reachedOf, entryOf}
+use Rattle.judge.proofs.JudgeLaws.{or-first, or-then, or-none, reached-passed, few-of, count-few, block-sized}
 use Rattle.step_point.specs.declared.Plan.{Plan}
 use Rattle.step_point.specs.declared.Sizes.{Sizes}
 use Rattle.step_point.specs.Inner.{traysFit, standIn, foundBy, lateOf, foundOf, refusalOf, Plans}

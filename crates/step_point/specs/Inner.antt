@@ -19,7 +19,7 @@ use Rattle.kind_numbers.specs.Numbered.{Numbered}
 use Rattle.job.specs.declared.Job.{Job}
 use Rattle.job.specs.Jobs.{blockLengths, kindLengths, stageOf, tablesOf, toldOf, jobOf, stateOf}
 use Rattle.judge.specs.declared.Entry.{Entry}
-use Rattle.judge.specs.Steps.{firstRefusal, reachedOf, entryOf, mapStandsIn, numberStandsIn}
+use Rattle.judge.specs.Judge.{firstRefusal, reachedOf, entryOf, mapStandsIn, numberStandsIn}
 use Rattle.step_point.specs.declared.Plan.{Plan}
 use Rattle.step_point.specs.declared.Sizes.{Sizes}
 

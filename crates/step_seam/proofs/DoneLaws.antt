@@ -24,7 +24,7 @@ use Rattle.joiner.specs.Declines.{adds, counted, declines, lentTo, mapStands, r
 use Rattle.joiner.specs.Entries.{SeamDone, CallStep, Merged, AtSeam}
 use Rattle.joiner.proofs.Shared.{seam-listed}
 use Rattle.joiner.proofs.SeamSteps.{axis-bound}
-use Rattle.theory_model.proofs.Facts.{Facts, facts, fits-at, tally-fits, Standing, faces-stand, curves-stand}
+use Rattle.joiner.proofs.Passed.{Passed, passed, fits-at, tally-fits, Standing, faces-stand, curves-stand}
 use Rattle.pass_seam.specs.Walks.{layerEdges}
 use Rattle.pass_seam.proofs.SeamWalks.{seam-joined}
 use Rattle.blocks.specs.Blocks.{Tells, sizeOf}
@@ -34,8 +34,8 @@ use Rattle.job.specs.Jobs.{byKind, toldOf, jobOf, stateOf}
 use Rattle.job.proofs.JobLaws.{fits-append}
 use Rattle.stages.specs.Ticks.{tickedIn}
 use Rattle.judge.specs.declared.Entry.{Entry}
-use Rattle.judge.specs.Steps.{entryOf, placedOf, lateOf, Advanced}
-use Rattle.judge.proofs.StepLaws.{refusal-opened, late-none, few-of, block-sized, stands-is, links-is, ticked-by, numbered-kept, step-refused, step-accepted}
+use Rattle.judge.specs.Judge.{entryOf, placedOf, lateOf, Advanced}
+use Rattle.judge.proofs.JudgeLaws.{refusal-opened, late-none, few-of, block-sized, stands-is, links-is, ticked-by, numbered-kept, step-refused, step-accepted}
 use Rattle.step_seam.specs.declared.Joined.{Joined}
 use Rattle.step_seam.specs.declared.Shared.{Shared}
 use Rattle.step_seam.specs.Inner.{lent, sizesOf, mapsFitIn, traysFit, standIn, laterRefusal, refusalOf, Ready, SharedBy, Linked}
@@ -76,21 +76,21 @@ module _ (j : Job) (cx cy cz ticks blocks′ faces curves : List ℕ) (b c : ℕ
   -- ---- what an accepted step has passed
 
   module _ (acc : Ready j cx cy cz ticks blocks′ faces curves b c m n) where
-    call-facts : Facts before (join b c m n)
-    call-facts = facts before (join b c m n) (refusal-is ∙ acc .none)
+    call-facts : Passed before (join b c m n)
+    call-facts = passed before (join b c m n) (refusal-is ∙ acc .none)
 
     pub seam-few : intervals cx * intervals cy * intervals cz ≤ 16384
     seam-few = few-of k (call-facts .cut)
 
     pub low-sized : (r : Block) → Tells k b r → Sized 64 (sizeOf r)
-    low-sized = block-sized k (call-facts .cut) b (seam-listed k b c (call-facts .at) .0)
+    low-sized = block-sized k (call-facts .cut) b (seam-listed k b c (call-facts .placed-in) .0)
 
     pub high-sized : (r : Block) → Tells k c r → Sized 64 (sizeOf r)
-    high-sized = block-sized k (call-facts .cut) c (seam-listed k b c (call-facts .at) .1)
+    high-sized = block-sized k (call-facts .cut) c (seam-listed k b c (call-facts .placed-in) .1)
 
     pub step-in : (axis step : ℕ) → axis ≡ seamAxis k b c → step ≡ 6 * b + axis → step < length ticks
     unfolding blockTrays
-    step-in axis step e f = omega (arith, axis-bound k b c, seam-listed k b c (call-facts .at) .0, fits-at (lentTo (before .job .told) (before .tables) (join b c m n)) 0 (call-facts .lent))
+    step-in axis step e f = omega (arith, axis-bound k b c, seam-listed k b c (call-facts .placed-in) .0, fits-at (lentTo (before .job .told) (before .tables) (join b c m n)) 0 (call-facts .lent))
 
     pub seam-sums : (j .faces + 0 ≤ j .«face_entries») × (j .curves + 0 ≤ j .«curve_entries») × (j .points + 0 ≤ j .«point_entries»)
     seam-sums =
@@ -119,7 +119,7 @@ module _ (j : Job) (cx cy cz ticks blocks′ faces curves : List ℕ) (b c : ℕ
           → Rooted xs ys (joins (root xs) (layerEdges m (sh .lower) n (sh .upper) odd (fromOf (before .tables) κ b) (fromOf (before .tables) κ c) size (sh .columns) (sh .rows)))
           → Merged xs ys (AtSeam k (before .tables) κ b c m n)
       merged κ odd size o L U h xs ys J =
-          seam-joined k (call-facts .cut) b c (call-facts .at) axis (sh .columns) (sh .rows) number-is m (sh .lower) n (sh .upper)
+          seam-joined k (call-facts .cut) b c (call-facts .placed-in) axis (sh .columns) (sh .rows) number-is m (sh .lower) n (sh .upper)
           (rw (A .size) at (S .last)) (rw (B .size) at (S .first)) (rw (A .size) at (S .wide)) (rw (A .size) at (S .deep))
           (before .tables) κ odd size o
           (λ p i q. omega (arith, largest-bound (blockExtents k b) m p i, ap (largest (blockExtents k b) m) q, L .most))

@@ -23,8 +23,8 @@ use Rattle.job.specs.declared.Job.{Job}
 use Rattle.job.specs.Jobs.{jobOf, toldOf}
 use Rattle.stages.specs.Ticks.{tickedIn}
 use Rattle.judge.specs.declared.Entry.{Entry}
-use Rattle.judge.specs.Steps.{openedOf, entryOf, mapStandsIn, linksStandIn}
-use Rattle.judge.proofs.StepLaws.{or-first, or-then, opened-passed, block-sized}
+use Rattle.judge.specs.Judge.{openedOf, entryOf, mapStandsIn, linksStandIn}
+use Rattle.judge.proofs.JudgeLaws.{or-first, or-then, opened-passed, block-sized}
 use Rattle.step_seam.specs.declared.Shared.{Shared}
 use Rattle.step_seam.specs.declared.Sizes.{Sizes}
 use Rattle.step_seam.specs.Inner.{standIn, traysFit, mapsFitIn, laterRefusal, refusalOf, anySeam, SharedBy}

@@ -23,7 +23,7 @@ use Rattle.job.specs.declared.Job.{Job}
 use Rattle.job.specs.Jobs.{blockLengths, linkLengths, tablesOf, toldOf, jobOf}
 use Rattle.stages.specs.Ticks.{tickedIn}
 use Rattle.judge.specs.declared.Entry.{Entry}
-use Rattle.judge.specs.Steps.{firstRefusal, openedOf, entryOf, mapStandsIn, linksStandIn}
+use Rattle.judge.specs.Judge.{firstRefusal, openedOf, entryOf, mapStandsIn, linksStandIn}
 use Rattle.step_seam.specs.declared.Shared.{Shared}
 use Rattle.step_seam.specs.declared.Sizes.{Sizes}
 

@@ -19,8 +19,8 @@ use Rattle.job.specs.declared.Job.{Job}
 use Rattle.job.specs.Jobs.{jobOf, toldOf, stateOf}
 use Rattle.job.proofs.JobLaws.{fits-append}
 use Rattle.stages.specs.Ticks.{tickedIn}
-use Rattle.judge.specs.Steps.{firstRefusal, openedOf, reachedOf, entryOf, numberStandsIn}
-use Rattle.judge.proofs.StepLaws.{or-none, reached-passed, Passed, stands-is}
+use Rattle.judge.specs.Judge.{firstRefusal, openedOf, reachedOf, entryOf, numberStandsIn}
+use Rattle.judge.proofs.JudgeLaws.{or-none, reached-passed, FirstTests, stands-is}
 use Rattle.totals.specs.Totals.{readingsFit}
 use Rattle.pass_strain.proofs.AddingLaws.{block-adds}
 use Rattle.strain_calls.specs.Tables.{TotalTables, totalTables, totalTrays}
@@ -125,7 +125,7 @@ module _ (j : Job) (cx cy cz lent-blocks lent-numbers came : List ℕ) (sums : L
     unfolding refusalOf
     rungs = let r = or-none (reachedOf (jobOf j cx cy cz) Closed came b b) _ (sym e ∙ none) in (r .0, six-passed trays _ (r .1))
 
-    passed : Passed (jobOf j cx cy cz) Closed × (b < blocks cut-as)
+    passed : FirstTests (jobOf j cx cy cz) Closed × (b < blocks cut-as)
     passed = reached-passed (jobOf j cx cy cz) Closed came b b (rungs .0)
 
     -- what `accept` requires

@@ -16,14 +16,14 @@ use Rattle.cells.specs.Grid.{cells}
 use Rattle.cutting.specs.Cutting.{Cutting, intervals, blocks, blockExtents}
 use Rattle.joiner.specs.Job.{Face, Closed, tray, lengthsFit}
 use Rattle.joiner.specs.Declines.{talliesFit}
-use Rattle.theory_model.proofs.Facts.{fits-at, numbered-fits}
+use Rattle.joiner.proofs.Passed.{fits-at, numbered-fits}
 use Rattle.blocks.specs.Blocks.{Tells, sizeOf, anyExtents}
 use Rattle.blocks.specs.declared.Block.{Block}
 use Rattle.job.specs.declared.Job.{Job}
 use Rattle.job.specs.Jobs.{anyCuts, jobOf, toldOf, totalLengths}
 use Rattle.judge.specs.declared.Entry.{Entry}
-use Rattle.judge.specs.Steps.{reachedOf, entryOf, mapStandsIn, numberStandsIn}
-use Rattle.judge.proofs.StepLaws.{or-first, or-then, reached-passed, Passed, few-of, count-few, block-sized}
+use Rattle.judge.specs.Judge.{reachedOf, entryOf, mapStandsIn, numberStandsIn}
+use Rattle.judge.proofs.JudgeLaws.{or-first, or-then, reached-passed, FirstTests, few-of, count-few, block-sized}
 use Rattle.totals.specs.Totals.{Holds, bothStand, readingsFit, sumsWith, countsWith}
 use Rattle.totals.proofs.TotalLaws.{fewer-held}
 use Rattle.lowest.specs.Lowest.{starts, startOf}
@@ -144,7 +144,7 @@ module _ (j : Job) (cx cy cz came : List ℕ) (b n : ℕ) (e : n ≡ reachedOf (
   abbrev cut-as : Cutting
   cut-as = toldOf j cx cy cz .cutting
 
-  passed : Passed (jobOf j cx cy cz) Closed × (b < blocks cut-as)
+  passed : FirstTests (jobOf j cx cy cz) Closed × (b < blocks cut-as)
   passed = reached-passed (jobOf j cx cy cz) Closed came b b (sym e ∙ q)
 
   -- what `block_count` requires

@@ -14,7 +14,7 @@ use Rattle.joiner.specs.Job.{Face, Curve, Closed, Job, tray, lengthsFit}
 use Rattle.joiner.specs.Declines.{talliesFit}
 use Rattle.job.specs.Jobs.{totalLengths}
 use Rattle.judge.specs.declared.Entry.{Entry}
-use Rattle.judge.specs.Steps.{firstRefusal, reachedOf, entryOf, mapStandsIn, numberStandsIn}
+use Rattle.judge.specs.Judge.{firstRefusal, reachedOf, entryOf, mapStandsIn, numberStandsIn}
 use Rattle.totals.specs.Totals.{Taken, bothStand, readingsFit, sumsWith, countsWith}
 use Rattle.lowest.specs.Lowest.{starts}
 use Rattle.pass_strain.specs.Summing.{brought, blockTaken, Whole}

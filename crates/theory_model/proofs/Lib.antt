@@ -2,7 +2,6 @@
 pub mod Merging
 pub mod Edges
 pub mod Numbers
-pub mod Facts
 pub mod Steps
 pub mod Runs
 pub mod Examples

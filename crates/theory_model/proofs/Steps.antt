@@ -22,13 +22,12 @@ use Rattle.cells.proofs.GridLaws.{upper-neighbour}
 use Rattle.union_find.proofs.LinkLaws.{rooted-refl}
 use Rattle.labels.proofs.ComponentLaws.{of-order-out}
 use Rattle.cutting.proofs.CutLaws.{embed-order}
-use Rattle.joiner.proofs.Accepted.{stage-same}
 use Rattle.joiner.proofs.Shared.{seam-listed, shared-out}
+use Rattle.joiner.proofs.Passed.{stage-same, Passed, Standing, curves-stand, faces-stand, passed, fits-at, node-in, points-room, tally-fits}
 use Rattle.theory_model.specs.Model.{after, answerOf, cleared, crossEdges, crossLast, crossTables, crossed, enrolTables, freshJob, acceptedAnswer, instead, acceptedState, moved, numberKind, openedState, pointLast, pointTables, pointed, relinked, seamEdges, seamTables}
 use Rattle.theory_model.proofs.Merging.{relinked-merged}
 use Rattle.theory_model.proofs.Edges.{cross-edges-in, cross-edges-out, seam-edges-in, seam-edges-out}
 use Rattle.theory_model.proofs.Numbers.{numbered-by}
-use Rattle.theory_model.proofs.Facts.{Facts, Standing, curves-stand, faces-stand, facts, fits-at, node-in, points-room, tally-fits}
 
 -- ---- enrol
 
@@ -45,7 +44,7 @@ enrol-done s b m = record {
 
 -- ---- seam
 
-module _ (s : State) (b c : ℕ) (m n : List ℕ) (F : Facts s (join b c m n)) where
+module _ (s : State) (b c : ℕ) (m n : List ℕ) (F : Passed s (join b c m n)) where
   abbrev k₁ : Cutting
   k₁ = s .job .told .cutting
 
@@ -54,7 +53,7 @@ module _ (s : State) (b c : ℕ) (m n : List ℕ) (F : Facts s (join b c m n)) w
       → (x y : ℕ) → AtSeam k₁ (s .tables) κ b c m n x y → (x < length (s .tables .links κ)) × (y < length (s .tables .links κ))
   seam-inside κ S T l x y r =
       let h = shared-out k₁ b c (r .both) in
-      let w = seam-listed k₁ b c (F .at) in
+      let w = seam-listed k₁ b c (F .placed-in) in
       let o : order (blockExtents k₁ c) (r .cell .to) ≡ orderOf κ =
       sym (embed-order k₁ (F .cut) c (w .1) (r .cell .to) (h .q-in)) ∙ ap (order (k₁ .extents)) (sym (h .one-cell)) ∙ embed-order k₁ (F .cut) b (w .0) (r .cell .from) (h .p-in) ∙ r .level in (
         omega (arith, r .x-is, node-in s (blockExtents k₁ b) b m κ S (r .cell .from) (h .p-in) (r .level) (r .one), l),
@@ -103,7 +102,7 @@ not-stage s t e q = eqb-false (stageNumber s) (stageNumber t) e (ap stageNumber 
 
 -- ---- crossing
 
-module _ (s : State) (b : ℕ) (m : List ℕ) (F : Facts s (cross b m)) where
+module _ (s : State) (b : ℕ) (m : List ℕ) (F : Passed s (cross b m)) where
   abbrev k₂ : Cutting
   k₂ = s .job .told .cutting
 
@@ -188,7 +187,7 @@ module _ (s : State) (b : ℕ) (m : List ℕ) (F : Facts s (cross b m)) where
 
 -- ---- point
 
-module _ (s : State) (b : ℕ) (m : List ℕ) (F : Facts s (point b m)) where
+module _ (s : State) (b : ℕ) (m : List ℕ) (F : Passed s (point b m)) where
   abbrev stage₃ : Stage
   stage₃ = nextAfter (s .job .told .cutting) (ticked (pointTables s b m)) (s .job .stage)
 
@@ -245,7 +244,7 @@ module _ (s : State) (b : ℕ) (m : List ℕ) (F : Facts s (point b m)) where
 
 -- ---- one call
 
-done-by : (s : State) (c : Call) → Facts s c → Done s c (acceptedAnswer s c) (acceptedState s c)
+done-by : (s : State) (c : Call) → Passed s c → Done s c (acceptedAnswer s c) (acceptedState s c)
 unfolding acceptedAnswer acceptedState
 done-by s (enrol b m) F = (refl, enrol-done s b m)
 done-by s (join b c m n) F = (refl, seam-done s b c m n F)
@@ -270,7 +269,7 @@ model-step s c =
     by-test (eqb (refusal s c) 0)
     (λ t.
     let e : refusal s c ≡ 0 = eqb-true (refusal s c) 0 t in
-    rw t (record { told = given-none s c ∙ sym e; declined = λ n. absurd (n e); accepted = λ _. done-by s c (facts s c e) }))
+    rw t (record { told = given-none s c ∙ sym e; declined = λ n. absurd (n e); accepted = λ _. done-by s c (passed s c e) }))
     (λ t. rw t (record { told = refl; declined = λ _. (refl, refl); accepted = λ e. absurd (eqb-false (refusal s c) 0 t e) }))
 
 -- .. and every opening.

@@ -1,6 +1,6 @@
 -- `judge::advance` meets its contract.
 use borrow.Author.Needs.{needs}
-use Rattle.judge.proofs.StepLaws.{advanced}
+use Rattle.judge.proofs.JudgeLaws.{advanced}
 use Rattle.judge.proofs.advance.Statement.{statement}
 use Rattle.judge.proofs.advance.Tie as tie
 

@@ -1,6 +1,6 @@
 -- `judge::at` meets its contract.
 use borrow.Author.Needs.{needs}
-use Rattle.judge.proofs.StepLaws.{past}
+use Rattle.judge.proofs.JudgeLaws.{past}
 use Rattle.judge.proofs.at.Statement.{statement}
 use Rattle.judge.proofs.at.Tie as tie
 

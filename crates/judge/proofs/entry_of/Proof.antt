@@ -1,6 +1,6 @@
 -- `judge::entry_of` meets its contract.
 use borrow.Author.Needs.{needs}
-use Rattle.judge.specs.Steps.{entryOf}
+use Rattle.judge.specs.Judge.{entryOf}
 use Rattle.judge.proofs.entry_of.Statement.{statement}
 use Rattle.judge.proofs.entry_of.Tie as tie
 

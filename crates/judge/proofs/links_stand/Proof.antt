@@ -2,7 +2,7 @@
 use mathlib.Core.Path.{sym, _∙_}
 use borrow.Author.Tests.{not-true, not-false}
 use borrow.Author.Needs.{needs}
-use Rattle.judge.specs.Steps.{linksStandIn}
+use Rattle.judge.specs.Judge.{linksStandIn}
 use Rattle.judge.proofs.links_stand.Statement.{statement}
 use Rattle.judge.proofs.links_stand.Tie as tie
 

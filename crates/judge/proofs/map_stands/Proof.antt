@@ -1,6 +1,6 @@
 -- `judge::map_stands` meets its contract.
 use borrow.Author.Needs.{needs}
-use Rattle.judge.proofs.StepLaws.{map-stands-by}
+use Rattle.judge.proofs.JudgeLaws.{map-stands-by}
 use Rattle.judge.proofs.map_stands.Statement.{statement}
 use Rattle.judge.proofs.map_stands.Tie as tie
 

@@ -1,6 +1,6 @@
 -- `judge::number_stands` meets its contract.
 use borrow.Author.Needs.{needs}
-use Rattle.judge.proofs.StepLaws.{number-none, number-some}
+use Rattle.judge.proofs.JudgeLaws.{number-none, number-some}
 use Rattle.judge.proofs.number_stands.Statement.{statement}
 use Rattle.judge.proofs.number_stands.Tie as tie
 

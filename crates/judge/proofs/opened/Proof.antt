@@ -1,6 +1,6 @@
 -- `judge::opened` meets its contract.
 use borrow.Author.Needs.{needs}
-use Rattle.judge.proofs.StepLaws.{opened-1, opened-2, opened-3, opened-0}
+use Rattle.judge.proofs.JudgeLaws.{opened-1, opened-2, opened-3, opened-0}
 use Rattle.judge.proofs.opened.Statement.{statement}
 use Rattle.judge.proofs.opened.Tie as tie
 

@@ -1,6 +1,6 @@
 -- `judge::reached` meets its contract.
 use borrow.Author.Needs.{needs}
-use Rattle.judge.proofs.StepLaws.{reached-first, reached-4, reached-5, reached-0}
+use Rattle.judge.proofs.JudgeLaws.{reached-first, reached-4, reached-5, reached-0}
 use Rattle.judge.proofs.reached.Statement.{statement}
 use Rattle.judge.proofs.reached.Tie as tie
 

@@ -1,8 +1,8 @@
 -- `judge::stands` meets its contract.
 use borrow.Author.Needs.{needs}
 use Rattle.job.proofs.JobLaws.{and-here, and-next}
-use Rattle.judge.specs.Steps.{standsBy}
-use Rattle.judge.proofs.StepLaws.{stands-here, stands-next}
+use Rattle.judge.specs.Judge.{standsBy}
+use Rattle.judge.proofs.JudgeLaws.{stands-here, stands-next}
 use Rattle.judge.proofs.stands.Statement.{statement}
 use Rattle.judge.proofs.stands.Tie as tie
 

@@ -1,6 +1,6 @@
 -- `reading_cell::position_at` meets its contract.
 use borrow.Author.Needs.{needs}
-use Rattle.judge.proofs.StepLaws.{past}
+use Rattle.judge.proofs.JudgeLaws.{past}
 use Rattle.reading_cell.proofs.position_at.Statement.{statement}
 use Rattle.reading_cell.proofs.position_at.Tie as tie
 

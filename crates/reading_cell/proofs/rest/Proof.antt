@@ -2,7 +2,7 @@
 use borrow.Author.Needs.{needs}
 use mathlib.Core.Path.{refl}
 use Rattle.job.proofs.JobLaws.{cond-not-here, cond-not-next}
-use Rattle.judge.proofs.StepLaws.{few-of, count-few, block-sized}
+use Rattle.judge.proofs.JudgeLaws.{few-of, count-few, block-sized}
 use Rattle.reading_cell.specs.Inner.{laterRefusal}
 use Rattle.reading_cell.proofs.LookupLaws.{trays-told, stand-told, map-length}
 use Rattle.reading_cell.proofs.rest.Statement.{statement}

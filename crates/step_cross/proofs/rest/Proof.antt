@@ -2,7 +2,7 @@
 use mathlib.Core.Path.{refl}
 use borrow.Author.Needs.{needs}
 use Rattle.job.proofs.JobLaws.{cond-not-here, cond-not-next}
-use Rattle.judge.proofs.StepLaws.{few-of, count-few, block-sized}
+use Rattle.judge.proofs.JudgeLaws.{few-of, count-few, block-sized}
 use Rattle.step_cross.specs.Inner.{laterRefusal}
 use Rattle.step_cross.proofs.CrossingLaws.{trays-told, stand-told, rows-told, map-length}
 use Rattle.step_cross.proofs.rest.Statement.{statement}

@@ -6,7 +6,7 @@ use borrow.Author.Needs.{needs}
 use borrow.Author.Tests.{not-true, not-false}
 use Rattle.lists.specs.Lists.{consecutive, allOf}
 use Rattle.union_find.proofs.SoundLaws.{test-same, test-passed, test-failed, test-none}
-use Rattle.judge.specs.Steps.{numberStandsIn}
+use Rattle.judge.specs.Judge.{numberStandsIn}
 use Rattle.step_point.specs.Inner.{curvesIn}
 use Rattle.step_point.proofs.numbers_stand.Statement.{statement}
 use Rattle.step_point.proofs.numbers_stand.Tie as tie

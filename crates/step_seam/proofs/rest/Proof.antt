@@ -5,7 +5,7 @@ use mathlib.Core.Path.{refl}
 use Rattle.job.proofs.JobLaws.{cond-here, cond-next, cond-not-here, cond-not-next}
 use Rattle.step_seam.specs.Inner.{laterRefusal}
 use Rattle.step_seam.proofs.SeamingLaws.{lower-sized, upper-sized, trays-told, stand-told, lower-length, upper-length}
-use Rattle.judge.proofs.StepLaws.{few-of, count-few}
+use Rattle.judge.proofs.JudgeLaws.{few-of, count-few}
 use Rattle.step_seam.proofs.rest.Statement.{statement}
 use Rattle.step_seam.proofs.rest.Tie as tie
 

@@ -1,44 +1,87 @@
--- What an accepted call passed: the tests of its tables, tallies and maps, and what follows for places.
+-- What an accepted call passed: every test of the table of refusals, and what follows for lengths, tallies and places.
 -- Assumes nothing.
-use mathlib.Core.Bool.{true, false, _&&_, _||_}
-use mathlib.Core.List.{List, [], _∷_}
+use mathlib.Core.Bool.{Bool, true, false, not, _&&_, _||_}
+use mathlib.Core.List.{List, [], _∷_, _++_}
 use mathlib.Core.Logic.{_≢_}
-use mathlib.Core.Path.{_≡_, ap, refl}
-use Prim.Native.Nat.{ℕ, zero, suc, _+_, _<_, _≤_}
+use mathlib.Core.Path.{_≡_, refl, sym, ap, _∙_}
+use Prim.Native.Nat.{ℕ, zero, suc, _+_, _≤_, _<_}
 use native.Mathlib.Omega.{arith}
 use lib.Dec.{eqb, leb, ltb}
 use lib.ListN.{getD}
-use borrow.Author.Tests.{eqb-true, leb-true, ltb-false, not-false}
-use Rattle.refusals.specs.Refusals.{Refusal, bad-cut, stray-label, table-full, wrong-tray, no-such-place, number, standsIn}
+use borrow.Author.Tests.{eqb-true, eqb-false, leb-true, ltb-false, not-false}
+use Rattle.refusals.specs.Refusals.{Refusal, off-size, bad-cut, wrong-stage, no-such-place, done-already, wrong-tray, stray-label, layers-differ, table-full, number, standsIn}
 use Rattle.cells.specs.Box.{Triple}
+use Rattle.cells.specs.Extents.{offSize}
 use Rattle.cells.specs.Grid.{cells, order}
 use Rattle.labels.specs.Components.{largest}
-use Rattle.joiner.specs.Job.{Kind, Face, Curve, Point, orderOf, Job, State, Tray, tray, lengthsFit, countOf, fromOf, node}
-use Rattle.joiner.specs.Calls.{Call, full, mapsFit, overfull, placed}
+use Rattle.joiner.specs.Job.{Kind, Face, Curve, Point, orderOf, Stage, Enrol, Seam, Crossing, Points, Closed, stageNumber, sameStage, Job, State, ticked, Tray, tray, lengthsFit, countOf, fromOf, node}
+use Rattle.joiner.specs.Calls.{Call, stageOf, repeated, placed, mapsFit, layersDiffer, full, overfull}
 use Rattle.joiner.specs.Declines.{adds, counted, cutFor, declines, filled, lentTo, mapStands, refusal, standing, standsFor, stray, talliesFit, tallyFits}
 use Rattle.lists.proofs.Cases.{and-first, and-second, neither}
 use Rattle.refusals.proofs.RefusalLaws.{given-none}
 use Rattle.labels.proofs.CountLaws.{largest-bound}
 
-pub record Facts (s : State) (c : Call) : Type 0 where
+-- ---- stages by number
+
+stageAt : ℕ → Stage
+stageAt zero = Enrol
+stageAt (suc zero) = Seam
+stageAt (suc (suc zero)) = Crossing
+stageAt (suc (suc (suc zero))) = Points
+stageAt (suc (suc (suc (suc n)))) = Closed
+
+stage-at : (s : Stage) → stageAt (stageNumber s) ≡ s
+unfolding stageAt stageNumber
+stage-at Enrol = refl
+stage-at Seam = refl
+stage-at Crossing = refl
+stage-at Points = refl
+stage-at Closed = refl
+
+pub stage-same : (s t : Stage) → stageNumber s ≡ stageNumber t → s ≡ t
+stage-same s t e = sym (stage-at s) ∙ ap stageAt e ∙ stage-at t
+
+-- a test of stages
+pub is-stage : (s t : Stage) → sameStage s t ≡ true → s ≡ t
+unfolding sameStage
+is-stage s t e = stage-same s t (eqb-true _ _ e)
+
+pub not-stage : (s t : Stage) → sameStage s t ≡ false → s ≢ t
+unfolding sameStage
+not-stage s t e q = eqb-false (stageNumber s) (stageNumber t) e (ap stageNumber q)
+
+-- ---- the tests
+
+pub record Passed (s : State) (c : Call) : Type 0 where
+  pub on-size : offSize 1024 (s .job .told .cutting .extents) ≡ false
   pub cut : cutFor s c ≡ true
-  pub at : placed (s .job .told .cutting) (s .job .numbered) c ≡ true
+  pub stage : s .job .stage ≡ stageOf c
+  pub placed-in : placed (s .job .told .cutting) (s .job .numbered) c ≡ true
+  pub fresh : repeated (s .job .told .cutting) (ticked (s .tables)) c ≡ false
+  pub maps : mapsFit (s .job .told .cutting) c ≡ true
   pub lent : lengthsFit (lentTo (s .job .told) (s .tables) c) ≡ true
   pub tallies : talliesFit (s .job) ≡ true
   pub stands : standsFor s c ≡ true
+  pub layers : layersDiffer (s .job .told .cutting) c ≡ false
   pub room : full (s .job .told .entries) (s .job .sofar) (adds s c) ≡ false
 
-pub facts : (s : State) (c : Call) → refusal s c ≡ 0 → Facts s c
+pub passed : (s : State) (c : Call) → refusal s c ≡ 0 → Passed s c
 unfolding refusal declines standsIn number stray
-facts s c e =
+passed s c e =
     let n : (r : Refusal) → standsIn (declines s c) r ≡ false = given-none (standsIn (declines s c)) .0 e in
+    let t : (mapsFit (s .job .told .cutting) c && lengthsFit (lentTo (s .job .told) (s .tables) c)) ≡ true = not-false _ (n wrong-tray) in
     let w : (talliesFit (s .job) && standsFor s c) ≡ true = not-false _ (n stray-label) in
     record {
+      on-size = n off-size;
       cut = not-false _ (n bad-cut);
-      at = not-false _ (n no-such-place);
-      lent = and-second (mapsFit (s .job .told .cutting) c) (lengthsFit (lentTo (s .job .told) (s .tables) c)) (not-false _ (n wrong-tray));
+      stage = is-stage (s .job .stage) (stageOf c) (not-false _ (n wrong-stage));
+      placed-in = not-false _ (n no-such-place);
+      fresh = n done-already;
+      maps = and-first (mapsFit (s .job .told .cutting) c) (lengthsFit (lentTo (s .job .told) (s .tables) c)) t;
+      lent = and-second (mapsFit (s .job .told .cutting) c) (lengthsFit (lentTo (s .job .told) (s .tables) c)) t;
       tallies = and-first (talliesFit (s .job)) (standsFor s c) w;
       stands = and-second (talliesFit (s .job)) (standsFor s c) w;
+      layers = n layers-differ;
       room = n table-full;
     }
 

@@ -3,7 +3,7 @@
 use mathlib.Core.Path.{_≡_, refl, sym, ap, subst, _∙_}
 use mathlib.Core.Bool.{Bool, true, false, not, cond, _&&_}
 use mathlib.Core.Logic.{_≢_}
-use mathlib.Core.List.{List, []}
+use mathlib.Core.List.{List, [], _++_}
 use Prim.Native.Nat.{ℕ, _+_, _*_, _≤_, _<_}
 use native.Mathlib.Omega.{arith}
 use lib.Dec.{eqb, leb, ltb}
@@ -17,13 +17,13 @@ use Rattle.cells.specs.Grid.{cells}
 use Rattle.extents.proofs.SizeLaws.{sized-of}
 use Rattle.labels.specs.Components.{largest}
 use Rattle.cutting.specs.Cutting.{Cutting, intervals, blocks, blockExtents, goodCut}
-use Rattle.joiner.specs.Job.{Kind, Face, Curve, Point, Tables, State, sameStage, countOf, fromOf, ticked}
+use Rattle.joiner.specs.Job.{Kind, Face, Curve, Point, Told, Tables, State, Tray, sameStage, countOf, fromOf, ticked, lengthsFit, blockTrays, linkTrays, foundTrays, numberTrays, firstTrays, listedTrays, kindTrays}
 use Rattle.joiner.specs.Job as joiner
 use Rattle.joiner.specs.Stages.{nextAfter}
-use Rattle.joiner.specs.Calls.{Call, Answer, answer, stageOf, placed, repeated, layersDiffer, full, overfull}
-use Rattle.joiner.specs.Declines.{adds, counted, cutFor, declines, filled, linksStand, mapStands, numberStands, refusal, standing, standsFor, stray, talliesFit, waysStand}
+use Rattle.joiner.specs.Calls.{Call, enrol, join, cross, point, look, reading, Answer, answer, stageOf, placed, repeated, mapsFit, layersDiffer, full, overfull}
+use Rattle.joiner.specs.Declines.{adds, counted, cutFor, declines, filled, lentTo, linksStand, mapStands, numberStands, refusal, standing, standsFor, stray, talliesFit, waysStand}
 use Rattle.joiner.specs.Entries.{Done, CallStep, Ticked}
-use Rattle.theory_model.proofs.Facts.{tally-fits}
+use Rattle.joiner.proofs.Passed.{tally-fits}
 use Rattle.blocks.specs.Blocks.{anyExtents, cutOf, sizeOf, Tells}
 use Rattle.blocks.specs.declared.Block.{Block}
 use Rattle.blocks.proofs.BlockLaws.{good-few, told-sized}
@@ -31,12 +31,15 @@ use Rattle.blocks.proofs.CodeLaws.{blocks-are}
 use Rattle.pass_survey.specs.declared.Survey.{Survey}
 use Rattle.job.specs.declared.Job.{Job}
 use Rattle.job.specs.declared.Stage.{Stage}
-use Rattle.job.specs.Jobs.{byKind, jobOf, toldOf, stateOf}
+use Rattle.job.specs.Jobs.{anyCuts, byKind, jobOf, toldOf, stateOf}
 use Rattle.job.specs.Jobs as job
+use Rattle.job.proofs.JobLaws.{fits-append}
 use Rattle.stages.specs.Ticks.{tickedIn}
 use Rattle.stages.proofs.StageLaws.{next-told}
+use Rattle.judge.specs.declared.CallName.{CallName}
+use Rattle.judge.specs.declared.Lengths.{Lengths}
 use Rattle.judge.specs.declared.Entry.{Entry}
-use Rattle.judge.specs.Steps.{firstRefusal, openedOf, reachedOf, lateOf, placedOf, entryOf, standsBy, mapStandsIn, linksStandIn, numberStandsIn, movedOn, Advanced}
+use Rattle.judge.specs.Judge.{firstRefusal, entriesOf, lengthsOf, nameOf, stageFor, lentBy, fitsIn, blockFits, mapJudged, lengthsJudged, judgedOf, openedOf, reachedOf, lateOf, placedOf, entryOf, standsBy, mapStandsIn, linksStandIn, numberStandsIn, movedOn, Advanced}
 
 -- ---- one refusal or else another
 
@@ -115,12 +118,12 @@ module _ (s : State) (c : Call) (none : (κ : Kind) → adds s c κ ≡ 0) where
 
 -- ---- what the first tests passed
 
-pub record Passed (j : joiner.Job) (s : joiner.Stage) : Type 0 where
+pub record FirstTests (j : joiner.Job) (s : joiner.Stage) : Type 0 where
   pub sized : Sized 1024 (j .told .cutting .extents)
   pub good : goodCut (j .told .cutting) ≡ true
   pub stage : sameStage (j .stage) s ≡ true
 
-pub opened-passed : (j : joiner.Job) (s : joiner.Stage) → openedOf j s ≡ 0 → Passed j s
+pub opened-passed : (j : joiner.Job) (s : joiner.Stage) → openedOf j s ≡ 0 → FirstTests j s
 unfolding openedOf
 opened-passed j s h =
     let p = go (offSize 1024 (j .told .cutting .extents)) (goodCut (j .told .cutting)) (sameStage (j .stage) s) h in
@@ -132,7 +135,7 @@ opened-passed j s h =
     go false true false h = absurd (omega arith)
     go false true true h = (refl, refl, refl)
 
-pub reached-passed : (j : joiner.Job) (s : joiner.Stage) (ticks : List ℕ) (b step : ℕ) → reachedOf j s ticks b step ≡ 0 → Passed j s × (b < blocks (j .told .cutting))
+pub reached-passed : (j : joiner.Job) (s : joiner.Stage) (ticks : List ℕ) (b step : ℕ) → reachedOf j s ticks b step ≡ 0 → FirstTests j s × (b < blocks (j .told .cutting))
 unfolding reachedOf
 reached-passed j s ticks b step h =
     let n = or-none (openedOf j s) (cond (not (ltb b (blocks (j .told .cutting)))) 4 (cond (tickedIn ticks step) 5 0)) h in
@@ -247,6 +250,187 @@ module _ (numbers : List ℕ) (most x n : ℕ) (e : n ≡ getD numbers x 0) wher
   pub number-some : (n ≡ 0 → ⊥) → (t : Bool) → t ≡ leb n most → t ≡ numberStandsIn numbers most x
   unfolding numberStandsIn
   number-some z t h = rw (← e, lt-ltb 0 n (omega arith)) h
+
+-- ---- the lengths of what is lent
+
+-- two lists of lengths, tested one after the other
+pub fits-join : (xs ys : List Tray) (a b r : Bool) → r ≡ (a && b) → a ≡ lengthsFit xs → b ≡ lengthsFit ys → r ≡ lengthsFit (xs ++ ys)
+fits-join xs ys a b r e f g = rw (fits-append xs ys, ← f, ← g) e
+
+-- a call that is told by name
+pub lent-same : (c d : CallName) (count : ℕ) (n : Kind → ℕ) (z : Lengths) (r : Bool) → c ≡ d → r ≡ lengthsFit (lentBy d count n z) → r ≡ lengthsFit (lentBy c count n z)
+lent-same c d count n z r e h = rw e h
+
+-- The joiner's tables of a call, by their lengths.
+pub lent-is : (o : Told) (t : Tables) (c : Call) → lentTo o t c ≡ lentBy (nameOf c) (blocks (o .cutting)) (o .entries) (lengthsOf t)
+unfolding blockTrays linkTrays foundTrays numberTrays firstTrays listedTrays kindTrays
+lent-is o t (enrol b m) = refl
+lent-is o t (join b c m n) = refl
+lent-is o t (cross b m) = refl
+lent-is o t (point b m) = refl
+lent-is o t (look b m c) = refl
+lent-is o t (reading κ n) = refl
+
+-- .. and its stage.
+pub stage-is : (c : Call) → stageOf c ≡ stageFor (nameOf c)
+stage-is (enrol b m) = refl
+stage-is (join b c m n) = refl
+stage-is (cross b m) = refl
+stage-is (point b m) = refl
+stage-is (look b m c) = refl
+stage-is (reading κ n) = refl
+
+-- ---- the judge is the joiner's
+
+-- 8 decided in two steps, after 6
+in-two : (f t p o : Bool) (x : ℕ) → cond (not f) 6 (cond (not (t && (p && o))) 8 x) ≡ firstRefusal (cond (not f) 6 (cond (not (t && p)) 8 0)) (cond (not o) 8 x)
+unfolding firstRefusal
+in-two false t p o x = refl
+in-two true false p o x = refl
+in-two true true false o x = refl
+in-two true true true o x = refl
+
+-- A step or reading c of one block b, which brings the map m.
+module _ (s : State) (c : Call) (cut : cutFor s c ≡ goodCut (s .job .told .cutting)) (b : ℕ) (m : List ℕ)
+    (map-is : mapsFit (s .job .told .cutting) c ≡ eqb (length m) (cells (blockExtents (s .job .told .cutting) b))) where
+  abbrev in-order : Bool
+  in-order = blockFits (s .job) (nameOf c) (lengthsOf (s .tables)) b (length m)
+
+  pub fits-is : (mapsFit (s .job .told .cutting) c && lengthsFit (lentTo (s .job .told) (s .tables) c)) ≡ in-order
+  unfolding blockFits fitsIn
+  fits-is = rw (map-is, lent-is (s .job .told) (s .tables) c)
+
+  abbrev rest-of : ℕ
+  rest-of = cond (layersDiffer (s .job .told .cutting) c) 9 (cond (full (s .job .told .entries) (s .job .sofar) (adds s c)) 10 0)
+
+  -- the refusals from 6 on, where the call's own test is `own`
+  pub late-judged : (own : Bool) → standsFor s c ≡ (mapStands s (blockExtents (s .job .told .cutting) b) b m && own)
+      → lateOf s c ≡ firstRefusal (mapJudged (s .job) (blockExtents (s .job .told .cutting) b) (entryOf (s .tables .blocks) b) in-order m) (cond (not own) 8 rest-of)
+  unfolding lateOf stray mapJudged
+  late-judged own h =
+      rw (fits-is, h, stands-is s (blockExtents (s .job .told .cutting) b) b m)
+      (in-two in-order (talliesFit (s .job)) (mapStandsIn (blockExtents (s .job .told .cutting) b) (entryOf (s .tables .blocks) b) (s .job .told .entries Face) (s .job .told .entries Curve) m) own rest-of)
+
+  -- a step
+  module _ (step : ℕ) (at : placed (s .job .told .cutting) (s .job .numbered) c ≡ ltb b (blocks (s .job .told .cutting)))
+      (again : repeated (s .job .told .cutting) (ticked (s .tables)) c ≡ tickedIn (s .tables .ticks) step) where
+    reached-is : refusal s c ≡ firstRefusal (reachedOf (s .job) (stageFor (nameOf c)) (s .tables .ticks) b step) (lateOf s c)
+    reached-is = rw (← stage-is c) (refusal-reached s c cut b step at again)
+
+    pub refusal-lengths : refusal s c ≡ firstRefusal (lengthsJudged (s .job) (s .tables .ticks) (nameOf c) (lengthsOf (s .tables)) b step (length m)) (cond (stray s c) 8 rest-of)
+    unfolding lengthsJudged lateOf
+    refusal-lengths =
+        reached-is ∙ rw fits-is (ap (firstRefusal (reachedOf (s .job) (stageFor (nameOf c)) (s .tables .ticks) b step)) (or-six in-order (cond (stray s c) 8 rest-of))) ∙
+        or-else-assoc (reachedOf (s .job) (stageFor (nameOf c)) (s .tables .ticks) b step) (cond (not in-order) 6 0) (cond (stray s c) 8 rest-of)
+
+    pub refusal-judged : (own : Bool) → standsFor s c ≡ (mapStands s (blockExtents (s .job .told .cutting) b) b m && own)
+        → refusal s c ≡ firstRefusal (judgedOf (s .job) (s .tables .ticks) (s .tables .blocks) (nameOf c) (lengthsOf (s .tables)) b step m) (cond (not own) 8 rest-of)
+    unfolding judgedOf
+    refusal-judged own h =
+        reached-is ∙ ap (firstRefusal (reachedOf (s .job) (stageFor (nameOf c)) (s .tables .ticks) b step)) (late-judged own h) ∙
+        or-else-assoc (reachedOf (s .job) (stageFor (nameOf c)) (s .tables .ticks) b step)
+        (mapJudged (s .job) (blockExtents (s .job .told .cutting) b) (entryOf (s .tables .blocks) b) in-order m) (cond (not own) 8 rest-of)
+
+-- ---- what the judge has passed
+
+six-passed : (a : Bool) (x : ℕ) → _≡_ {A = ℕ} (cond (not a) 6 x) 0 → a ≡ true
+six-passed true x h = refl
+six-passed false x h = absurd (omega arith)
+
+size-passed : (j : joiner.Job) (c : CallName) (z : Lengths) (b size : ℕ) → blockFits j c z b size ≡ true → size ≡ cells (blockExtents (j .told .cutting) b)
+unfolding blockFits fitsIn
+size-passed j c z b size h = eqb-true _ _ (and-first (eqb size (cells (blockExtents (j .told .cutting) b))) _ h)
+
+module _ (j : joiner.Job) (ticks : List ℕ) (c : CallName) (z : Lengths) (b step : ℕ) where
+  pub lengths-passed : (size : ℕ) → lengthsJudged j ticks c z b step size ≡ 0
+      → FirstTests j (stageFor c) × (b < blocks (j .told .cutting)) × (size ≡ cells (blockExtents (j .told .cutting) b))
+  unfolding lengthsJudged
+  lengths-passed size h =
+      let n = or-none (reachedOf j (stageFor c) ticks b step) (cond (not (blockFits j c z b size)) 6 0) h in
+      let p = reached-passed j (stageFor c) ticks b step (n .0) in
+      (p .0, p .1, size-passed j c z b size (six-passed (blockFits j c z b size) 0 (n .1)))
+
+  pub judged-passed : (table m : List ℕ) → judgedOf j ticks table c z b step m ≡ 0
+      → FirstTests j (stageFor c) × (b < blocks (j .told .cutting)) × (length m ≡ cells (blockExtents (j .told .cutting) b))
+  unfolding judgedOf mapJudged
+  judged-passed table m h =
+      let n = or-none (reachedOf j (stageFor c) ticks b step) (mapJudged j (blockExtents (j .told .cutting) b) (entryOf table b) (blockFits j c z b (length m)) m) h in
+      let p = reached-passed j (stageFor c) ticks b step (n .0) in
+      (p .0, p .1, size-passed j c z b (length m) (six-passed (blockFits j c z b (length m)) _ (n .1)))
+
+-- ---- the ways of the judge
+
+module _ (j : Job) (e : Triple) (d : Entry) (m : List ℕ) where
+  abbrev MapJudges : Bool → ℕ → Type 0
+  MapJudges whole r = anyCuts (λ cx cy cz. r ≡ mapJudged (jobOf j cx cy cz) e d whole m)
+
+  pub map-6 : (u : Bool) → not u ≡ true → MapJudges u 6
+  unfolding mapJudged
+  map-6 u q cx cy cz = rw (not-true u q)
+
+  module _ (u : Bool) (q : not u ≡ false) (t : Bool) (h : anyCuts (λ cx cy cz. t ≡ talliesFit (jobOf j cx cy cz))) where
+    pub map-tallies : not t ≡ true → MapJudges u 8
+    unfolding mapJudged
+    map-tallies p cx cy cz = rw (not-false u q, sym (h cx cy cz) ∙ not-true t p)
+
+    module _ (p : not t ≡ false) (v : Bool) (i : v ≡ mapStandsIn e d (j .«face_entries») (j .«curve_entries») m) where
+      pub map-8 : not v ≡ true → MapJudges u 8
+      unfolding mapJudged
+      map-8 w cx cy cz = rw (not-false u q, sym (h cx cy cz) ∙ not-false t p, sym i ∙ not-true v w)
+
+      pub map-0 : not v ≡ false → MapJudges u 0
+      unfolding mapJudged
+      map-0 w cx cy cz = rw (not-false u q, sym (h cx cy cz) ∙ not-false t p, sym i ∙ not-false v w)
+
+-- n is what the first tests tell
+module _ (j : Job) (cx cy cz ticks : List ℕ) (c : CallName) (z : Lengths) (b step n : ℕ) (s : joiner.Stage) (f : s ≡ stageFor c) (e : n ≡ reachedOf (jobOf j cx cy cz) s ticks b step) where
+  abbrev cut-as : Cutting
+  cut-as = toldOf j cx cy cz .cutting
+
+  first-is : n ≡ reachedOf (jobOf j cx cy cz) (stageFor c) ticks b step
+  first-is = rw (← f) e
+
+  pub lengths-first : (size : ℕ) → (n ≡ 0 → ⊥) → n ≡ lengthsJudged (jobOf j cx cy cz) ticks c z b step size
+  unfolding lengthsJudged
+  lengths-first size q = rw (← first-is) (or-first n _ q)
+
+  pub judged-first : (table m : List ℕ) → (n ≡ 0 → ⊥) → n ≡ judgedOf (jobOf j cx cy cz) ticks table c z b step m
+  unfolding judgedOf
+  judged-first table m q = rw (← first-is) (or-first n _ q)
+
+  module _ (q : n ≡ 0) where
+    begun : FirstTests (jobOf j cx cy cz) (stageFor c) × (b < blocks cut-as)
+    begun = reached-passed (jobOf j cx cy cz) (stageFor c) ticks b step (sym first-is ∙ q)
+
+    pub begun-few : intervals cx * intervals cy * intervals cz ≤ 16384
+    begun-few = few-of cut-as (begun .0 .good)
+
+    module _ (r : Block) (T : anyExtents cx cy cz (λ k. Tells k b r)) (i : ℕ) (many : anyExtents cx cy cz (λ k. i ≡ blocks k)) where
+      pub begun-sized : (i ≤ 16384) × Sized 64 (sizeOf r)
+      begun-sized = (count-few cut-as (begun .0 .good) i (many (j .nx) (j .ny) (j .nz)), block-sized cut-as (begun .0 .good) b (begun .1) r (T (j .nx) (j .ny) (j .nz)))
+
+      module _ (size : ℕ) (u : Bool) (h : u ≡ fitsIn c i (sizeOf r) (entriesOf j) z size) where
+        fits-told : u ≡ blockFits (jobOf j cx cy cz) c z b size
+        unfolding blockFits
+        fits-told = rw (← many (j .nx) (j .ny) (j .nz), ← T (j .nx) (j .ny) (j .nz) .size) h
+
+        pub fits-size : u ≡ true → size ≡ cells (sizeOf r)
+        unfolding fitsIn
+        fits-size p = eqb-true _ _ (and-first (eqb size (cells (sizeOf r))) _ (sym h ∙ p))
+
+        pub lengths-6 : not u ≡ true → 6 ≡ lengthsJudged (jobOf j cx cy cz) ticks c z b step size
+        unfolding lengthsJudged
+        lengths-6 p = rw (← first-is, sym fits-told ∙ not-true u p) (or-then n _ 6 q refl)
+
+        pub lengths-0 : not u ≡ false → 0 ≡ lengthsJudged (jobOf j cx cy cz) ticks c z b step size
+        unfolding lengthsJudged
+        lengths-0 p = rw (← first-is, sym fits-told ∙ not-false u p) (or-then n _ 0 q refl)
+
+      pub judged-then : (table m : List ℕ) (u : Bool) → u ≡ fitsIn c i (sizeOf r) (entriesOf j) z (length m) → (d : Entry) → d ≡ entryOf table b → (x : ℕ)
+          → anyCuts (λ cx cy cz. x ≡ mapJudged (jobOf j cx cy cz) (sizeOf r) d u m) → x ≡ judgedOf (jobOf j cx cy cz) ticks table c z b step m
+      unfolding judgedOf
+      judged-then table m u h d g x l =
+          rw (← first-is, ← fits-told (length m) u h, ← g, ← T (j .nx) (j .ny) (j .nz) .size) (or-then n _ x q (l cx cy cz))
 
 -- ---- the tick
 
