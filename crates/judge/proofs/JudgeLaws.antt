@@ -337,6 +337,20 @@ six-passed : (a : Bool) (x : ℕ) → _≡_ {A = ℕ} (cond (not a) 6 x) 0 → a
 six-passed true x h = refl
 six-passed false x h = absurd (omega arith)
 
+six-eight : (a b c : Bool) → _≡_ {A = ℕ} (cond (not a) 6 (cond (not (b && c)) 8 0)) 0 → (a ≡ true) × (b ≡ true) × (c ≡ true)
+six-eight false b c h = absurd (omega arith)
+six-eight true false c h = absurd (omega arith)
+six-eight true true false h = absurd (omega arith)
+six-eight true true true h = (refl, refl, refl)
+
+-- What the judge has passed of a call with block b's map.
+pub record MapTests (j : joiner.Job) (c : CallName) (table : List ℕ) (b : ℕ) (m : List ℕ) : Type 0 where
+  pub first : FirstTests j (stageFor c)
+  pub there : b < blocks (j .told .cutting)
+  pub whole : length m ≡ cells (blockExtents (j .told .cutting) b)
+  pub tallies : talliesFit j ≡ true
+  pub stands : mapStandsIn (blockExtents (j .told .cutting) b) (entryOf table b) (j .told .entries Face) (j .told .entries Curve) m ≡ true
+
 size-passed : (j : joiner.Job) (c : CallName) (z : Lengths) (b size : ℕ) → blockFits j c z b size ≡ true → size ≡ cells (blockExtents (j .told .cutting) b)
 unfolding blockFits fitsIn
 size-passed j c z b size h = eqb-true _ _ (and-first (eqb size (cells (blockExtents (j .told .cutting) b))) _ h)
@@ -350,13 +364,24 @@ module _ (j : joiner.Job) (ticks : List ℕ) (c : CallName) (z : Lengths) (b ste
       let p = reached-passed j (stageFor c) ticks b step (n .0) in
       (p .0, p .1, size-passed j c z b size (six-passed (blockFits j c z b size) 0 (n .1)))
 
-  pub judged-passed : (table m : List ℕ) → judgedOf j ticks table c z b step m ≡ 0
-      → FirstTests j (stageFor c) × (b < blocks (j .told .cutting)) × (length m ≡ cells (blockExtents (j .told .cutting) b))
+  pub judged-passed : (table m : List ℕ) → judgedOf j ticks table c z b step m ≡ 0 → MapTests j c table b m
   unfolding judgedOf mapJudged
   judged-passed table m h =
-      let n = or-none (reachedOf j (stageFor c) ticks b step) (mapJudged j (blockExtents (j .told .cutting) b) (entryOf table b) (blockFits j c z b (length m)) m) h in
+      let k : Cutting = j .told .cutting in
+      let n = or-none (reachedOf j (stageFor c) ticks b step) (mapJudged j (blockExtents k b) (entryOf table b) (blockFits j c z b (length m)) m) h in
       let p = reached-passed j (stageFor c) ticks b step (n .0) in
-      (p .0, p .1, size-passed j c z b (length m) (six-passed (blockFits j c z b (length m)) _ (n .1)))
+      let q = six-eight (blockFits j c z b (length m)) (talliesFit j) (mapStandsIn (blockExtents k b) (entryOf table b) (j .told .entries Face) (j .told .entries Curve) m) (n .1) in
+      record { first = p .0; there = p .1; whole = size-passed j c z b (length m) (q .0); tallies = q .1; stands = q .2 }
+
+-- .. where nothing is added: 10 cannot stand
+pub rest-none : (s : State) (c : Call) → ((κ : Kind) → adds s c κ ≡ 0) → (b step : ℕ) (m : List ℕ) (own l : Bool)
+    → firstRefusal (judgedOf (s .job) (s .tables .ticks) (s .tables .blocks) (nameOf c) (lengthsOf (s .tables)) b step m)
+    (cond (not own) 8 (cond l 9 (cond (full (s .job .told .entries) (s .job .sofar) (adds s c)) 10 0)))
+    ≡ firstRefusal (judgedOf (s .job) (s .tables .ticks) (s .tables .blocks) (nameOf c) (lengthsOf (s .tables)) b step m) (cond (not own) 8 (cond l 9 0))
+unfolding firstRefusal
+rest-none s c none b step m own l =
+    let x : ℕ = judgedOf (s .job) (s .tables .ticks) (s .tables .blocks) (nameOf c) (lengthsOf (s .tables)) b step m in
+    by-test (eqb x 0) (λ t. rw (t, room s c none (judged-passed (s .job) (s .tables .ticks) (nameOf c) (lengthsOf (s .tables)) b step (s .tables .blocks) m (eqb-true x 0 t) .tallies))) (λ t. rw t)
 
 -- ---- the ways of the judge
 

@@ -1,104 +1,38 @@
--- The tests by lengths are the joiner's, and what an accepted crossing step leaves is what the joiner asks for.
+-- What an accepted crossing step has passed, and that what it leaves is what the joiner asks for.
 -- Assumes nothing.
-use mathlib.Core.Path.{_≡_, refl, sym, ap, _∙_}
-use mathlib.Core.Bool.{Bool, true, false, not, cond, _&&_, _||_}
-use mathlib.Core.Logic.{_≢_}
-use mathlib.Core.List.{List, [], _∷_, _++_, map}
+use mathlib.Core.Path.{_≡_, refl, sym, _∙_}
+use mathlib.Core.Bool.{Bool, true, false, not}
+use mathlib.Core.List.{List, []}
 use Prim.Native.Nat.{ℕ, _+_, _*_, _≤_, _<_}
 use native.Mathlib.Omega.{arith}
-use lib.Dec.{eqb}
 use lib.ListN.{getD, length}
-use borrow.Author.Tests.{eqb-true, eqb-false, not-true, not-false, ltb-true}
-use Rattle.lists.specs.Lists.{consecutive, allOf}
+use borrow.Author.Tests.{eqb-true, not-true, not-false, ltb-true}
 use Rattle.lists.proofs.Cases.{and-first}
 use Rattle.cells.specs.Grid.{cells}
 use Rattle.cutting.specs.Cutting.{Cutting, blocks, blockExtents}
 use Rattle.cutting.proofs.CutLaws.{block-sized}
-use Rattle.joiner.specs.Job.{Kind, Face, Curve, Point, Stage, Points, Tables, State, tray, sameStage, stageNumber, fromOf, ticked, lengthsFit, blockTrays, linkTrays, foundTrays, numberTrays, firstTrays, listedTrays, kindTrays}
-use Rattle.joiner.specs.Job as joiner
-use Rattle.joiner.specs.Stages.{crossingStep, finished, stepsOf}
-use Rattle.joiner.specs.Calls.{cross, answer, mapsFit}
-use Rattle.joiner.specs.Declines.{adds, allLinksStand, lastCrossing, lentTo, mapStands, refusal, rowsStand, standsFor, talliesFit}
+use Rattle.joiner.specs.Job.{Kind, Face, Curve, Point, Points, Tables, State, tray, sameStage, fromOf, blockTrays, linkTrays, foundTrays, numberTrays, firstTrays, listedTrays, kindTrays}
+use Rattle.joiner.specs.Stages.{crossingStep}
+use Rattle.joiner.specs.Calls.{cross, answer}
+use Rattle.joiner.specs.Declines.{adds, lentTo, mapStands, refusal}
 use Rattle.joiner.specs.Entries.{CrossingDone, NumberedKind, CallStep, Merged, AtCrossing, Ticked, classOf, rowFinal}
-use Rattle.joiner.proofs.Passed.{stage-same, Passed, passed, fits-at, tally-fits, faces-stand, curves-stand}
+use Rattle.joiner.proofs.Passed.{is-stage, not-stage, Passed, passed, fits-at, tally-fits, faces-stand, curves-stand}
 use Rattle.pass_cross.proofs.MergeLaws.{crossing-merged}
 use Rattle.kind_numbers.proofs.NumberedLaws.{numbered-kind}
 use Rattle.job.specs.declared.Job.{Job}
 use Rattle.job.specs.Jobs.{byKind, toldOf, jobOf, stateOf}
 use Rattle.job.specs.Jobs as job
-use Rattle.job.proofs.JobLaws.{fits-append}
-use Rattle.stages.specs.Ticks.{tickedIn}
-use Rattle.judge.specs.Judge.{reachedOf, lateOf, entryOf, linksStandIn, mapStandsIn}
-use Rattle.judge.proofs.JudgeLaws.{or-none, or-six, six-none, refusal-reached, late-none, few-of, stands-is, links-is, ticked-by, numbered-kept, step-refused, step-accepted}
-use Rattle.step_cross.specs.declared.Totals.{Totals}
-use Rattle.step_cross.proofs.CrossingLaws.{map-length}
-use Rattle.step_cross.specs.Inner.{lent, sizesOf, kindFits, traysFit, crossedBut, lastIn, rowsIn, allReady, numberable, standIn, laterRefusal, refusalOf, Ready, JoinReady, TalliesFit, CurvesJoined, KindRoom, BothNumbered}
-
-and-three : (a b c d : Bool) → (a && (b && (c && d))) ≡ ((a && (b && c)) && d)
-and-three true true c d = refl
-and-three true false c d = refl
-and-three false b c d = refl
-
--- one refusal decided in two steps
-in-two : (a b : Bool) → _≡_ {A = ℕ} (cond (not (a && b)) 8 0) (cond (not a) 8 (cond (not b) 8 0))
-in-two true b = refl
-in-two false b = refl
-
-all-map : (f : ℕ → Bool) (g : ℕ → ℕ) (l : List ℕ) → allOf f (map g l) ≡ allOf (λ x. f (g x)) l
-all-map f g [] = refl
-all-map f g (x ∷ l) = ap (λ (t : Bool). f (g x) && t) (all-map f g l)
-
--- a test of stages
-is-stage : (s t : Stage) → sameStage s t ≡ true → s ≡ t
-unfolding sameStage
-is-stage s t e = stage-same s t (eqb-true _ _ e)
-
-not-stage : (s t : Stage) → sameStage s t ≡ false → s ≢ t
-unfolding sameStage
-not-stage s t e q = eqb-false (stageNumber s) (stageNumber t) e (ap stageNumber q)
+use Rattle.judge.specs.Judge.{lengthsOf, entryOf}
+use Rattle.judge.proofs.JudgeLaws.{few-of, ticked-by, numbered-kept, step-refused, step-accepted}
+use Rattle.judge_cross.specs.Tests.{refusalOf}
+use Rattle.judge_cross.proofs.TestLaws.{refusal-is}
+use Rattle.store_cross.specs.declared.Totals.{Totals}
+use Rattle.store_cross.specs.Stores.{JoinReady, TalliesFit, CurvesJoined, KindRoom, BothNumbered}
+use Rattle.step_cross.specs.Inner.{lent, Ready}
 
 module _ (s : State) (b : ℕ) (m : List ℕ) where
   abbrev k : Cutting
   k = s .job .told .cutting
-
-  -- ---- the tests by lengths are the joiner's
-
-  trays-is : (mapsFit k (cross b m) && lengthsFit (lentTo (s .job .told) (s .tables) (cross b m)))
-      ≡ traysFit (blocks k) (blockExtents k b) (s .job .told .entries Face) (s .job .told .entries Curve) (sizesOf (s .tables) (length m))
-  unfolding blockTrays linkTrays kindTrays foundTrays numberTrays firstTrays listedTrays traysFit kindFits
-  trays-is =
-      let o = s .job .told in
-      let t = s .tables in
-      ap (λ (x : Bool). mapsFit k (cross b m) && x)
-      (fits-append (blockTrays o t) (linkTrays o t ++ kindTrays o t Face ++ kindTrays o t Curve) ∙
-      ap (λ (x : Bool). lengthsFit (blockTrays o t) && x)
-      (fits-append (linkTrays o t) (kindTrays o t Face ++ kindTrays o t Curve) ∙ ap (λ (x : Bool). lengthsFit (linkTrays o t) && x) (fits-append (kindTrays o t Face) (kindTrays o t Curve))))
-
-  last-is : lastCrossing s b ≡ lastIn (s .tables .ticks) b (blocks k)
-  unfolding lastCrossing finished stepsOf crossingStep ticked tickedIn lastIn crossedBut
-  last-is = all-map (λ i. eqb (6 * b + 4) i || ticked (s .tables) i) (λ x. 6 * x + 4) (consecutive 0 (blocks k))
-
-  all-is : cond (lastCrossing s b) (rowsStand s && allLinksStand s) true ≡ numberable (s .tables .ticks) b (blocks k) (s .tables .rows Curve) (s .job .told .entries Face) (s .job .sofar Face) (s .job .sofar Curve) (s .tables .links Face) (s .tables .links Curve)
-  unfolding numberable allReady rowsStand rowsIn allLinksStand
-  all-is = rw last-is
-
-  abbrev first-part : Bool
-  first-part =
-      standIn (talliesFit (s .job)) (blockExtents k b) (entryOf (s .tables .blocks) b) (s .job .told .entries Face) (s .job .told .entries Curve) m (s .tables .links Face) (s .tables .links Curve)
-
-  abbrev last-part : Bool
-  last-part =
-      numberable (s .tables .ticks) b (blocks k) (s .tables .rows Curve) (s .job .told .entries Face) (s .job .sofar Face) (s .job .sofar Curve) (s .tables .links Face) (s .tables .links Curve)
-
-  stand-is : (talliesFit (s .job) && standsFor s (cross b m)) ≡ (first-part && last-part)
-  unfolding standIn
-  stand-is = rw (stands-is s (blockExtents k b) b m, links-is s b, all-is)
-      (and-three (talliesFit (s .job)) (mapStandsIn (blockExtents k b) (entryOf (s .tables .blocks) b) (s .job .told .entries Face) (s .job .told .entries Curve) m)
-      (linksStandIn (entryOf (s .tables .blocks) b) (s .tables .links Face) (s .tables .links Curve)) last-part)
-
-  none-added : (κ : Kind) → adds s (cross b m) κ ≡ 0
-  unfolding adds
-  none-added κ = refl
 
   adds-none : (κ : Kind) → adds s (cross b m) κ ≡ byKind 0 0 0 κ
   unfolding adds
@@ -106,15 +40,11 @@ module _ (s : State) (b : ℕ) (m : List ℕ) where
   adds-none Curve = refl
   adds-none Point = refl
 
-  pub refusal-is : refusal s (cross b m) ≡ refusalOf (s .job) (s .tables .ticks) (sizesOf (s .tables) (length m)) (s .tables .blocks) (s .tables .rows Curve) (s .tables .links Face) (s .tables .links Curve) b m
-  unfolding refusalOf laterRefusal lateOf ticked tickedIn crossingStep
-  refusal-is = refusal-reached s (cross b m) refl b (6 * b + 4) refl refl ∙ rw (← in-two first-part last-part, ← trays-is, ← stand-is, ← late-none s (cross b m) none-added false)
-
   -- ---- what an accepted step has passed
 
   module _ (acc : Ready s b m) where
     call-facts : Passed s (cross b m)
-    call-facts = passed s (cross b m) (refusal-is ∙ acc .none)
+    call-facts = passed s (cross b m) (acc .none)
 
     at : (i : ℕ) → getD (lentTo (s .job .told) (s .tables) (cross b m)) i (tray 0 0) .has ≡ getD (lentTo (s .job .told) (s .tables) (cross b m)) i (tray 0 0) .states
     at i = fits-at (lentTo (s .job .told) (s .tables) (cross b m)) i (call-facts .lent)
@@ -125,14 +55,8 @@ module _ (s : State) (b : ℕ) (m : List ℕ) where
     stands : mapStands s (blockExtents k b) b m ≡ true
     stands = and-first (mapStands s (blockExtents k b) b m) _ (call-facts .stands)
 
-    trays-fit : traysFit (blocks k) (blockExtents k b) (s .job .told .entries Face) (s .job .told .entries Curve) (sizesOf (s .tables) (length m)) ≡ true
-    unfolding refusalOf laterRefusal
-    trays-fit =
-        let r = or-none (reachedOf (s .job) joiner.Crossing (s .tables .ticks) b (6 * b + 4)) _ (acc .none) .1 in
-        six-none _ (or-none _ _ (sym (or-six (traysFit (blocks k) (blockExtents k b) (s .job .told .entries Face) (s .job .told .entries Curve) (sizesOf (s .tables) (length m))) _) ∙ r) .0)
-
     map-whole : length m ≡ cells (blockExtents k b)
-    map-whole = map-length (blockExtents k b) (blocks k) _ _ (sizesOf (s .tables) (length m)) _ refl (ap not trays-fit) (length m) refl
+    map-whole = eqb-true _ _ (call-facts .maps)
 
     there : b < blocks k
     there = ltb-true b (blocks k) (call-facts .placed-in)
@@ -173,15 +97,15 @@ module _ (s : State) (b : ℕ) (m : List ℕ) where
 
   -- ---- the entry
 
-  module _ (number′ : ℕ) (e : number′ ≡ refusalOf (s .job) (s .tables .ticks) (sizesOf (s .tables) (length m)) (s .tables .blocks) (s .tables .rows Curve) (s .tables .links Face) (s .tables .links Curve) b m) where
+  module _ (number′ : ℕ) (e : number′ ≡ refusalOf (s .job) (s .tables .ticks) (lengthsOf (s .tables)) (s .tables .blocks) (s .tables .rows Curve) (s .tables .links Face) (s .tables .links Curve) b m) where
     told-number : number′ ≡ refusal s (cross b m)
-    told-number = e ∙ sym refusal-is
+    told-number = e ∙ sym (refusal-is s b m)
 
     pub cross-refused : (number′ ≡ 0 → ⊥) → CallStep s (cross b m) (answer number′ 0 []) s
     cross-refused = step-refused s (cross b m) number′ told-number
 
     pub ready : number′ ≡ 0 → Ready s b m
-    ready z = record { none = sym e ∙ z }
+    ready z = record { none = sym told-number ∙ z }
 
     pub cross-accepted : number′ ≡ 0 → (t : State) → CrossingDone s b m t → CallStep s (cross b m) (answer 0 0 []) t
     cross-accepted z t d = step-accepted s (cross b m) number′ told-number z (answer 0 0 []) t refl (refl, d)

@@ -7,7 +7,12 @@ use Rattle.step_cross.proofs.accept.Tie as tie
 
 join-curves-requires : tie.Need-join-curves-requires
 join-curves-requires c κs =
-    (join-ready _ _ _ ((c .before .before .before .before .before .before .before .before .before .before .before .before .before .before .before .before .before .before .before .before .before .pre)) (omega (arith, (c .before .before .before .before .before .before .before .before .before .before .before .before .before .before .before .before .before .before .before .before .before .good))) (omega (arith, (c .before .before .before .before .before .before .before .before .before .before .before .before .before .before .before .before .before .before .before .before .before .good))), tallies-are _ _ _ ((c .before .before .before .before .before .before .before .before .before .before .before .before .before .before .before .before .before .before .before .before .before .pre)))
+    let back4 = c .before .before .before .before in
+    let back8 = back4 .before .before .before .before in
+    let back12 = back8 .before .before .before .before in
+    let back16 = back12 .before .before .before .before in
+    let back20 = back16 .before .before .before .before in
+    (join-ready _ _ _ ((back20 .before .pre)) (omega (arith, (back20 .before .good))) (omega (arith, (back20 .before .good))), tallies-are _ _ _ ((back20 .before .pre)))
 
 same-stage-requires : tie.Need-same-stage-requires
 same-stage-requires c κs = search needs
@@ -22,10 +27,22 @@ same-length-3 : tie.Need-same-length-3
 same-length-3 c = search needs
 
 returns : tie.Need-returns
-returns c = done-before _ _ _ _ _ _ _ _ _ _ _ _ _ _ _ _ _ _ _ _ _ _ _ _ ((c .before .before .before .before .before .before .before .before .join-curves) .ensures) _ ((c .before .same-stage) .ensures) ((c .if1) .taken)
+returns c =
+    let back4 = c .before .before .before .before in
+    done-before _ _ _ _ _ _ _ _ _ _ _ _ _ _ _ _ _ _ _ _ _ _ _ _ ((back4 .before .before .before .before .join-curves) .ensures) _ ((c .before .same-stage) .ensures) ((c .if1) .taken)
 
 number-both-requires : tie.Need-number-both-requires
-number-both-requires c κs = (faces-room _ _ _ ((c .before .before .before .before .before .before .before .before .before .before .before .before .before .before .before .before .before .before .before .before .before .before .before .before .before .before .before .before .before .before .before .before .before .before .before .before .before .before .pre)), curves-room _ _ _ ((c .before .before .before .before .before .before .before .before .before .before .before .before .before .before .before .before .before .before .before .before .before .before .before .before .before .before .before .before .before .before .before .before .before .before .before .before .before .before .pre)))
+number-both-requires c κs =
+    let back4 = c .before .before .before .before in
+    let back8 = back4 .before .before .before .before in
+    let back12 = back8 .before .before .before .before in
+    let back16 = back12 .before .before .before .before in
+    let back20 = back16 .before .before .before .before in
+    let back24 = back20 .before .before .before .before in
+    let back28 = back24 .before .before .before .before in
+    let back32 = back28 .before .before .before .before in
+    let back36 = back32 .before .before .before .before in
+    (faces-room _ _ _ ((back36 .before .before .pre)), curves-room _ _ _ ((back36 .before .before .pre)))
 
 same-length-4 : tie.Need-same-length-4
 same-length-4 c = search needs
@@ -55,7 +72,15 @@ same-length-12 : tie.Need-same-length-12
 same-length-12 c = search needs
 
 returns-2 : tie.Need-returns-2
-returns-2 c = done-last _ _ _ _ _ _ _ _ _ _ _ _ _ _ _ _ _ _ _ _ _ _ _ _ ((c .before .before .before .before .before .before .before .before .before .before .before .before .before .before .before .before .before .before .before .before .before .before .before .before .before .before .before .before .before .join-curves) .ensures) _ ((c .before .before .before .before .before .before .before .before .before .before .before .before .before .before .before .before .before .before .before .before .before .before .same-stage) .ensures) _ _ _ _ _ _ _ ((c .before .before .before .before .before .before .before .before .before .before .before .before .number-both) .ensures) ((c .before .before .before .before .before .before .before .before .before .before .before .before .before .before .before .before .before .before .before .before .before .if1) .left)
+returns-2 c =
+    let back4 = c .before .before .before .before in
+    let back8 = back4 .before .before .before .before in
+    let back12 = back8 .before .before .before .before in
+    let back16 = back12 .before .before .before .before in
+    let back20 = back16 .before .before .before .before in
+    let back24 = back20 .before .before .before .before in
+    let back28 = back24 .before .before .before .before in
+    done-last _ _ _ _ _ _ _ _ _ _ _ _ _ _ _ _ _ _ _ _ _ _ _ _ ((back28 .before .join-curves) .ensures) _ ((back20 .before .before .same-stage) .ensures) _ _ _ _ _ _ _ ((back8 .before .before .before .before .number-both) .ensures) ((back20 .before .if1) .left)
 
 pub accept-spec : {M : Type 1} → statement M
 accept-spec =

@@ -4,8 +4,8 @@ use Rattle.step_cross.proofs.DoneLaws.{cross-refused, ready, cross-acce
 use Rattle.step_cross.proofs.crossing.Statement.{statement}
 use Rattle.step_cross.proofs.crossing.Tie as tie
 
-refusal-requires : tie.Need-refusal-requires
-refusal-requires c κs = search needs
+judge-crossing-requires : tie.Need-judge-crossing-requires
+judge-crossing-requires c κs = search needs
 
 same-length : tie.Need-same-length
 same-length c = search needs
@@ -17,10 +17,13 @@ same-length-3 : tie.Need-same-length-3
 same-length-3 c = search needs
 
 returns : tie.Need-returns
-returns c = cross-refused _ _ _ _ ((c .before .refusal) .ensures) ((c .if1) .taken)
+returns c = cross-refused _ _ _ _ ((c .before .judge-crossing) .ensures) ((c .if1) .taken)
 
 accept-requires : tie.Need-accept-requires
-accept-requires c κs = ready _ _ _ _ ((c .before .before .before .before .before .before .before .before .before .before .refusal) .ensures) ((c .before .before .before .before .before .before .before .before .before .if1) .left)
+accept-requires c κs =
+    let back4 = c .before .before .before .before in
+    let back8 = back4 .before .before .before .before in
+    ready _ _ _ _ ((back8 .before .before .judge-crossing) .ensures) ((back8 .before .if1) .left)
 
 same-length-4 : tie.Need-same-length-4
 same-length-4 c = search needs
@@ -50,13 +53,21 @@ same-length-12 : tie.Need-same-length-12
 same-length-12 c = search needs
 
 returns-2 : tie.Need-returns-2
-returns-2 c = cross-accepted _ _ _ _ ((c .before .before .before .before .before .before .before .before .before .before .before .before .before .before .before .before .before .before .before .before .before .before .before .before .before .before .before .before .before .refusal) .ensures) ((c .before .before .before .before .before .before .before .before .before .before .before .before .before .before .before .before .before .before .before .before .before .before .before .before .before .before .before .before .if1) .left) _ ((c .before .before .before .before .before .before .before .before .before .before .before .before .before .before .before .before .before .before .accept) .ensures)
+returns-2 c =
+    let back4 = c .before .before .before .before in
+    let back8 = back4 .before .before .before .before in
+    let back12 = back8 .before .before .before .before in
+    let back16 = back12 .before .before .before .before in
+    let back20 = back16 .before .before .before .before in
+    let back24 = back20 .before .before .before .before in
+    let back28 = back24 .before .before .before .before in
+    cross-accepted _ _ _ _ ((back28 .before .judge-crossing) .ensures) ((back24 .before .before .before .before .if1) .left) _ ((back16 .before .before .accept) .ensures)
 
 pub crossing-spec : {M : Type 1} → statement M
 crossing-spec =
     tie.close
     (tie.spec
-    refusal-requires
+    judge-crossing-requires
     same-length
     same-length-2
     same-length-3

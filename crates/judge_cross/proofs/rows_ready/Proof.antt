@@ -1,10 +1,10 @@
--- `step_cross::rows_ready` meets its contract.
+-- `judge_cross::rows_ready` meets its contract.
 use borrow.Author.Needs.{needs}
 use mathlib.Core.Path.{refl}
 use Rattle.job.proofs.JobLaws.{cond-here, cond-next}
-use Rattle.step_cross.specs.Inner.{numberable}
-use Rattle.step_cross.proofs.rows_ready.Statement.{statement}
-use Rattle.step_cross.proofs.rows_ready.Tie as tie
+use Rattle.judge_cross.specs.Tests.{numberable}
+use Rattle.judge_cross.proofs.rows_ready.Statement.{statement}
+use Rattle.judge_cross.proofs.rows_ready.Tie as tie
 
 last-crossing-requires : tie.Need-last-crossing-requires
 last-crossing-requires c κs = search needs

@@ -1,10 +1,10 @@
--- `step_cross::all_ready` meets its contract.
+-- `judge_cross::all_ready` meets its contract.
 use mathlib.Core.Path.{sym, _∙_}
 use borrow.Author.Needs.{needs}
 use borrow.Author.Tests.{not-true, not-false}
-use Rattle.step_cross.specs.Inner.{allReady}
-use Rattle.step_cross.proofs.all_ready.Statement.{statement}
-use Rattle.step_cross.proofs.all_ready.Tie as tie
+use Rattle.judge_cross.specs.Tests.{allReady}
+use Rattle.judge_cross.proofs.all_ready.Statement.{statement}
+use Rattle.judge_cross.proofs.all_ready.Tie as tie
 
 mul-rows-stand : tie.Need-mul-rows-stand
 mul-rows-stand c = search needs

@@ -1,13 +1,13 @@
--- `step_cross::rows_stand` meets its contract.
+-- `judge_cross::rows_stand` meets its contract.
 use Prim.Native.Nat.{_-_, _≤_}
 use native.Mathlib.Omega.{arith}
 use borrow.Author.Needs.{needs}
 use lib.Dec.{leb}
 use lib.ListN.{getD}
 use Rattle.lists.proofs.Tests.{Held, held-none, held-more, held-broken, held-all}
-use Rattle.step_cross.specs.Inner.{rowsIn}
-use Rattle.step_cross.proofs.rows_stand.Statement.{statement}
-use Rattle.step_cross.proofs.rows_stand.Tie as tie
+use Rattle.judge_cross.specs.Tests.{rowsIn}
+use Rattle.judge_cross.proofs.rows_stand.Statement.{statement}
+use Rattle.judge_cross.proofs.rows_stand.Tie as tie
 
 abbrev Inv-loop : tie.InvT-loop
 Inv-loop rows faces n i₀ i = (i ≤ n) × Held ((λ j. leb (getD rows j 0) faces)) i

@@ -1,8 +1,8 @@
--- `step_cross::crossed_but` meets its contract.
+-- `judge_cross::crossed_but` meets its contract.
 use borrow.Author.Needs.{needs}
-use Rattle.step_cross.proofs.CrossingLaws.{crossed-here, crossed-else}
-use Rattle.step_cross.proofs.crossed_but.Statement.{statement}
-use Rattle.step_cross.proofs.crossed_but.Tie as tie
+use Rattle.judge_cross.proofs.TestLaws.{crossed-here, crossed-else}
+use Rattle.judge_cross.proofs.crossed_but.Statement.{statement}
+use Rattle.judge_cross.proofs.crossed_but.Tie as tie
 
 mul-step : tie.Need-mul-step
 mul-step c = search needs

@@ -1,7 +1,7 @@
--- `step_cross::face_in` meets its contract.
+-- `judge_cross::face_in` meets its contract.
 use borrow.Author.Needs.{needs}
-use Rattle.step_cross.proofs.face_in.Statement.{statement}
-use Rattle.step_cross.proofs.face_in.Tie as tie
+use Rattle.judge_cross.proofs.face_in.Statement.{statement}
+use Rattle.judge_cross.proofs.face_in.Tie as tie
 
 at-requires : tie.Need-at-requires
 at-requires c κs = search needs

@@ -1,11 +1,11 @@
--- `step_cross::last_crossing` meets its contract.
+-- `judge_cross::last_crossing` meets its contract.
 use Prim.Native.Nat.{_-_, _≤_}
 use native.Mathlib.Omega.{arith}
 use borrow.Author.Needs.{needs}
 use Rattle.lists.proofs.Tests.{Held, held-none, held-more, held-broken, held-all}
-use Rattle.step_cross.specs.Inner.{crossedBut, lastIn}
-use Rattle.step_cross.proofs.last_crossing.Statement.{statement}
-use Rattle.step_cross.proofs.last_crossing.Tie as tie
+use Rattle.judge_cross.specs.Tests.{crossedBut, lastIn}
+use Rattle.judge_cross.proofs.last_crossing.Statement.{statement}
+use Rattle.judge_cross.proofs.last_crossing.Tie as tie
 
 abbrev Inv-loop : tie.InvT-loop
 Inv-loop ticks b blocks x₀ x = (x ≤ blocks) × Held (crossedBut ticks b) x
