@@ -8,8 +8,31 @@ use plain::Counts;
 use std::time::Instant;
 
 extern "C" {
-    fn tugrelis_label(codes: *const u32, codes_len: usize, nx: u16, ny: u16, nz: u16, map: *mut u32, map_len: usize, work: *mut u32, work_len: usize, counts: *mut [u32; 3]) -> u32;
-    fn tugrelis_write_record(nx: u16, ny: u16, nz: u16, ox: u16, oy: u16, oz: u16, map: *const u32, map_len: usize, tray: *mut u8, tray_len: usize, size: *mut usize) -> u32;
+    fn tugrelis_label(
+        codes: *const u32,
+        codes_len: usize,
+        nx: u16,
+        ny: u16,
+        nz: u16,
+        map: *mut u32,
+        map_len: usize,
+        work: *mut u32,
+        work_len: usize,
+        counts: *mut [u32; 3],
+    ) -> u32;
+    fn tugrelis_write_record(
+        nx: u16,
+        ny: u16,
+        nz: u16,
+        ox: u16,
+        oy: u16,
+        oz: u16,
+        map: *const u32,
+        map_len: usize,
+        tray: *mut u8,
+        tray_len: usize,
+        size: *mut usize,
+    ) -> u32;
     fn tugrelis_read_record(bytes: *const u8, bytes_len: usize, map: *mut u32, map_len: usize, fields: *mut [u16; 6]) -> u32;
 }
 
@@ -19,9 +42,7 @@ const ROUNDS: usize = 11;
 fn proved(codes: &[u32], extents: [usize; 3], map: &mut [u32], work: &mut [u32]) -> Counts {
     let mut counts = [0u32; 3];
     let [nx, ny, nz] = extents.map(|n| n as u16);
-    let refusal = unsafe {
-        tugrelis_label(codes.as_ptr(), codes.len(), nx, ny, nz, map.as_mut_ptr(), map.len(), work.as_mut_ptr(), work.len(), &mut counts)
-    };
+    let refusal = unsafe { tugrelis_label(codes.as_ptr(), codes.len(), nx, ny, nz, map.as_mut_ptr(), map.len(), work.as_mut_ptr(), work.len(), &mut counts) };
     assert_eq!(refusal, 0);
     Counts { faces: counts[0], curves: counts[1], points: counts[2] }
 }
@@ -105,15 +126,25 @@ fn records(name: &str, map: &[u32]) {
     for _ in 0..ROUNDS {
         let mut size = 0;
         let refusal = timed(&mut times[0], || unsafe {
-            tugrelis_write_record(extents[0], extents[1], extents[2], origin[0], origin[1], origin[2], map.as_ptr(), map.len(), tray.as_mut_ptr(), tray.len(), &mut size)
+            tugrelis_write_record(
+                extents[0],
+                extents[1],
+                extents[2],
+                origin[0],
+                origin[1],
+                origin[2],
+                map.as_ptr(),
+                map.len(),
+                tray.as_mut_ptr(),
+                tray.len(),
+                &mut size,
+            )
         });
         assert_eq!(refusal, 0);
         let length = timed(&mut times[1], || codec::write(extents, origin, map, &mut other)).unwrap();
         assert!(size == length && tray == other, "{name}: the records differ");
         let mut fields = [0u16; 6];
-        let refusal = timed(&mut times[2], || unsafe {
-            tugrelis_read_record(tray.as_ptr(), size, back.as_mut_ptr(), back.len(), &mut fields)
-        });
+        let refusal = timed(&mut times[2], || unsafe { tugrelis_read_record(tray.as_ptr(), size, back.as_mut_ptr(), back.len(), &mut fields) });
         assert_eq!(refusal, 0);
         let head = timed(&mut times[3], || codec::read(&other[..length], &mut again));
         assert_eq!(head, Some((extents, origin)));

@@ -118,9 +118,38 @@ impl Job {
         let mut numbers = [0; 13];
         let ([nx, ny, nz], [cx, cy, cz], t) = (cutting.extents, &cutting.lists, &mut tables);
         let answer = raw::open(
-            &mut numbers, nx, ny, nz, entries.faces, entries.curves, entries.points, cx, cy, cz, &mut t.ticks, &t.blocks, &t.face_links, &t.curve_links, &t.face_keys, &t.curve_keys, &t.point_keys,
-            &t.face_rows, &t.curve_rows, &t.point_rows, &t.face_numbers, &t.curve_numbers, &t.point_numbers, &t.face_firsts, &t.curve_firsts, &t.point_firsts, &t.face_listed, &t.curve_listed, &t.point_listed,
-            &mut t.came, &mut t.face_sums.0, &mut t.face_counts,
+            &mut numbers,
+            nx,
+            ny,
+            nz,
+            entries.faces,
+            entries.curves,
+            entries.points,
+            cx,
+            cy,
+            cz,
+            &mut t.ticks,
+            &t.blocks,
+            &t.face_links,
+            &t.curve_links,
+            &t.face_keys,
+            &t.curve_keys,
+            &t.point_keys,
+            &t.face_rows,
+            &t.curve_rows,
+            &t.point_rows,
+            &t.face_numbers,
+            &t.curve_numbers,
+            &t.point_numbers,
+            &t.face_firsts,
+            &t.curve_firsts,
+            &t.point_firsts,
+            &t.face_listed,
+            &t.curve_listed,
+            &t.point_listed,
+            &mut t.came,
+            &mut t.face_sums.0,
+            &mut t.face_counts,
         );
         match Refusal::check(answer) {
             Ok(()) => Ok(Job { numbers, cutting, tables }),
@@ -137,34 +166,111 @@ impl Job {
     /// Enrols a block with its map.
     pub fn enrol(&mut self, block: u32, map: &[u32]) -> Result<(), Refusal> {
         let ([cx, cy, cz], t) = (&self.cutting.lists, &mut self.tables);
-        Refusal::check(raw::enrol(&mut self.numbers, cx, cy, cz, &mut t.ticks, &mut t.blocks, &mut t.face_links, &mut t.curve_links, &mut t.face_keys, &mut t.curve_keys, &mut t.face_rows, &mut t.curve_rows, block, map))
+        Refusal::check(raw::enrol(
+            &mut self.numbers,
+            cx,
+            cy,
+            cz,
+            &mut t.ticks,
+            &mut t.blocks,
+            &mut t.face_links,
+            &mut t.curve_links,
+            &mut t.face_keys,
+            &mut t.curve_keys,
+            &mut t.face_rows,
+            &mut t.curve_rows,
+            block,
+            map,
+        ))
     }
 
     /// Joins two neighbouring blocks, lower first, at the layer that they share.
     pub fn seam(&mut self, (lower, upper): (u32, u32), lower_map: &[u32], upper_map: &[u32]) -> Result<(), Refusal> {
         let ([cx, cy, cz], t) = (&self.cutting.lists, &mut self.tables);
-        Refusal::check(raw::seam(&mut self.numbers, cx, cy, cz, &mut t.ticks, &t.blocks, &mut t.face_links, &mut t.curve_links, lower, upper, lower_map, upper_map))
+        Refusal::check(raw::seam(
+            &mut self.numbers,
+            cx,
+            cy,
+            cz,
+            &mut t.ticks,
+            &t.blocks,
+            &mut t.face_links,
+            &mut t.curve_links,
+            lower,
+            upper,
+            lower_map,
+            upper_map,
+        ))
     }
 
     /// Joins the curves of a block at its point cells. The last crossing numbers faces and curves.
     pub fn crossing(&mut self, block: u32, map: &[u32]) -> Result<(), Refusal> {
         let ([cx, cy, cz], t) = (&self.cutting.lists, &mut self.tables);
         Refusal::check(raw::crossing(
-            &mut self.numbers, cx, cy, cz, &mut t.ticks, &t.blocks, &mut t.face_links, &mut t.curve_links, &t.face_keys, &t.curve_keys, &t.face_rows, &t.curve_rows, &mut t.face_numbers, &mut t.curve_numbers,
-            &mut t.face_firsts, &mut t.curve_firsts, &mut t.face_listed, &mut t.curve_listed, block, map,
+            &mut self.numbers,
+            cx,
+            cy,
+            cz,
+            &mut t.ticks,
+            &t.blocks,
+            &mut t.face_links,
+            &mut t.curve_links,
+            &t.face_keys,
+            &t.curve_keys,
+            &t.face_rows,
+            &t.curve_rows,
+            &mut t.face_numbers,
+            &mut t.curve_numbers,
+            &mut t.face_firsts,
+            &mut t.curve_firsts,
+            &mut t.face_listed,
+            &mut t.curve_listed,
+            block,
+            map,
         ))
     }
 
     /// Finds the points of a block. The last point step numbers them and closes the job.
     pub fn point(&mut self, block: u32, map: &[u32]) -> Result<(), Refusal> {
         let ([cx, cy, cz], t) = (&self.cutting.lists, &mut self.tables);
-        Refusal::check(raw::point(&mut self.numbers, cx, cy, cz, &mut t.ticks, &t.blocks, &t.curve_numbers, &mut t.point_keys, &mut t.point_rows, &mut t.point_numbers, &mut t.point_firsts, &mut t.point_listed, block, map))
+        Refusal::check(raw::point(
+            &mut self.numbers,
+            cx,
+            cy,
+            cz,
+            &mut t.ticks,
+            &t.blocks,
+            &t.curve_numbers,
+            &mut t.point_keys,
+            &mut t.point_rows,
+            &mut t.point_numbers,
+            &mut t.point_firsts,
+            &mut t.point_listed,
+            block,
+            map,
+        ))
     }
 
     /// The final number of a cell, named by its place in the volume's cells: 0 where inactive, the code at a voxel.
     pub fn lookup(&self, block: u32, map: &[u32], [x, y, z]: [u32; 3]) -> Result<u32, Refusal> {
         let ([cx, cy, cz], t, mut number) = (&self.cutting.lists, &self.tables, 0);
-        Refusal::check(raw::lookup(&self.numbers, cx, cy, cz, &t.ticks, &t.blocks, &t.face_numbers, &t.curve_numbers, &t.point_firsts, block, map, x, y, z, &mut number))?;
+        Refusal::check(raw::lookup(
+            &self.numbers,
+            cx,
+            cy,
+            cz,
+            &t.ticks,
+            &t.blocks,
+            &t.face_numbers,
+            &t.curve_numbers,
+            &t.point_firsts,
+            block,
+            map,
+            x,
+            y,
+            z,
+            &mut number,
+        ))?;
         Ok(number)
     }
 
@@ -183,7 +289,21 @@ impl Job {
     /// Adds a block's readings to the totals of the faces: the block's map, and one reading for each of its voxels, x fastest.
     pub fn strain(&mut self, block: u32, map: &[u32], readings: &Readings) -> Result<(), Refusal> {
         let ([cx, cy, cz], t) = (&self.cutting.lists, &mut self.tables);
-        Refusal::check(raw::strain(&self.numbers, cx, cy, cz, &t.blocks, &t.face_numbers, &mut t.came, &mut t.face_sums.0, &mut t.face_counts, block, map, &readings.values, &readings.kinds))
+        Refusal::check(raw::strain(
+            &self.numbers,
+            cx,
+            cy,
+            cz,
+            &t.blocks,
+            &t.face_numbers,
+            &mut t.came,
+            &mut t.face_sums.0,
+            &mut t.face_counts,
+            block,
+            map,
+            &readings.values,
+            &readings.kinds,
+        ))
     }
 
     /// The totals of a face, once the readings of all blocks have come.

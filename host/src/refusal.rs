@@ -21,7 +21,8 @@ pub enum Refusal {
 use Refusal::*;
 
 /// All of them, by number.
-pub const REFUSALS: [Refusal; 12] = [OffSize, BadCut, WrongStage, NoSuchPlace, DoneAlready, WrongTray, BlankVoxel, StrayLabel, LayersDiffer, TableFull, BadRecord, BadReading];
+pub const REFUSALS: [Refusal; 12] =
+    [OffSize, BadCut, WrongStage, NoSuchPlace, DoneAlready, WrongTray, BlankVoxel, StrayLabel, LayersDiffer, TableFull, BadRecord, BadReading];
 
 impl Refusal {
     /// The refusal that an entry of the library answered, none for 0.

@@ -16,9 +16,8 @@ fn volume(name: &'static str, extents: [u32; 3], lists: [&[u32]; 3], codes: &[u3
 const FIGURE: [u32; 18] = [1, 1, 1, 1, 2, 1, 1, 1, 3, 4, 4, 4, 4, 5, 4, 4, 4, 6];
 
 /// Two curves that look apart in the upper half are one.
-const HANDLE: [u32; 45] = [
-    3, 3, 3, 3, 3, 3, 3, 3, 3, 3, 3, 3, 3, 3, 3, 1, 1, 1, 1, 3, 1, 3, 1, 1, 3, 1, 1, 1, 1, 3, 2, 2, 2, 2, 3, 2, 3, 3, 2, 3, 2, 2, 2, 3, 3,
-];
+const HANDLE: [u32; 45] =
+    [3, 3, 3, 3, 3, 3, 3, 3, 3, 3, 3, 3, 3, 3, 3, 1, 1, 1, 1, 3, 1, 3, 1, 1, 3, 1, 1, 1, 1, 3, 2, 2, 2, 2, 3, 2, 3, 3, 2, 3, 2, 2, 2, 3, 3];
 
 /// A point that its block of 2×2×2 calls active is inactive in the volume.
 const RINGS: [u32; 32] = [1, 1, 1, 1, 1, 1, 1, 1, 1, 1, 1, 1, 1, 1, 1, 1, 2, 2, 2, 2, 2, 3, 2, 2, 2, 2, 3, 2, 2, 2, 2, 2];

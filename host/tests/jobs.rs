@@ -114,7 +114,8 @@ fn totals_under_ten_cuttings() {
         let uncut = number(extents, &codes);
         let mut seen: Option<Vec<_>> = None;
         for round in 0..10 {
-            let cutting = Cutting { extents: extents.map(|n| n as u32), lists: extents.map(|n| random_cuts(&mut random, n).iter().map(|&c| c as u32).collect()) };
+            let cutting =
+                Cutting { extents: extents.map(|n| n as u32), lists: extents.map(|n| random_cuts(&mut random, n).iter().map(|&c| c as u32).collect()) };
             let (mut job, blocks) = joined(cutting.clone(), &codes, round % 2 == 1);
             let mut order: Vec<usize> = (0..blocks.len()).collect();
             for i in (1..order.len()).rev() {

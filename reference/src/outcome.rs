@@ -171,7 +171,9 @@ impl State<'_> {
         for p in (0..map.len()).filter(|&p| grid.order(p) == 0) {
             let active: Vec<usize> = grid.above(p).into_iter().filter(|&q| map[q] != 0).collect();
             for (i, &q) in active.iter().enumerate() {
-                pairs.extend(active[..i].iter().filter(|&&other| row(other) == row(q)).map(|&other| (self.node(1, block, map[other]), self.node(1, block, map[q]))));
+                pairs.extend(
+                    active[..i].iter().filter(|&&other| row(other) == row(q)).map(|&other| (self.node(1, block, map[other]), self.node(1, block, map[q]))),
+                );
             }
         }
         left.roots[1] = merged(&left.roots[1], &pairs);

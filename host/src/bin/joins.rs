@@ -59,9 +59,12 @@ fn closes(v: &Volume) {
     };
     let mut second = Job::open_in(v.cutting.clone(), entries, tables).expect("an opening");
     println!("  backward {}", number(run(&mut second, &blocks, true)));
-    let same = (1..=first.counts().faces).all(|n| first.row(Kind::Face, n) == second.row(Kind::Face, n) && first.first(Kind::Face, n) == second.first(Kind::Face, n))
-        && (1..=first.counts().curves).all(|n| first.row(Kind::Curve, n) == second.row(Kind::Curve, n) && first.first(Kind::Curve, n) == second.first(Kind::Curve, n))
-        && (1..=first.counts().points).all(|n| first.row(Kind::Point, n) == second.row(Kind::Point, n) && first.first(Kind::Point, n) == second.first(Kind::Point, n))
+    let same = (1..=first.counts().faces)
+        .all(|n| first.row(Kind::Face, n) == second.row(Kind::Face, n) && first.first(Kind::Face, n) == second.first(Kind::Face, n))
+        && (1..=first.counts().curves)
+            .all(|n| first.row(Kind::Curve, n) == second.row(Kind::Curve, n) && first.first(Kind::Curve, n) == second.first(Kind::Curve, n))
+        && (1..=first.counts().points)
+            .all(|n| first.row(Kind::Point, n) == second.row(Kind::Point, n) && first.first(Kind::Point, n) == second.first(Kind::Point, n))
         && first.counts() == second.counts();
     println!("  same sheet {same}");
     // one entry less in each table that has one
@@ -239,7 +242,11 @@ fn forged_numbers() {
     let (mut job, maps) = opened(&line.cutting, &line.codes, 0);
     until(&mut job, &maps, &[(0, 1)], &[]);
     job.numbers[0] = 4;
-    println!("forged closed job: row {:?} lookup {:?}", job.row(Kind::Face, 1).map_err(Refusal::number), job.lookup(0, &maps[0], [1, 0, 0]).map_err(Refusal::number));
+    println!(
+        "forged closed job: row {:?} lookup {:?}",
+        job.row(Kind::Face, 1).map_err(Refusal::number),
+        job.lookup(0, &maps[0], [1, 0, 0]).map_err(Refusal::number)
+    );
     job.numbers[10] = 2;
     println!("forged closed job, two faces numbered: row {:?}", job.row(Kind::Face, 1).map_err(Refusal::number));
     job.numbers[10] = 3;
@@ -248,7 +255,8 @@ fn forged_numbers() {
 
 /// Openings that are refused.
 fn openings() {
-    let open = |extents: [u32; 3], lists: [&[u32]; 3]| number(Job::open(Cutting { extents, lists: lists.map(<[u32]>::to_vec) }, Entries::default()).map(|_| ()));
+    let open =
+        |extents: [u32; 3], lists: [&[u32]; 3]| number(Job::open(Cutting { extents, lists: lists.map(<[u32]>::to_vec) }, Entries::default()).map(|_| ()));
     println!("opening 65 cut 0 64: {}", open([65, 1, 1], [&[0, 64], &[0], &[0]]));
     println!("opening 65 cut 0 63 64: {}", open([65, 1, 1], [&[0, 63, 64], &[0], &[0]]));
     println!("opening extent 0: {}", open([0, 1, 1], [&[0], &[0], &[0]]));

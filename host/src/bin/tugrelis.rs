@@ -105,7 +105,13 @@ fn label_all(task: &Task, folder: &Path) -> Outcome<Entries> {
     let length = file.metadata().map_err(failed(task.volume.display()))?.len();
     let right = 4 * cutting.extents.iter().map(|&n| u64::from(n)).product::<u64>();
     if length != right {
-        return Err(format!("{}: has {length} bytes, and {} × {} × {} codes have {right}", task.volume.display(), cutting.extents[0], cutting.extents[1], cutting.extents[2]));
+        return Err(format!(
+            "{}: has {length} bytes, and {} × {} × {} codes have {right}",
+            task.volume.display(),
+            cutting.extents[0],
+            cutting.extents[1],
+            cutting.extents[2]
+        ));
     }
     let mut entries = Entries::default();
     let mut progress = Progress::new("labelled", cutting.blocks());

@@ -14,9 +14,32 @@ use std::ops::Not;
 use std::slice::from_mut;
 
 extern "C" {
-    fn tugrelis_label(codes: *const u32, codes_len: usize, nx: u16, ny: u16, nz: u16, map: *mut u32, map_len: usize, work: *mut u32, work_len: usize, counts: *mut [u32; 3]) -> u32;
+    fn tugrelis_label(
+        codes: *const u32,
+        codes_len: usize,
+        nx: u16,
+        ny: u16,
+        nz: u16,
+        map: *mut u32,
+        map_len: usize,
+        work: *mut u32,
+        work_len: usize,
+        counts: *mut [u32; 3],
+    ) -> u32;
     fn tugrelis_most_components(nx: u16, ny: u16, nz: u16, counts: *mut [u32; 3]) -> u32;
-    fn tugrelis_write_record(nx: u16, ny: u16, nz: u16, ox: u16, oy: u16, oz: u16, map: *const u32, map_len: usize, tray: *mut u8, tray_len: usize, size: *mut usize) -> u32;
+    fn tugrelis_write_record(
+        nx: u16,
+        ny: u16,
+        nz: u16,
+        ox: u16,
+        oy: u16,
+        oz: u16,
+        map: *const u32,
+        map_len: usize,
+        tray: *mut u8,
+        tray_len: usize,
+        size: *mut usize,
+    ) -> u32;
     fn tugrelis_read_record(bytes: *const u8, bytes_len: usize, map: *mut u32, map_len: usize, fields: *mut [u16; 6]) -> u32;
 }
 
@@ -95,7 +118,18 @@ impl Comparison {
         let input = || format!("extents {extents:?} codes {codes:?} map tray of {map_length}, working tray of {work_length}");
         // Safe: every pointer comes with the length of what it points at.
         let refusal = unsafe {
-            tugrelis_label(codes.as_ptr(), codes.len(), nx, ny, nz, map[m.clone()].as_mut_ptr(), map_length, work[w.clone()].as_mut_ptr(), work_length, &mut counts)
+            tugrelis_label(
+                codes.as_ptr(),
+                codes.len(),
+                nx,
+                ny,
+                nz,
+                map[m.clone()].as_mut_ptr(),
+                map_length,
+                work[w.clone()].as_mut_ptr(),
+                work_length,
+                &mut counts,
+            )
         };
         let answer = label::label(codes, extents, &mut other_map[m.clone()], &mut other_work[w]);
         if let Ok(found) = answer {
