@@ -59,7 +59,7 @@ fn proved(cutting: &Cutting, codes: &[u32]) -> (Times, Job, Vec<(Block, Counts)>
     let parts: Vec<Vec<u32>> = (0..cutting.blocks()).map(|b| block_codes(cutting, codes, b)).collect();
     let blocks: Vec<(Block, Counts)> =
         parts.iter().enumerate().map(|(b, part)| timed(&mut t.label, || Block::label(cutting.block_extents(b), part)).expect("a labelling")).collect();
-    let mut job = Job::open(cutting.clone(), entries_for(&blocks)).expect("an opening");
+    let mut job = Job::open(cutting.clone(), entries_for(&blocks).expect("few components")).expect("an opening");
     let map = |b: u32| &blocks[b as usize].0.map[..];
     let n = blocks.len() as u32;
     timed(&mut t.enrol, || (0..n).for_each(|b| job.enrol(b, map(b)).expect("an enrolment")));
@@ -222,7 +222,7 @@ pub fn counted(k: u32, stage: u32) {
     let cutting = Cutting::even([side; 3], 8);
     let blocks: Vec<(Block, Counts)> =
         (0..cutting.blocks()).map(|b| Block::label(cutting.block_extents(b), &block_codes(&cutting, &codes, b)).expect("a labelling")).collect();
-    let mut job = Job::open(cutting.clone(), entries_for(&blocks)).expect("an opening");
+    let mut job = Job::open(cutting.clone(), entries_for(&blocks).expect("few components")).expect("an opening");
     let map = |b: u32| &blocks[b as usize].0.map[..];
     let (n, seams) = (blocks.len() as u32, cutting.seams());
     if stage >= 1 {

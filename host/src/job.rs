@@ -104,17 +104,43 @@ impl Tables {
     }
 }
 
-/// A job: the thirteen numbers that the library hands on, with the cutting and the tables that are lent with each call.
+/// The thirteen numbers that the library hands on, by name.
+#[derive(Clone, Copy, PartialEq, Eq, Debug)]
+pub struct Numbers {
+    pub stage: u32,
+    pub extents: [u32; 3],
+    pub entries: Entries,
+    /// How many faces and curves are enrolled, and points found.
+    pub tallies: Counts,
+    /// How many faces, curves and points are numbered.
+    pub counts: Counts,
+}
+
+impl From<[u32; 13]> for Numbers {
+    fn from(numbers: [u32; 13]) -> Numbers {
+        let three = |from: usize| [0, 1, 2].map(|i: usize| numbers[from + i]);
+        Numbers { stage: numbers[0], extents: three(1), entries: three(4).into(), tallies: three(7).into(), counts: three(10).into() }
+    }
+}
+
+impl From<Numbers> for [u32; 13] {
+    fn from(numbers: Numbers) -> [u32; 13] {
+        let Numbers { stage, extents: [nx, ny, nz], entries: e, tallies: t, counts: c } = numbers;
+        [stage, nx, ny, nz, e.faces, e.curves, e.points, t.faces, t.curves, t.points, c.faces, c.curves, c.points]
+    }
+}
+
+/// A job: its numbers, with the cutting and the tables that are lent with each call.
 #[derive(Clone, PartialEq, Eq, Debug)]
 pub struct Job {
-    pub numbers: [u32; 13],
+    numbers: [u32; 13],
     pub cutting: Cutting,
     pub tables: Tables,
 }
 
 impl Job {
     /// Opens a job in tables that may hold another job's numbers. The tables are handed back with a refusal.
-    pub fn open_in(cutting: Cutting, entries: Entries, mut tables: Tables) -> Result<Job, (Refusal, Tables)> {
+    pub fn open_in(cutting: Cutting, entries: Entries, mut tables: Tables) -> Result<Job, (Refusal, Box<Tables>)> {
         let mut numbers = [0; 13];
         let ([nx, ny, nz], [cx, cy, cz], t) = (cutting.extents, &cutting.lists, &mut tables);
         let answer = raw::open(
@@ -153,7 +179,7 @@ impl Job {
         );
         match Refusal::check(answer) {
             Ok(()) => Ok(Job { numbers, cutting, tables }),
-            Err(refusal) => Err((refusal, tables)),
+            Err(refusal) => Err((refusal, Box::new(tables))),
         }
     }
 
@@ -314,27 +340,39 @@ impl Job {
         Ok(Totals { lower: side(0), higher: side(1) })
     }
 
-    pub fn stage(&self) -> Stage {
-        [Stage::Enrol, Stage::Seam, Stage::Crossing, Stage::Points, Stage::Closed][self.numbers[0] as usize]
+    /// Takes up a job that was kept elsewhere. Nothing is asked of its numbers: every call tests them.
+    pub fn resume(numbers: Numbers, cutting: Cutting, tables: Tables) -> Job {
+        Job { numbers: numbers.into(), cutting, tables }
+    }
+
+    /// The numbers of the job, to be kept.
+    pub fn numbers(&self) -> Numbers {
+        self.numbers.into()
+    }
+
+    /// The stage of the job, none where its number stands for no stage.
+    pub fn stage(&self) -> Option<Stage> {
+        [Stage::Enrol, Stage::Seam, Stage::Crossing, Stage::Points, Stage::Closed].get(self.numbers().stage as usize).copied()
     }
 
     /// How many faces, curves and points are numbered: those of the volume once the job is closed.
     pub fn counts(&self) -> Counts {
-        Counts { faces: self.numbers[10], curves: self.numbers[11], points: self.numbers[12] }
+        self.numbers().counts
     }
 
     /// How many faces and curves are enrolled, and points found.
     pub fn tallies(&self) -> Counts {
-        Counts { faces: self.numbers[7], curves: self.numbers[8], points: self.numbers[9] }
+        self.numbers().tallies
     }
 
     /// The first position of a face, curve or point of a closed job.
     pub fn first(&self, kind: Kind, number: u32) -> Option<u64> {
         let (firsts, many) = match kind {
-            Kind::Face => (&self.tables.face_firsts, self.numbers[10]),
-            Kind::Curve => (&self.tables.curve_firsts, self.numbers[11]),
-            Kind::Point => (&self.tables.point_firsts, self.numbers[12]),
+            Kind::Face => (&self.tables.face_firsts, self.counts().faces),
+            Kind::Curve => (&self.tables.curve_firsts, self.counts().curves),
+            Kind::Point => (&self.tables.point_firsts, self.counts().points),
         };
-        (1..=many).contains(&number).then(|| firsts[number as usize - 1])
+        let place = number.checked_sub(1).filter(|_| number <= many)?;
+        firsts.get(place as usize).copied()
     }
 }

@@ -43,13 +43,23 @@ pub fn honest(random: &mut Random) -> Asked {
     let cell =
         [0, 1, 2].map(|a: usize| 2 * cutting.origin(lower as usize)[a] + random.below(2 * usize::from(cutting.block_extents(lower as usize)[a]) - 1) as u32);
     let many = match what {
-        What::FaceRow | What::Total => job.numbers[10],
-        What::CurveRow => job.numbers[11],
-        _ => job.numbers[12],
+        What::FaceRow | What::Total => job.counts().faces,
+        What::CurveRow => job.counts().curves,
+        _ => job.counts().points,
     };
     let cell = if what > What::Lookup { [1 + random.below(many as usize + 1) as u32, 0, 0] } else { cell };
     let Readings { values, kinds } = readings(random, &cutting, lower);
-    Asked { what, job: job.numbers, lists: cutting.lists, maps: [map(lower), map(upper)], tables: job.tables, blocks: [lower, upper], cell, values, kinds }
+    Asked {
+        what,
+        job: job.numbers().into(),
+        lists: cutting.lists,
+        maps: [map(lower), map(upper)],
+        tables: job.tables,
+        blocks: [lower, upper],
+        cell,
+        values,
+        kinds,
+    }
 }
 
 /// Good readings of a block.

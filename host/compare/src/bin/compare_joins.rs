@@ -149,12 +149,12 @@ impl Comparison {
         }
         let reading = matches!(call, Call::Lookup { .. } | Call::Row { .. });
         self.equal(if reading { "reading" } else { "step" }, proved == expected, &|| {
-            format!("{call:?} gave {proved:?}, the book says {expected:?}; job {:?} cutting {:?}", before.numbers, before.cutting)
+            format!("{call:?} gave {proved:?}, the book says {expected:?}; job {:?} cutting {:?}", before.numbers(), before.cutting)
         });
         if reading || matches!(expected, Answer::Refused(_)) {
             self.equal("kept", before == *job, &|| format!("after {call:?}"));
         }
-        self.equal("closed", book.closed() == (job.stage() == Stage::Closed), &|| format!("after {call:?}"));
+        self.equal("closed", book.closed() == (job.stage() == Some(Stage::Closed)), &|| format!("after {call:?}"));
         true
     }
 
@@ -397,7 +397,7 @@ impl Comparison {
         self.equal("open", proved == expected, &|| format!("{:?} {entries:?}: {proved} for {expected}", case.cutting));
         let mut job = match opened {
             Ok(job) => job,
-            Err((_, tables)) => return self.equal("kept", tables == lent, &|| "after a refused opening".to_string()),
+            Err((_, tables)) => return self.equal("kept", *tables == lent, &|| "after a refused opening".to_string()),
         };
         let mut book = Book::open(case.cuts.clone(), [entries.faces, entries.curves, entries.points]).expect("an accepted opening");
         for _ in 0..4 {
