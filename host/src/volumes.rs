@@ -62,6 +62,6 @@ pub fn voronoi(extents: [usize; 3], seeds: &[[i64; 3]]) -> Vec<u32> {
 pub fn spread(extents: [usize; 3], many: usize) -> Vec<[i64; 3]> {
     // 1/r, 1/r² and 1/r³ for the root r of r⁴ = r + 1, by 2^-32: their multiples modulo 1 fill a cube evenly
     const STEPS: [u32; 3] = [3_518_319_155, 2_882_110_345, 2_360_945_575];
-    let place = |s: u32, a: usize| (u64::from(STEPS[a].wrapping_mul(s)) * extents[a] as u64 >> 32) as i64;
+    let place = |s: u32, a: usize| ((u64::from(STEPS[a].wrapping_mul(s)) * extents[a] as u64) >> 32) as i64;
     (1..=many as u32).map(|s| [0, 1, 2].map(|a| place(s, a))).collect()
 }

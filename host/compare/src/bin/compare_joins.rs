@@ -160,7 +160,7 @@ impl Comparison {
 
     /// The steps of a stage in random order, some twice, some with wrong maps or blocks, and a few calls of other stages between.
     fn stage(&mut self, case: &Case, job: &mut Job, book: &mut Book) -> bool {
-        let stage = job.stage();
+        let stage = job.stage().expect("a stage of an honest job");
         let mut steps: Vec<(usize, usize)> = match stage {
             Stage::Seam => case.cuts.seams(),
             _ => (0..case.cuts.blocks()).map(|b| (b, b)).collect(),

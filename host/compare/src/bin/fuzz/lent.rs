@@ -161,7 +161,7 @@ pub struct Lent {
 
 impl Lent {
     pub fn new(asked: &Asked) -> Lent {
-        let (words, longs) = (words(&asked.tables).map(|t| guarded(t)), longs(&asked.tables).map(|t| guarded(t)));
+        let (words, longs) = (words(&asked.tables).map(guarded), longs(&asked.tables).map(guarded));
         let sums = Sums(guarded(&asked.tables.face_sums.0));
         Lent { job: asked.job, words: words.into(), longs: longs.into(), sums, number: 7, row: [7; 6], total: ([7; 2], [7; 6]) }
     }
@@ -176,9 +176,9 @@ impl Lent {
         let ([cx, cy, cz], [b, c], [m, n], [x, y, z]) = (&asked.lists, asked.blocks, &asked.maps, asked.cell);
         let [ticks, blocks, fl, cl, fr, cr, pr, fnum, cnum, pnum, flist, clist, plist, came] = &mut self.words[..] else { unreachable!() };
         let [ticks, blocks, fl, cl, fr, cr, pr, fnum, cnum, pnum, flist, clist, plist, came] =
-            [ticks, blocks, fl, cl, fr, cr, pr, fnum, cnum, pnum, flist, clist, plist, came].map(part);
+            [ticks, blocks, fl, cl, fr, cr, pr, fnum, cnum, pnum, flist, clist, plist, came].map(|t| part(t));
         let [fk, ck, pk, ff, cf, pf, counts] = &mut self.longs[..] else { unreachable!() };
-        let [fk, ck, pk, ff, cf, pf, counts] = [fk, ck, pk, ff, cf, pf, counts].map(part);
+        let [fk, ck, pk, ff, cf, pf, counts] = [fk, ck, pk, ff, cf, pf, counts].map(|t| part(t));
         let sums = part(&mut self.sums.0);
         let (job, told) = (&mut self.job, &asked.job);
         match asked.what {
@@ -249,7 +249,7 @@ pub fn guarded<T: Copy + From<u8>>(table: &[T]) -> Vec<T> {
 }
 
 /// The table between the guards.
-pub fn part<T>(table: &mut Vec<T>) -> &mut [T] {
+pub fn part<T>(table: &mut [T]) -> &mut [T] {
     let n = table.len();
     &mut table[GUARD..n - GUARD]
 }
