@@ -4,7 +4,7 @@ use reference::label::number;
 use reference::random::{cuts as random_cuts, reading, volume, Random};
 use tugrelis::joining::{block_codes, entries_for, label_blocks, run};
 use tugrelis::sheet::write_sheet;
-use tugrelis::volumes::{volumes, Volume};
+use tugrelis::volumes::{spread, volumes, voronoi, Volume};
 use tugrelis::{Block, Counts, Cutting, Entries, Error, Job, Kind, Numbers, Reading, Readings, Refusal, Side, Stage, Totals, REFUSALS};
 
 fn cuts(c: &Cutting) -> Cuts {
@@ -291,4 +291,22 @@ fn even_cuts() {
             assert_eq!(cuts(&cutting).seams(), cutting.seams().iter().map(|&(a, b)| (a as usize, b as usize)).collect::<Vec<_>>());
         }
     }
+}
+
+#[test]
+fn seeds_are_spread() {
+    let extents = [60, 50, 40];
+    let seeds = spread(extents, 25);
+    assert_eq!(seeds.len(), 25);
+    assert!(seeds.iter().all(|seed| (0..3).all(|a| (0..extents[a] as i64).contains(&seed[a]))), "{seeds:?}");
+    // some in each eighth of the volume
+    let eighths: std::collections::BTreeSet<_> = seeds.iter().map(|seed| [0, 1, 2].map(|a: usize| 2 * seed[a] >= extents[a] as i64)).collect();
+    assert_eq!(eighths.len(), 8);
+    let codes = voronoi(extents, &seeds);
+    assert_eq!(codes.len(), 60 * 50 * 40);
+    for (s, &[x, y, z]) in seeds.iter().enumerate() {
+        assert_eq!(codes[(x + 60 * (y + 50 * z)) as usize] as usize, s + 1);
+    }
+    assert_eq!(voronoi([5, 1, 1], &[[4, 0, 0], [0, 0, 0]]), [2, 2, 1, 1, 1]);
+    assert_eq!(voronoi([2, 1, 1], &[]), [1, 1]);
 }

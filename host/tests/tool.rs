@@ -2,6 +2,7 @@
 use reference::label::number;
 use reference::random::Random;
 use std::fs;
+use std::os::unix::ffi::OsStrExt;
 use std::path::{Path, PathBuf};
 use std::process::{Command, Output};
 use tugrelis::volumes;
@@ -130,6 +131,9 @@ fn failures_leave_nothing_behind() {
         fails(&dir, &words, 2, message);
         fails(&dir, &words, 2, "; see tugrelis --help\n");
     }
+    let odd = std::ffi::OsStr::from_bytes(b"\xff");
+    let ran = Command::new(env!("CARGO_BIN_EXE_tugrelis")).arg(odd).output().unwrap();
+    assert_eq!((ran.status.code(), &ran.stderr[..]), (Some(2), &b"tugrelis: \"\\xFF\" is no text; see tugrelis --help\n"[..]));
     fs::remove_dir_all(&dir).unwrap();
 }
 
