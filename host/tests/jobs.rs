@@ -217,7 +217,10 @@ fn a_job_by_its_numbers() {
     let numbers = job.numbers();
     let counts = Counts { faces: 2, curves: 0, points: 0 };
     assert_eq!(numbers, Numbers { stage: 4, extents: [3, 1, 1], entries: counts, tallies: counts, counts });
-    assert_eq!(<[u32; 13]>::from(numbers), [4, 3, 1, 1, 2, 0, 0, 2, 0, 0, 2, 0, 0]);
+    let places = [0, 1, 2, 3, 4, 5, 6, 7, 8, 9, 10, 11, 12];
+    let of = |faces: u32| Counts { faces, curves: faces + 1, points: faces + 2 };
+    assert_eq!(Numbers::from(places), Numbers { stage: 0, extents: [1, 2, 3], entries: of(4), tallies: of(7), counts: of(10) });
+    assert_eq!(<[u32; 13]>::from(Numbers::from(places)), places);
     assert_eq!(Job::resume(numbers, job.cutting.clone(), job.tables.clone()), job);
     let stages = [Stage::Enrol, Stage::Seam, Stage::Crossing, Stage::Points, Stage::Closed].map(Some);
     for stage in [0, 1, 2, 3, 4, 5, 9, u32::MAX] {
