@@ -6,12 +6,8 @@ mod volume;
 
 use plain::Counts;
 use std::time::Instant;
-
-extern "C" {
-    fn tugrelis_label(codes: *const u32, codes_len: usize, nx: u16, ny: u16, nz: u16, map: *mut u32, map_len: usize, work: *mut u32, work_len: usize, counts: *mut [u32; 3]) -> u32;
-    fn tugrelis_write_record(nx: u16, ny: u16, nz: u16, ox: u16, oy: u16, oz: u16, map: *const u32, map_len: usize, tray: *mut u8, tray_len: usize, size: *mut usize) -> u32;
-    fn tugrelis_read_record(bytes: *const u8, bytes_len: usize, map: *mut u32, map_len: usize, fields: *mut [u16; 6]) -> u32;
-}
+use tugrelis::raw;
+use tugrelis::volumes::voronoi;
 
 const SIDE: usize = 64;
 const ROUNDS: usize = 11;
@@ -19,9 +15,7 @@ const ROUNDS: usize = 11;
 fn proved(codes: &[u32], extents: [usize; 3], map: &mut [u32], work: &mut [u32]) -> Counts {
     let mut counts = [0u32; 3];
     let [nx, ny, nz] = extents.map(|n| n as u16);
-    let refusal = unsafe {
-        tugrelis_label(codes.as_ptr(), codes.len(), nx, ny, nz, map.as_mut_ptr(), map.len(), work.as_mut_ptr(), work.len(), &mut counts)
-    };
+    let refusal = raw::label(codes, nx, ny, nz, map, work, &mut counts);
     assert_eq!(refusal, 0);
     Counts { faces: counts[0], curves: counts[1], points: counts[2] }
 }
@@ -40,13 +34,8 @@ fn volumes() -> Vec<(&'static str, Vec<u32>)> {
     let n = SIDE * SIDE * SIDE;
     let mut random = Random(1);
     let seeds: Vec<[i64; 3]> = (0..60).map(|_| [0; 3].map(|_: i64| random.below(SIDE as u64) as i64)).collect();
-    let nearest = |v: usize| {
-        let p = [v % SIDE, v / SIDE % SIDE, v / SIDE / SIDE].map(|c| c as i64);
-        let far = |s: &[i64; 3]| (0..3).map(|a| (p[a] - s[a]) * (p[a] - s[a])).sum::<i64>();
-        (0..seeds.len()).min_by_key(|&i| far(&seeds[i])).unwrap() as u32 + 1
-    };
     vec![
-        ("Voronoi, 60 seeds", (0..n).map(nearest).collect()),
+        ("Voronoi, 60 seeds", voronoi([SIDE; 3], &seeds)),
         ("random codes 1 to 3", (0..n).map(|_| 1 + random.below(3) as u32).collect()),
         ("all codes different", (1..=n as u32).collect()),
         ("one code", vec![7; n]),
@@ -104,16 +93,13 @@ fn records(name: &str, map: &[u32]) {
     let mut times = [Vec::new(), Vec::new(), Vec::new(), Vec::new()];
     for _ in 0..ROUNDS {
         let mut size = 0;
-        let refusal = timed(&mut times[0], || unsafe {
-            tugrelis_write_record(extents[0], extents[1], extents[2], origin[0], origin[1], origin[2], map.as_ptr(), map.len(), tray.as_mut_ptr(), tray.len(), &mut size)
-        });
+        let ([nx, ny, nz], [ox, oy, oz]) = (extents, origin);
+        let refusal = timed(&mut times[0], || raw::write_record(nx, ny, nz, ox, oy, oz, map, &mut tray, &mut size));
         assert_eq!(refusal, 0);
         let length = timed(&mut times[1], || codec::write(extents, origin, map, &mut other)).unwrap();
         assert!(size == length && tray == other, "{name}: the records differ");
         let mut fields = [0u16; 6];
-        let refusal = timed(&mut times[2], || unsafe {
-            tugrelis_read_record(tray.as_ptr(), size, back.as_mut_ptr(), back.len(), &mut fields)
-        });
+        let refusal = timed(&mut times[2], || raw::read_record(&tray[..size], &mut back, &mut fields));
         assert_eq!(refusal, 0);
         let head = timed(&mut times[3], || codec::read(&other[..length], &mut again));
         assert_eq!(head, Some((extents, origin)));

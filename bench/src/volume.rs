@@ -31,9 +31,7 @@ fn timed<T>(time: &mut f64, work: impl FnOnce() -> T) -> T {
 /// A volume of side³ voxels, each with the code of its nearest seed; seeds are looked for in the cells around.
 fn voronoi(side: usize, cell: usize, random: &mut Random) -> Vec<u32> {
     let m = side.div_ceil(cell);
-    let seeds: Vec<[i64; 3]> = (0..m * m * m)
-        .map(|s| [s % m, s / m % m, s / m / m].map(|c| (c * cell) as i64 + random.below(cell as u64) as i64))
-        .collect();
+    let seeds: Vec<[i64; 3]> = (0..m * m * m).map(|s| [s % m, s / m % m, s / m / m].map(|c| (c * cell) as i64 + random.below(cell as u64) as i64)).collect();
     let mut codes = Vec::with_capacity(side * side * side);
     for z in 0..side {
         for y in 0..side {
@@ -59,8 +57,9 @@ fn voronoi(side: usize, cell: usize, random: &mut Random) -> Vec<u32> {
 fn proved(cutting: &Cutting, codes: &[u32]) -> (Times, Job, Vec<(Block, Counts)>) {
     let mut t = Times::default();
     let parts: Vec<Vec<u32>> = (0..cutting.blocks()).map(|b| block_codes(cutting, codes, b)).collect();
-    let blocks: Vec<(Block, Counts)> = parts.iter().enumerate().map(|(b, part)| timed(&mut t.label, || Block::label(cutting.block_extents(b), part)).expect("a labelling")).collect();
-    let mut job = Job::open(cutting.clone(), entries_for(&blocks)).expect("an opening");
+    let blocks: Vec<(Block, Counts)> =
+        parts.iter().enumerate().map(|(b, part)| timed(&mut t.label, || Block::label(cutting.block_extents(b), part)).expect("a labelling")).collect();
+    let mut job = Job::open(cutting.clone(), entries_for(&blocks).expect("few components")).expect("an opening");
     let map = |b: u32| &blocks[b as usize].0.map[..];
     let n = blocks.len() as u32;
     timed(&mut t.enrol, || (0..n).for_each(|b| job.enrol(b, map(b)).expect("an enrolment")));
@@ -82,7 +81,11 @@ fn plainly(cutting: &Cutting, codes: &[u32], maps: &[(Block, Counts)]) -> (Times
             plain::by_union_find(&part, extents, &mut map, &mut work)
         });
     }
-    let parts: Vec<Part> = maps.iter().enumerate().map(|(b, (block, _))| Part { extents: block.extents.map(usize::from), origin: cutting.origin(b).map(|c| c as usize), map: &block.map }).collect();
+    let parts: Vec<Part> = maps
+        .iter()
+        .enumerate()
+        .map(|(b, (block, _))| Part { extents: block.extents.map(usize::from), origin: cutting.origin(b).map(|c| c as usize), map: &block.map })
+        .collect();
     let mut job = Plain::new(cutting.extents.map(|n| n as usize), parts.len());
     let n = parts.len();
     timed(&mut t.enrol, || (0..n).for_each(|b| assert!(job.enrol(b, &parts[b]))));
@@ -98,7 +101,8 @@ fn plainly(cutting: &Cutting, codes: &[u32], maps: &[(Block, Counts)]) -> (Times
 fn same(job: &Job, plain: &Plain) -> bool {
     let counts = job.counts();
     [(Kind::Face, counts.faces), (Kind::Curve, counts.curves), (Kind::Point, counts.points)].into_iter().enumerate().all(|(k, (kind, many))| {
-        plain.kinds[k].listed.len() == many as usize && (1..=many).all(|n| plain.kinds[k].listed[n as usize - 1] == (job.first(kind, n).unwrap(), job.row(kind, n).unwrap()))
+        plain.kinds[k].listed.len() == many as usize
+            && (1..=many).all(|n| plain.kinds[k].listed[n as usize - 1] == (job.first(kind, n).unwrap(), job.row(kind, n).unwrap()))
     })
 }
 
@@ -148,7 +152,15 @@ pub fn readings(name: &str, codes: &[u32], side: usize, rounds: usize) {
         let mut totals = Totals { sums: closed.tables.face_sums.0.clone(), counts: closed.tables.face_counts.clone() };
         timed(&mut took[0], || closed.strain(0, map, &readings).expect("good readings"));
         let numbers = closed.tables.face_numbers.clone();
-        assert!(timed(&mut took[1], || strain(&part, [counts.faces, counts.curves, counts.points], &numbers, [0; 3], &readings.values, &readings.kinds, &mut totals)));
+        assert!(timed(&mut took[1], || strain(
+            &part,
+            [counts.faces, counts.curves, counts.points],
+            &numbers,
+            [0; 3],
+            &readings.values,
+            &readings.kinds,
+            &mut totals
+        )));
         assert!(closed.tables.face_sums.0 == totals.sums && closed.tables.face_counts == totals.counts, "{name}: the totals differ");
         assert!(timed(&mut took[3], || all_good(&readings.values, &readings.kinds)));
         times.iter_mut().zip(took).for_each(|(all, one)| all.push(one));
@@ -160,7 +172,10 @@ pub fn readings(name: &str, codes: &[u32], side: usize, rounds: usize) {
 /// A volume of k×k×k blocks of 32×32×32 voxels, for k = 1, 2, 4, 8.
 pub fn growth() {
     println!("\nwhole volumes of k×k×k blocks of 32×32×32 voxels, Voronoi; milliseconds, proved beside plain Rust");
-    println!("{:>6} {:>9} {:>20} {:>20} {:>20} {:>20} {:>20} {:>14} {:>12}", "blocks", "seeds", "label", "enrol", "seam", "crossing", "point", "joining/label", "ms a block");
+    println!(
+        "{:>6} {:>9} {:>20} {:>20} {:>20} {:>20} {:>20} {:>14} {:>12}",
+        "blocks", "seeds", "label", "enrol", "seam", "crossing", "point", "joining/label", "ms a block"
+    );
     for k in [1u32, 2, 4, 8] {
         let side = 31 * k + 1;
         let codes = voronoi(side as usize, 32, &mut Random(7));
@@ -172,7 +187,15 @@ pub fn growth() {
         let pair = |x: f64, y: f64| format!("{x:.1}/{y:.1} = {:.2}", x / y);
         println!(
             "{:>6} {:>9} {:>20} {:>20} {:>20} {:>20} {:>20} {:>14.2} {:>12.2}",
-            blocks.len(), seeds, pair(a.label, b.label), pair(a.enrol, b.enrol), pair(a.seam, b.seam), pair(a.crossing, b.crossing), pair(a.point, b.point), a.joining() / a.label, a.joining() / blocks.len() as f64
+            blocks.len(),
+            seeds,
+            pair(a.label, b.label),
+            pair(a.enrol, b.enrol),
+            pair(a.seam, b.seam),
+            pair(a.crossing, b.crossing),
+            pair(a.point, b.point),
+            a.joining() / a.label,
+            a.joining() / blocks.len() as f64
         );
         let (n, seams) = (blocks.len() as f64, cutting.seams().len().max(1) as f64);
         println!(
@@ -181,7 +204,12 @@ pub fn growth() {
         );
         let t = job.tallies();
         let components = (t.faces + t.curves + t.points) as usize;
-        println!("       {} components enrolled or found, {} bytes of tables, {:.1} bytes each", components, job.tables.bytes(), job.tables.bytes() as f64 / components as f64);
+        println!(
+            "       {} components enrolled or found, {} bytes of tables, {:.1} bytes each",
+            components,
+            job.tables.bytes(),
+            job.tables.bytes() as f64 / components as f64
+        );
     }
 }
 
@@ -192,8 +220,9 @@ pub fn counted(k: u32, stage: u32) {
     let part = |c: u32| c % 7 / 4;
     let codes: Vec<u32> = (0..side * side * side).map(|v| 1 + part(v % side) + 2 * part(v / side % side) + 4 * part(v / side / side)).collect();
     let cutting = Cutting::even([side; 3], 8);
-    let blocks: Vec<(Block, Counts)> = (0..cutting.blocks()).map(|b| Block::label(cutting.block_extents(b), &block_codes(&cutting, &codes, b)).expect("a labelling")).collect();
-    let mut job = Job::open(cutting.clone(), entries_for(&blocks)).expect("an opening");
+    let blocks: Vec<(Block, Counts)> =
+        (0..cutting.blocks()).map(|b| Block::label(cutting.block_extents(b), &block_codes(&cutting, &codes, b)).expect("a labelling")).collect();
+    let mut job = Job::open(cutting.clone(), entries_for(&blocks).expect("few components")).expect("an opening");
     let map = |b: u32| &blocks[b as usize].0.map[..];
     let (n, seams) = (blocks.len() as u32, cutting.seams());
     if stage >= 1 {

@@ -30,6 +30,14 @@ impl Counts {
         Refusal::check(raw::most_components(nx, ny, nz, &mut counts))?;
         Ok(Counts::from(counts))
     }
+
+    /// Both together; none where a number would not fit.
+    pub fn plus(self, other: Counts) -> Option<Counts> {
+        let faces = self.faces.checked_add(other.faces)?;
+        let curves = self.curves.checked_add(other.curves)?;
+        let points = self.points.checked_add(other.points)?;
+        Some(Counts { faces, curves, points })
+    }
 }
 
 impl From<[u32; 3]> for Counts {

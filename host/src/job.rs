@@ -104,27 +104,82 @@ impl Tables {
     }
 }
 
-/// A job: the thirteen numbers that the library hands on, with the cutting and the tables that are lent with each call.
+/// The thirteen numbers that the library hands on, by name.
+#[derive(Clone, Copy, PartialEq, Eq, Debug)]
+pub struct Numbers {
+    pub stage: u32,
+    pub extents: [u32; 3],
+    pub entries: Entries,
+    /// How many faces and curves are enrolled, and points found.
+    pub tallies: Counts,
+    /// How many faces, curves and points are numbered.
+    pub counts: Counts,
+}
+
+impl From<[u32; 13]> for Numbers {
+    fn from(numbers: [u32; 13]) -> Numbers {
+        let three = |from: usize| [0, 1, 2].map(|i: usize| numbers[from + i]);
+        Numbers { stage: numbers[0], extents: three(1), entries: three(4).into(), tallies: three(7).into(), counts: three(10).into() }
+    }
+}
+
+impl From<Numbers> for [u32; 13] {
+    fn from(numbers: Numbers) -> [u32; 13] {
+        let Numbers { stage, extents: [nx, ny, nz], entries: e, tallies: t, counts: c } = numbers;
+        [stage, nx, ny, nz, e.faces, e.curves, e.points, t.faces, t.curves, t.points, c.faces, c.curves, c.points]
+    }
+}
+
+/// A job: its numbers, with the cutting and the tables that are lent with each call.
 #[derive(Clone, PartialEq, Eq, Debug)]
 pub struct Job {
-    pub numbers: [u32; 13],
+    numbers: [u32; 13],
     pub cutting: Cutting,
     pub tables: Tables,
 }
 
 impl Job {
     /// Opens a job in tables that may hold another job's numbers. The tables are handed back with a refusal.
-    pub fn open_in(cutting: Cutting, entries: Entries, mut tables: Tables) -> Result<Job, (Refusal, Tables)> {
+    pub fn open_in(cutting: Cutting, entries: Entries, mut tables: Tables) -> Result<Job, (Refusal, Box<Tables>)> {
         let mut numbers = [0; 13];
         let ([nx, ny, nz], [cx, cy, cz], t) = (cutting.extents, &cutting.lists, &mut tables);
         let answer = raw::open(
-            &mut numbers, nx, ny, nz, entries.faces, entries.curves, entries.points, cx, cy, cz, &mut t.ticks, &t.blocks, &t.face_links, &t.curve_links, &t.face_keys, &t.curve_keys, &t.point_keys,
-            &t.face_rows, &t.curve_rows, &t.point_rows, &t.face_numbers, &t.curve_numbers, &t.point_numbers, &t.face_firsts, &t.curve_firsts, &t.point_firsts, &t.face_listed, &t.curve_listed, &t.point_listed,
-            &mut t.came, &mut t.face_sums.0, &mut t.face_counts,
+            &mut numbers,
+            nx,
+            ny,
+            nz,
+            entries.faces,
+            entries.curves,
+            entries.points,
+            cx,
+            cy,
+            cz,
+            &mut t.ticks,
+            &t.blocks,
+            &t.face_links,
+            &t.curve_links,
+            &t.face_keys,
+            &t.curve_keys,
+            &t.point_keys,
+            &t.face_rows,
+            &t.curve_rows,
+            &t.point_rows,
+            &t.face_numbers,
+            &t.curve_numbers,
+            &t.point_numbers,
+            &t.face_firsts,
+            &t.curve_firsts,
+            &t.point_firsts,
+            &t.face_listed,
+            &t.curve_listed,
+            &t.point_listed,
+            &mut t.came,
+            &mut t.face_sums.0,
+            &mut t.face_counts,
         );
         match Refusal::check(answer) {
             Ok(()) => Ok(Job { numbers, cutting, tables }),
-            Err(refusal) => Err((refusal, tables)),
+            Err(refusal) => Err((refusal, Box::new(tables))),
         }
     }
 
@@ -137,34 +192,111 @@ impl Job {
     /// Enrols a block with its map.
     pub fn enrol(&mut self, block: u32, map: &[u32]) -> Result<(), Refusal> {
         let ([cx, cy, cz], t) = (&self.cutting.lists, &mut self.tables);
-        Refusal::check(raw::enrol(&mut self.numbers, cx, cy, cz, &mut t.ticks, &mut t.blocks, &mut t.face_links, &mut t.curve_links, &mut t.face_keys, &mut t.curve_keys, &mut t.face_rows, &mut t.curve_rows, block, map))
+        Refusal::check(raw::enrol(
+            &mut self.numbers,
+            cx,
+            cy,
+            cz,
+            &mut t.ticks,
+            &mut t.blocks,
+            &mut t.face_links,
+            &mut t.curve_links,
+            &mut t.face_keys,
+            &mut t.curve_keys,
+            &mut t.face_rows,
+            &mut t.curve_rows,
+            block,
+            map,
+        ))
     }
 
     /// Joins two neighbouring blocks, lower first, at the layer that they share.
     pub fn seam(&mut self, (lower, upper): (u32, u32), lower_map: &[u32], upper_map: &[u32]) -> Result<(), Refusal> {
         let ([cx, cy, cz], t) = (&self.cutting.lists, &mut self.tables);
-        Refusal::check(raw::seam(&mut self.numbers, cx, cy, cz, &mut t.ticks, &t.blocks, &mut t.face_links, &mut t.curve_links, lower, upper, lower_map, upper_map))
+        Refusal::check(raw::seam(
+            &mut self.numbers,
+            cx,
+            cy,
+            cz,
+            &mut t.ticks,
+            &t.blocks,
+            &mut t.face_links,
+            &mut t.curve_links,
+            lower,
+            upper,
+            lower_map,
+            upper_map,
+        ))
     }
 
     /// Joins the curves of a block at its point cells. The last crossing numbers faces and curves.
     pub fn crossing(&mut self, block: u32, map: &[u32]) -> Result<(), Refusal> {
         let ([cx, cy, cz], t) = (&self.cutting.lists, &mut self.tables);
         Refusal::check(raw::crossing(
-            &mut self.numbers, cx, cy, cz, &mut t.ticks, &t.blocks, &mut t.face_links, &mut t.curve_links, &t.face_keys, &t.curve_keys, &t.face_rows, &t.curve_rows, &mut t.face_numbers, &mut t.curve_numbers,
-            &mut t.face_firsts, &mut t.curve_firsts, &mut t.face_listed, &mut t.curve_listed, block, map,
+            &mut self.numbers,
+            cx,
+            cy,
+            cz,
+            &mut t.ticks,
+            &t.blocks,
+            &mut t.face_links,
+            &mut t.curve_links,
+            &t.face_keys,
+            &t.curve_keys,
+            &t.face_rows,
+            &t.curve_rows,
+            &mut t.face_numbers,
+            &mut t.curve_numbers,
+            &mut t.face_firsts,
+            &mut t.curve_firsts,
+            &mut t.face_listed,
+            &mut t.curve_listed,
+            block,
+            map,
         ))
     }
 
     /// Finds the points of a block. The last point step numbers them and closes the job.
     pub fn point(&mut self, block: u32, map: &[u32]) -> Result<(), Refusal> {
         let ([cx, cy, cz], t) = (&self.cutting.lists, &mut self.tables);
-        Refusal::check(raw::point(&mut self.numbers, cx, cy, cz, &mut t.ticks, &t.blocks, &t.curve_numbers, &mut t.point_keys, &mut t.point_rows, &mut t.point_numbers, &mut t.point_firsts, &mut t.point_listed, block, map))
+        Refusal::check(raw::point(
+            &mut self.numbers,
+            cx,
+            cy,
+            cz,
+            &mut t.ticks,
+            &t.blocks,
+            &t.curve_numbers,
+            &mut t.point_keys,
+            &mut t.point_rows,
+            &mut t.point_numbers,
+            &mut t.point_firsts,
+            &mut t.point_listed,
+            block,
+            map,
+        ))
     }
 
     /// The final number of a cell, named by its place in the volume's cells: 0 where inactive, the code at a voxel.
     pub fn lookup(&self, block: u32, map: &[u32], [x, y, z]: [u32; 3]) -> Result<u32, Refusal> {
         let ([cx, cy, cz], t, mut number) = (&self.cutting.lists, &self.tables, 0);
-        Refusal::check(raw::lookup(&self.numbers, cx, cy, cz, &t.ticks, &t.blocks, &t.face_numbers, &t.curve_numbers, &t.point_firsts, block, map, x, y, z, &mut number))?;
+        Refusal::check(raw::lookup(
+            &self.numbers,
+            cx,
+            cy,
+            cz,
+            &t.ticks,
+            &t.blocks,
+            &t.face_numbers,
+            &t.curve_numbers,
+            &t.point_firsts,
+            block,
+            map,
+            x,
+            y,
+            z,
+            &mut number,
+        ))?;
         Ok(number)
     }
 
@@ -183,7 +315,21 @@ impl Job {
     /// Adds a block's readings to the totals of the faces: the block's map, and one reading for each of its voxels, x fastest.
     pub fn strain(&mut self, block: u32, map: &[u32], readings: &Readings) -> Result<(), Refusal> {
         let ([cx, cy, cz], t) = (&self.cutting.lists, &mut self.tables);
-        Refusal::check(raw::strain(&self.numbers, cx, cy, cz, &t.blocks, &t.face_numbers, &mut t.came, &mut t.face_sums.0, &mut t.face_counts, block, map, &readings.values, &readings.kinds))
+        Refusal::check(raw::strain(
+            &self.numbers,
+            cx,
+            cy,
+            cz,
+            &t.blocks,
+            &t.face_numbers,
+            &mut t.came,
+            &mut t.face_sums.0,
+            &mut t.face_counts,
+            block,
+            map,
+            &readings.values,
+            &readings.kinds,
+        ))
     }
 
     /// The totals of a face, once the readings of all blocks have come.
@@ -194,27 +340,39 @@ impl Job {
         Ok(Totals { lower: side(0), higher: side(1) })
     }
 
-    pub fn stage(&self) -> Stage {
-        [Stage::Enrol, Stage::Seam, Stage::Crossing, Stage::Points, Stage::Closed][self.numbers[0] as usize]
+    /// Takes up a job that was kept elsewhere. Nothing is asked of its numbers: every call tests them.
+    pub fn resume(numbers: Numbers, cutting: Cutting, tables: Tables) -> Job {
+        Job { numbers: numbers.into(), cutting, tables }
+    }
+
+    /// The numbers of the job, to be kept.
+    pub fn numbers(&self) -> Numbers {
+        self.numbers.into()
+    }
+
+    /// The stage of the job, none where its number stands for no stage.
+    pub fn stage(&self) -> Option<Stage> {
+        [Stage::Enrol, Stage::Seam, Stage::Crossing, Stage::Points, Stage::Closed].get(self.numbers().stage as usize).copied()
     }
 
     /// How many faces, curves and points are numbered: those of the volume once the job is closed.
     pub fn counts(&self) -> Counts {
-        Counts { faces: self.numbers[10], curves: self.numbers[11], points: self.numbers[12] }
+        self.numbers().counts
     }
 
     /// How many faces and curves are enrolled, and points found.
     pub fn tallies(&self) -> Counts {
-        Counts { faces: self.numbers[7], curves: self.numbers[8], points: self.numbers[9] }
+        self.numbers().tallies
     }
 
     /// The first position of a face, curve or point of a closed job.
     pub fn first(&self, kind: Kind, number: u32) -> Option<u64> {
         let (firsts, many) = match kind {
-            Kind::Face => (&self.tables.face_firsts, self.numbers[10]),
-            Kind::Curve => (&self.tables.curve_firsts, self.numbers[11]),
-            Kind::Point => (&self.tables.point_firsts, self.numbers[12]),
+            Kind::Face => (&self.tables.face_firsts, self.counts().faces),
+            Kind::Curve => (&self.tables.curve_firsts, self.counts().curves),
+            Kind::Point => (&self.tables.point_firsts, self.counts().points),
         };
-        (1..=many).contains(&number).then(|| firsts[number as usize - 1])
+        let place = number.checked_sub(1).filter(|_| number <= many)?;
+        firsts.get(place as usize).copied()
     }
 }

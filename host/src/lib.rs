@@ -1,7 +1,8 @@
 //! Tugrelis for programs in Rust: the proved library behind types for blocks, records, cuttings, jobs and tables. Everything that the library
-//! declines comes back as a [`Refusal`]; nothing has to be tested beforehand.
+//! declines comes back as a [`Refusal`]; nothing has to be tested beforehand. What works on whole volumes and files answers with an [`Error`].
 pub mod block;
 pub mod cutting;
+pub mod error;
 pub mod job;
 pub mod joining;
 pub mod raw;
@@ -12,6 +13,7 @@ pub mod volumes;
 
 pub use block::{cells, Block, Counts};
 pub use cutting::Cutting;
-pub use job::{Entries, Job, Kind, Stage, Tables};
+pub use error::Error;
+pub use job::{Entries, Job, Kind, Numbers, Stage, Tables};
 pub use refusal::{Refusal, REFUSALS};
 pub use strain::{Reading, Readings, Side, Sums, Totals};

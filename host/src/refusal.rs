@@ -1,72 +1,54 @@
 //! The twelve refusals.
 use std::fmt;
 
-/// Why a call was declined. Where several apply, the lowest number is given.
-#[derive(Clone, Copy, PartialEq, Eq, Debug)]
-pub enum Refusal {
-    OffSize = 1,
-    BadCut = 2,
-    WrongStage = 3,
-    NoSuchPlace = 4,
-    DoneAlready = 5,
-    WrongTray = 6,
-    BlankVoxel = 7,
-    StrayLabel = 8,
-    LayersDiffer = 9,
-    TableFull = 10,
-    BadRecord = 11,
-    BadReading = 12,
+/// Makes the type of the refusals from their table.
+macro_rules! refusals {
+    ($($number:literal $name:ident $words:literal $sentence:literal)*) => {
+        /// Why a call was declined. Where several apply, the lowest number is given.
+        #[derive(Clone, Copy, PartialEq, Eq, Debug)]
+        pub enum Refusal {
+            $(#[doc = $sentence] $name,)*
+            /// A number that stands for none of them: the library is of another version than this crate.
+            Unknown(u32),
+        }
+
+        /// All that the library gives, by number.
+        pub const REFUSALS: [Refusal; [$($number),*].len()] = [$(Refusal::$name),*];
+
+        impl Refusal {
+            pub fn number(self) -> u32 {
+                match self {
+                    $(Refusal::$name => $number,)*
+                    Refusal::Unknown(number) => number,
+                }
+            }
+
+            pub fn name(self) -> &'static str {
+                match self {
+                    $(Refusal::$name => $words,)*
+                    Refusal::Unknown(_) => "unknown",
+                }
+            }
+
+            pub fn sentence(self) -> &'static str {
+                match self {
+                    $(Refusal::$name => $sentence,)*
+                    Refusal::Unknown(_) => "The library gave a number that stands for no refusal.",
+                }
+            }
+        }
+    };
 }
 
-use Refusal::*;
-
-/// All of them, by number.
-pub const REFUSALS: [Refusal; 12] = [OffSize, BadCut, WrongStage, NoSuchPlace, DoneAlready, WrongTray, BlankVoxel, StrayLabel, LayersDiffer, TableFull, BadRecord, BadReading];
+mod known;
+pub use known::{Refusal, REFUSALS};
 
 impl Refusal {
     /// The refusal that an entry of the library answered, none for 0.
     pub fn check(number: u32) -> Result<(), Refusal> {
         match number {
             0 => Ok(()),
-            n => Err(REFUSALS[n as usize - 1]),
-        }
-    }
-
-    pub fn number(self) -> u32 {
-        self as u32
-    }
-
-    pub fn name(self) -> &'static str {
-        match self {
-            OffSize => "off size",
-            BadCut => "bad cut",
-            WrongStage => "wrong stage",
-            NoSuchPlace => "no such place",
-            DoneAlready => "done already",
-            WrongTray => "wrong tray",
-            BlankVoxel => "blank voxel",
-            StrayLabel => "stray label",
-            LayersDiffer => "layers differ",
-            TableFull => "table full",
-            BadRecord => "bad record",
-            BadReading => "bad reading",
-        }
-    }
-
-    pub fn sentence(self) -> &'static str {
-        match self {
-            OffSize => "An extent is 0 or above its limit, or origin and extent together pass 1,024.",
-            BadCut => "A cut list breaks its rule, or there are more than 16,384 blocks.",
-            WrongStage => "The step or reading belongs to another stage of the job, or a total is read before all readings have come.",
-            NoSuchPlace => "There is no such block, the pair is no seam, the cell is outside the block, or there is no component of that number.",
-            DoneAlready => "This block or seam has had this step in this stage.",
-            WrongTray => "A tray, map, list of codes or readings, or table has another length than the stated one, or the record tray is too short.",
-            BlankVoxel => "A code is 0 in the codes to be labelled.",
-            StrayLabel => "A map, a tally or an entry holds a number that cannot stand there.",
-            LayersDiffer => "The two blocks of a seam differ in the layer that they share.",
-            TableFull => "The faces, curves or points would exceed the entries of their table.",
-            BadRecord => "The record's head is missing, or its bits, numbers or length break the record's rules.",
-            BadReading => "A kind byte is above 2, or a strain or clipped value is no whole multiple of 1/1,024, beyond 2,048 or no number.",
+            n => Err(REFUSALS.into_iter().find(|r| r.number() == n).unwrap_or(Refusal::Unknown(n))),
         }
     }
 }

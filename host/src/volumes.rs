@@ -16,9 +16,8 @@ fn volume(name: &'static str, extents: [u32; 3], lists: [&[u32]; 3], codes: &[u3
 const FIGURE: [u32; 18] = [1, 1, 1, 1, 2, 1, 1, 1, 3, 4, 4, 4, 4, 5, 4, 4, 4, 6];
 
 /// Two curves that look apart in the upper half are one.
-const HANDLE: [u32; 45] = [
-    3, 3, 3, 3, 3, 3, 3, 3, 3, 3, 3, 3, 3, 3, 3, 1, 1, 1, 1, 3, 1, 3, 1, 1, 3, 1, 1, 1, 1, 3, 2, 2, 2, 2, 3, 2, 3, 3, 2, 3, 2, 2, 2, 3, 3,
-];
+const HANDLE: [u32; 45] =
+    [3, 3, 3, 3, 3, 3, 3, 3, 3, 3, 3, 3, 3, 3, 3, 1, 1, 1, 1, 3, 1, 3, 1, 1, 3, 1, 1, 1, 1, 3, 2, 2, 2, 2, 3, 2, 3, 3, 2, 3, 2, 2, 2, 3, 3];
 
 /// A point that its block of 2×2×2 calls active is inactive in the volume.
 const RINGS: [u32; 32] = [1, 1, 1, 1, 1, 1, 1, 1, 1, 1, 1, 1, 1, 1, 1, 1, 2, 2, 2, 2, 2, 3, 2, 2, 2, 2, 3, 2, 2, 2, 2, 2];
@@ -46,4 +45,23 @@ pub fn volumes() -> Vec<Volume> {
             codes
         }),
     ]
+}
+
+/// A volume of which each voxel has the code of its nearest seed, the first of equally near ones. Seeds are places; codes count from 1.
+pub fn voronoi(extents: [usize; 3], seeds: &[[i64; 3]]) -> Vec<u32> {
+    let [nx, ny, nz] = extents;
+    let nearest = |v: usize| {
+        let p = [v % nx, v / nx % ny, v / nx / ny].map(|c| c as i64);
+        let far = |seed: &[i64; 3]| (0..3).map(|a| (p[a] - seed[a]).pow(2)).sum::<i64>();
+        (0..seeds.len()).min_by_key(|&s| far(&seeds[s])).map_or(1, |s| s as u32 + 1)
+    };
+    (0..nx * ny * nz).map(nearest).collect()
+}
+
+/// So many seeds, spread over a volume: the same in every run.
+pub fn spread(extents: [usize; 3], many: usize) -> Vec<[i64; 3]> {
+    // 1/r, 1/r² and 1/r³ for the root r of r⁴ = r + 1, by 2^-32: their multiples modulo 1 fill a cube evenly
+    const STEPS: [u32; 3] = [3_518_319_155, 2_882_110_345, 2_360_945_575];
+    let place = |s: u32, a: usize| ((u64::from(STEPS[a].wrapping_mul(s)) * extents[a] as u64) >> 32) as i64;
+    (1..=many as u32).map(|s| [0, 1, 2].map(|a| place(s, a))).collect()
 }

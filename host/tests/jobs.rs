@@ -3,8 +3,9 @@ use reference::cutting::Cutting as Cuts;
 use reference::label::number;
 use reference::random::{cuts as random_cuts, reading, volume, Random};
 use tugrelis::joining::{block_codes, entries_for, label_blocks, run};
-use tugrelis::volumes::{volumes, Volume};
-use tugrelis::{Block, Counts, Cutting, Entries, Job, Kind, Reading, Readings, Refusal, Side, Stage, Totals, REFUSALS};
+use tugrelis::sheet::write_sheet;
+use tugrelis::volumes::{spread, volumes, voronoi, Volume};
+use tugrelis::{Block, Counts, Cutting, Entries, Error, Job, Kind, Numbers, Reading, Readings, Refusal, Side, Stage, Totals, REFUSALS};
 
 fn cuts(c: &Cutting) -> Cuts {
     Cuts { extents: c.extents.map(|n| n as usize), cuts: [0, 1, 2].map(|a: usize| c.lists[a].iter().map(|&c| c as usize).collect()) }
@@ -12,10 +13,10 @@ fn cuts(c: &Cutting) -> Cuts {
 
 fn closed(v: &Volume, from_back: bool) -> (Job, Vec<(Block, Counts)>) {
     let blocks = label_blocks(&v.cutting, &v.codes).unwrap();
-    let mut job = Job::open(v.cutting.clone(), entries_for(&blocks)).unwrap();
-    assert_eq!(job.stage(), Stage::Enrol);
+    let mut job = Job::open(v.cutting.clone(), entries_for(&blocks).unwrap()).unwrap();
+    assert_eq!(job.stage(), Some(Stage::Enrol));
     run(&mut job, &blocks, from_back).unwrap();
-    assert_eq!(job.stage(), Stage::Closed);
+    assert_eq!(job.stage(), Some(Stage::Closed));
     (job, blocks)
 }
 
@@ -114,7 +115,8 @@ fn totals_under_ten_cuttings() {
         let uncut = number(extents, &codes);
         let mut seen: Option<Vec<_>> = None;
         for round in 0..10 {
-            let cutting = Cutting { extents: extents.map(|n| n as u32), lists: extents.map(|n| random_cuts(&mut random, n).iter().map(|&c| c as u32).collect()) };
+            let cutting =
+                Cutting { extents: extents.map(|n| n as u32), lists: extents.map(|n| random_cuts(&mut random, n).iter().map(|&c| c as u32).collect()) };
             let (mut job, blocks) = joined(cutting.clone(), &codes, round % 2 == 1);
             let mut order: Vec<usize> = (0..blocks.len()).collect();
             for i in (1..order.len()).rev() {
@@ -203,6 +205,82 @@ fn twelve_refusals() {
         assert!(r.sentence().ends_with('.'));
     }
     assert_eq!(Refusal::check(0), Ok(()));
+    for n in [13, 99, u32::MAX] {
+        assert_eq!(Refusal::check(n), Err(Refusal::Unknown(n)));
+        assert_eq!(Refusal::Unknown(n).to_string(), format!("refused {n} (unknown): The library gave a number that stands for no refusal."));
+    }
+}
+
+#[test]
+fn a_job_by_its_numbers() {
+    let (job, blocks) = closed(&volumes()[6], false);
+    let numbers = job.numbers();
+    let counts = Counts { faces: 2, curves: 0, points: 0 };
+    assert_eq!(numbers, Numbers { stage: 4, extents: [3, 1, 1], entries: counts, tallies: counts, counts });
+    let places = [0, 1, 2, 3, 4, 5, 6, 7, 8, 9, 10, 11, 12];
+    let of = |faces: u32| Counts { faces, curves: faces + 1, points: faces + 2 };
+    assert_eq!(Numbers::from(places), Numbers { stage: 0, extents: [1, 2, 3], entries: of(4), tallies: of(7), counts: of(10) });
+    assert_eq!(<[u32; 13]>::from(Numbers::from(places)), places);
+    assert_eq!(Job::resume(numbers, job.cutting.clone(), job.tables.clone()), job);
+    let stages = [Stage::Enrol, Stage::Seam, Stage::Crossing, Stage::Points, Stage::Closed].map(Some);
+    for stage in [0, 1, 2, 3, 4, 5, 9, u32::MAX] {
+        let mut forged = Job::resume(Numbers { stage, ..numbers }, job.cutting.clone(), job.tables.clone());
+        assert_eq!(forged.stage(), stages.get(stage as usize).copied().flatten());
+        if stage > 4 {
+            assert_eq!(forged.enrol(0, &blocks[0].0.map), Err(Refusal::WrongStage));
+            assert_eq!(forged.row(Kind::Face, 1), Err(Refusal::WrongStage));
+        }
+    }
+}
+
+/// A place that takes nothing.
+struct Full;
+
+impl std::io::Write for Full {
+    fn write(&mut self, _: &[u8]) -> std::io::Result<usize> {
+        Err(std::io::ErrorKind::StorageFull.into())
+    }
+
+    fn flush(&mut self) -> std::io::Result<()> {
+        Ok(())
+    }
+}
+
+#[test]
+fn what_goes_wrong_with_a_sheet() {
+    let line = &volumes()[6];
+    let (mut job, blocks) = closed(line, false);
+    let mut sheet = Vec::new();
+    write_sheet(&job, &mut sheet).unwrap();
+    assert_eq!(String::from_utf8(sheet).unwrap(), "faces 2 curves 0 points 0\ncut x 0 1 2 y 0 z 0\nf 1 1 0 0 1 2\nf 2 3 0 0 1 2\n");
+    let full = write_sheet(&job, &mut Full).unwrap_err();
+    assert!(matches!(full, Error::Io(_)) && full.refusal().is_none(), "{full}");
+    job.tables.face_firsts.pop();
+    assert_eq!(job.first(Kind::Face, 2), None);
+    assert_eq!(write_sheet(&job, &mut Vec::new()).unwrap_err().refusal(), Some(Refusal::WrongTray));
+    job.tables.face_listed.pop();
+    assert_eq!(write_sheet(&job, &mut Vec::new()).unwrap_err().refusal(), Some(Refusal::WrongTray));
+    let open = Job::open(line.cutting.clone(), entries_for(&blocks).unwrap()).unwrap();
+    let mut sheet = Vec::new();
+    assert_eq!(write_sheet(&open, &mut sheet).unwrap_err().refusal(), Some(Refusal::WrongStage));
+    assert!(sheet.is_empty());
+}
+
+#[test]
+fn what_goes_wrong_with_a_volume() {
+    let line = &volumes()[6];
+    let short = label_blocks(&line.cutting, &line.codes[..2]).unwrap_err();
+    assert_eq!(short.refusal(), Some(Refusal::WrongTray));
+    assert!(short.to_string().starts_with("block 1: refused 6 (wrong tray)"), "{short}");
+    let mut blocks = label_blocks(&line.cutting, &line.codes).unwrap();
+    assert_eq!(entries_for(&blocks).unwrap(), Counts { faces: 2, curves: 0, points: 0 });
+    let mut job = Job::open(line.cutting.clone(), Entries::default()).unwrap();
+    assert_eq!(run(&mut job, &blocks, false).unwrap_err().refusal(), Some(Refusal::TableFull));
+    blocks[0].1.points = u32::MAX;
+    assert_eq!(entries_for(&blocks).unwrap().points, u32::MAX);
+    blocks[1].1.points = 1;
+    let many = entries_for(&blocks).unwrap_err();
+    assert!(matches!(many, Error::TooMany) && many.refusal().is_none(), "{many}");
 }
 
 #[test]
@@ -216,4 +294,22 @@ fn even_cuts() {
             assert_eq!(cuts(&cutting).seams(), cutting.seams().iter().map(|&(a, b)| (a as usize, b as usize)).collect::<Vec<_>>());
         }
     }
+}
+
+#[test]
+fn seeds_are_spread() {
+    let extents = [60, 50, 40];
+    let seeds = spread(extents, 25);
+    assert_eq!(seeds.len(), 25);
+    assert!(seeds.iter().all(|seed| (0..3).all(|a| (0..extents[a] as i64).contains(&seed[a]))), "{seeds:?}");
+    // some in each eighth of the volume
+    let eighths: std::collections::BTreeSet<_> = seeds.iter().map(|seed| [0, 1, 2].map(|a: usize| 2 * seed[a] >= extents[a] as i64)).collect();
+    assert_eq!(eighths.len(), 8);
+    let codes = voronoi(extents, &seeds);
+    assert_eq!(codes.len(), 60 * 50 * 40);
+    for (s, &[x, y, z]) in seeds.iter().enumerate() {
+        assert_eq!(codes[(x + 60 * (y + 50 * z)) as usize] as usize, s + 1);
+    }
+    assert_eq!(voronoi([5, 1, 1], &[[4, 0, 0], [0, 0, 0]]), [2, 2, 1, 1, 1]);
+    assert_eq!(voronoi([2, 1, 1], &[]), [1, 1]);
 }

@@ -2,8 +2,10 @@
 use reference::label::number;
 use reference::random::Random;
 use std::fs;
+use std::os::unix::ffi::OsStrExt;
 use std::path::{Path, PathBuf};
 use std::process::{Command, Output};
+use tugrelis::volumes;
 
 /// A new folder for one test.
 fn folder(name: &str) -> PathBuf {
@@ -21,17 +23,11 @@ fn write_volume(path: &Path, codes: &[u32]) {
     fs::write(path, codes.iter().flat_map(|c| c.to_le_bytes()).collect::<Vec<u8>>()).unwrap();
 }
 
-/// Each voxel takes the code of its nearest seed.
+/// A volume around random seeds.
 fn voronoi(extents: [usize; 3], seeds: usize, seed: u64) -> Vec<u32> {
     let mut random = Random::new(seed);
     let seeds: Vec<[i64; 3]> = (0..seeds).map(|_| extents.map(|n| random.below(n) as i64)).collect();
-    let [nx, ny, nz] = extents;
-    (0..nx * ny * nz)
-        .map(|v| {
-            let p = [v % nx, v / nx % ny, v / nx / ny].map(|c| c as i64);
-            (0..seeds.len()).min_by_key(|&s| (0..3).map(|a| (p[a] - seeds[s][a]).pow(2)).sum::<i64>()).unwrap() as u32 + 1
-        })
-        .collect()
+    volumes::voronoi(extents, &seeds)
 }
 
 /// The sheet without its cutting line.
@@ -90,6 +86,18 @@ fn the_sheet_of_a_small_volume() {
     fs::remove_dir_all(&dir).unwrap();
 }
 
+/// Runs the tool where it must fail: with this status and one line that has this message, and nothing is left behind.
+fn fails(dir: &Path, words: &[&str], status: i32, message: &str) {
+    let names = || fs::read_dir(dir).unwrap().map(|e| e.unwrap().file_name()).collect::<Vec<_>>();
+    let before = names();
+    let ran = tool(words);
+    let said = String::from_utf8_lossy(&ran.stderr).to_string();
+    assert_eq!(ran.status.code(), Some(status), "{words:?}: {said}");
+    assert!(said.starts_with("tugrelis: ") && said.contains(message), "{words:?}: {said}");
+    assert!(said.lines().count() == 1 && ran.stdout.is_empty(), "{words:?}: {said}");
+    assert_eq!(names(), before, "{words:?} left something behind");
+}
+
 #[test]
 fn failures_leave_nothing_behind() {
     let dir = folder("failures");
@@ -99,27 +107,47 @@ fn failures_leave_nothing_behind() {
     let (v, b, out) = (volume.to_str().unwrap(), blank.to_str().unwrap(), dir.join("out"));
     let o = out.to_str().unwrap();
     let missing = dir.join("missing.raw");
-    let kept: Vec<_> = fs::read_dir(&dir).unwrap().map(|e| e.unwrap().file_name()).collect();
     for (words, message) in [
         (vec![missing.to_str().unwrap(), "2", "2", "2", o], "missing.raw"),
-        (vec![v, "2", "2", "3", o], "has 32 bytes"),
+        (vec![v, "2", "2", "3", o], "volume.raw: has 32 bytes, and 2 × 2 × 3 codes have 48"),
         (vec![v, "2", "2", "0", o], "refused 1 (off size)"),
         (vec![v, "2000", "2", "2", o], "refused 1 (off size)"),
         (vec![v, "2", "2", "2", o, "--cut", "0,1", "0", "0,1"], "refused 2 (bad cut)"),
-        (vec![v, "2", "2", "2", o, "--cut", "0,x", "0", "0,1"], "no list of numbers"),
-        (vec![v, "2", "2", "2", o, "--size", "65"], "no block size"),
-        (vec![v, "2", "2", "two", o], "no extent"),
-        (vec![v, "2", "2", "2"], "usage"),
-        (vec![b, "2", "2", "2", o], "refused 7 (blank voxel)"),
+        (vec![b, "2", "2", "2", o], "blank.raw, block 0: refused 7 (blank voxel)"),
         (vec![v, "2", "2", "2", dir.to_str().unwrap()], "exists already"),
         (vec![v, "2", "2", "2", "/dev/null/out"], "/dev/null/out"),
     ] {
-        let ran = tool(&words);
-        let said = String::from_utf8_lossy(&ran.stderr).to_string();
-        assert_eq!(ran.status.code(), Some(1), "{words:?}: {said}");
-        assert!(said.starts_with("tugrelis: ") && said.contains(message), "{words:?}: {said}");
-        let now: Vec<_> = fs::read_dir(&dir).unwrap().map(|e| e.unwrap().file_name()).collect();
-        assert_eq!(now, kept, "{words:?} left something behind");
+        fails(&dir, &words, 1, message);
     }
+    for (words, message) in [
+        (vec![v, "2", "2", "2", o, "--cut", "0,x", "0", "0,1"], "'0,x' is no list of numbers"),
+        (vec![v, "2", "2", "2", o, "--size", "65"], "'65' is no block size"),
+        (vec![v, "2", "2", "two", o], "'two' is no extent"),
+        (vec![v, "2", "2", "2"], "FOLDER are needed"),
+        (vec![], "FOLDER are needed"),
+        (vec![v, "2", "2", "2", o, "--size"], "'--size' is no way to cut"),
+        (vec![v, "2", "2", "2", o, "--sise", "2"], "'--sise' is no option"),
+    ] {
+        fails(&dir, &words, 2, message);
+        fails(&dir, &words, 2, "; see tugrelis --help\n");
+    }
+    let odd = std::ffi::OsStr::from_bytes(b"\xff");
+    let ran = Command::new(env!("CARGO_BIN_EXE_tugrelis")).arg(odd).output().unwrap();
+    assert_eq!((ran.status.code(), &ran.stderr[..]), (Some(2), &b"tugrelis: \"\\xFF\" is no text; see tugrelis --help\n"[..]));
     fs::remove_dir_all(&dir).unwrap();
+}
+
+#[test]
+fn help_and_version() {
+    let said = |words: &[&str]| {
+        let ran = tool(words);
+        assert!(ran.status.success() && ran.stderr.is_empty(), "{words:?}");
+        String::from_utf8(ran.stdout).unwrap()
+    };
+    assert_eq!(said(&["--version"]), concat!("tugrelis ", env!("CARGO_PKG_VERSION"), "\n"));
+    let help = said(&["--help"]);
+    assert_eq!(help, said(&["volume.raw", "2", "--help"]));
+    for word in ["VOLUME", "NX NY NZ", "FOLDER", "--size N", "--cut X-LIST Y-LIST Z-LIST", "--help", "--version"] {
+        assert_eq!(help.lines().filter(|l| l.trim_start().starts_with(word)).count(), 1, "{word}");
+    }
 }

@@ -221,11 +221,19 @@ impl Book {
             Call::Enrol { block, map } => {
                 let [faces, curves, _] = counts(&self.cutting.grid(block), map);
                 let full = |k: usize, more: u32| self.so_far[k] + u64::from(more) > u64::from(self.entries[k]);
-                if full(0, faces) || full(1, curves) { TABLE_FULL } else { 0 }
+                if full(0, faces) || full(1, curves) {
+                    TABLE_FULL
+                } else {
+                    0
+                }
             }
             Call::Point { block, map } => {
                 let more = if own { self.active(block) } else { self.found(block, map) };
-                if self.so_far[2] + more > u64::from(self.entries[2]) { TABLE_FULL } else { 0 }
+                if self.so_far[2] + more > u64::from(self.entries[2]) {
+                    TABLE_FULL
+                } else {
+                    0
+                }
             }
             _ => 0,
         }
@@ -252,7 +260,11 @@ impl Book {
             }
             place[axis] = grid.sides()[axis] - 1;
             let (u, v) = (low[grid.position(place)], high[q]);
-            if other.order(q) == 3 { u != v } else { (u == 0) != (v == 0) }
+            if other.order(q) == 3 {
+                u != v
+            } else {
+                (u == 0) != (v == 0)
+            }
         })
     }
 

@@ -152,11 +152,11 @@ impl State<'_> {
     fn seam(&self, (b, c): (usize, usize), (lower, upper): (&[u32], &[u32]), left: &mut Outcome) {
         let grid = self.cutting.grid(b);
         let mut pairs = [vec![], vec![]];
-        for p in 0..lower.len() {
+        for (p, &n) in lower.iter().enumerate() {
             let kind = 2usize.wrapping_sub(grid.order(p));
             if let (0 | 1, Some(q)) = (kind, self.cutting.inside(c, self.cutting.outside(b, p))) {
-                if lower[p] != 0 && upper[q] != 0 {
-                    pairs[kind].push((self.node(kind, b, lower[p]), self.node(kind, c, upper[q])));
+                if n != 0 && upper[q] != 0 {
+                    pairs[kind].push((self.node(kind, b, n), self.node(kind, c, upper[q])));
                 }
             }
         }
@@ -171,7 +171,9 @@ impl State<'_> {
         for p in (0..map.len()).filter(|&p| grid.order(p) == 0) {
             let active: Vec<usize> = grid.above(p).into_iter().filter(|&q| map[q] != 0).collect();
             for (i, &q) in active.iter().enumerate() {
-                pairs.extend(active[..i].iter().filter(|&&other| row(other) == row(q)).map(|&other| (self.node(1, block, map[other]), self.node(1, block, map[q]))));
+                pairs.extend(
+                    active[..i].iter().filter(|&&other| row(other) == row(q)).map(|&other| (self.node(1, block, map[other]), self.node(1, block, map[q]))),
+                );
             }
         }
         left.roots[1] = merged(&left.roots[1], &pairs);
@@ -199,10 +201,10 @@ impl State<'_> {
         let mut numbers: BTreeMap<usize, u32> = BTreeMap::new();
         let mut heads = vec![];
         for x in order {
-            if !numbers.contains_key(&class(x)) {
+            numbers.entry(class(x)).or_insert_with(|| {
                 heads.push(x);
-                numbers.insert(class(x), heads.len() as u32);
-            }
+                heads.len() as u32
+            });
         }
         let ranks: Vec<u32> = (0..many).map(|x| numbers[&class(x)]).collect();
         left.numbers[kind][..many].copy_from_slice(&ranks);

@@ -52,7 +52,7 @@ pub fn bad_reading(random: &mut Random) -> (u64, u8) {
         0 => (f64::NAN.to_bits(), kind),
         1 => (random.pick(&[f64::INFINITY, f64::NEG_INFINITY]).to_bits(), kind),
         2 => (float(random.pick(&[STRAIN + 1, -STRAIN - 1, 1 << 52])), kind),
-        3 => (random.pick(&[1.0f64 / 2048.0, -1.0 / 2048.0, 0.1, 2048.000_000_1, 1e300]).to_bits(), kind),
+        3 => (random.pick(&[1.0f64 / 2048.0, -1.0 / 2048.0, 0.1, 2_048.000_000_1, 1e300]).to_bits(), kind),
         4 => (1 + random.below(9) as u64, kind),
         _ => (random.word(), 3 + random.below(253) as u8),
     }

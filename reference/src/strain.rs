@@ -285,7 +285,16 @@ mod tests {
 
     #[test]
     fn floats_by_their_bits() {
-        for (x, whole) in [(0.0, Some(0)), (-0.0, Some(0)), (1.0, Some(1024)), (-1.5, Some(-1536)), (1.0 / 1024.0, Some(1)), (1.0 / 2048.0, None), (2048.0, Some(STRAIN)), (2048.0 + 1.0 / 1024.0, None)] {
+        for (x, whole) in [
+            (0.0, Some(0)),
+            (-0.0, Some(0)),
+            (1.0, Some(1024)),
+            (-1.5, Some(-1536)),
+            (1.0 / 1024.0, Some(1)),
+            (1.0 / 2048.0, None),
+            (2048.0, Some(STRAIN)),
+            (2048.0 + 1.0 / 1024.0, None),
+        ] {
             assert_eq!(units(f64::to_bits(x), STRAIN), whole, "{x}");
         }
         for x in [f64::NAN, f64::INFINITY, -f64::INFINITY, f64::MIN_POSITIVE, 5e-324, 1e300] {

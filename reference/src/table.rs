@@ -138,7 +138,9 @@ impl<'a> State<'a> {
             Call::Seam { .. } => self.block_trays() && self.link_trays(),
             Call::Crossing { .. } => self.block_trays() && self.link_trays() && self.kind_trays(0) && self.kind_trays(1),
             Call::Point { .. } => self.block_trays() && self.has(1, self.tables.numbers[1].len(), 1) && self.kind_trays(2),
-            Call::Lookup { .. } => self.block_trays() && (0..2).all(|k| self.has(k, self.tables.numbers[k].len(), 1)) && self.has(2, self.tables.firsts[2].len(), 1),
+            Call::Lookup { .. } => {
+                self.block_trays() && (0..2).all(|k| self.has(k, self.tables.numbers[k].len(), 1)) && self.has(2, self.tables.firsts[2].len(), 1)
+            }
             Call::Row { .. } => (0..3).all(|k| self.has(k, self.tables.listed[k].len(), places(k))),
         }
     }
@@ -294,7 +296,11 @@ impl<'a> State<'a> {
 
     /// The final number of number n of a block: 0 stays 0.
     fn final_number(&self, kind: usize, block: usize, n: u32) -> u32 {
-        if n == 0 { 0 } else { self.tables.numbers[kind][self.part(kind, block).0 as usize + n as usize - 1] }
+        if n == 0 {
+            0
+        } else {
+            self.tables.numbers[kind][self.part(kind, block).0 as usize + n as usize - 1]
+        }
     }
 
     fn looked_up(&self, block: usize, map: &[u32], cell: Place) -> u32 {
@@ -324,7 +330,11 @@ fn bisected(firsts: &[u64], position: u64) -> u32 {
             rest = &rest[..middle];
         }
     }
-    if firsts.get(before) == Some(&position) { before as u32 + 1 } else { 0 }
+    if firsts.get(before) == Some(&position) {
+        before as u32 + 1
+    } else {
+        0
+    }
 }
 
 /// Whether a link is longer than its place.

@@ -2,10 +2,18 @@
 //! tables just large enough and one with too small ones, a disagreeing overlap, and jobs and tables of anyone's making. The gate compares the output with joins.txt.
 use tugrelis::joining::{entries_for, label_blocks, run};
 use tugrelis::volumes::{volumes, Volume};
-use tugrelis::{Block, Counts, Cutting, Entries, Job, Kind, Refusal};
+use tugrelis::{Block, Counts, Cutting, Entries, Error, Job, Kind, Numbers, Refusal};
 
-fn number(answer: Result<(), Refusal>) -> u32 {
-    answer.err().map_or(0, Refusal::number)
+/// The number of the refusal, 0 for none.
+fn number<E: Into<Error>>(answer: Result<(), E>) -> u32 {
+    answer.err().map_or(0, |e| e.into().refusal().expect("a refusal").number())
+}
+
+/// Gives the job numbers of anyone's making.
+fn forge(job: &mut Job, change: impl FnOnce(&mut Numbers)) {
+    let mut numbers = job.numbers();
+    change(&mut numbers);
+    *job = Job::resume(numbers, job.cutting.clone(), job.tables.clone());
 }
 
 /// Prints counts, first positions and rows of a closed job.
@@ -41,7 +49,7 @@ fn lookups(job: &Job, blocks: &[(Block, Counts)]) {
 /// Joins a volume both ways, in tables just large enough, and in one set of tables after the other job.
 fn closes(v: &Volume) {
     let blocks = label_blocks(&v.cutting, &v.codes).expect("small extents");
-    let mut entries = entries_for(&blocks);
+    let mut entries = entries_for(&blocks).expect("few components");
     let mut first = Job::open(v.cutting.clone(), entries).expect("an opening");
     println!("{}: {} blocks, {} seams, entries {} {} {}", v.name, v.cutting.blocks(), v.cutting.seams().len(), entries.faces, entries.curves, entries.points);
     println!("  forward {}", number(run(&mut first, &blocks, false)));
@@ -59,9 +67,12 @@ fn closes(v: &Volume) {
     };
     let mut second = Job::open_in(v.cutting.clone(), entries, tables).expect("an opening");
     println!("  backward {}", number(run(&mut second, &blocks, true)));
-    let same = (1..=first.counts().faces).all(|n| first.row(Kind::Face, n) == second.row(Kind::Face, n) && first.first(Kind::Face, n) == second.first(Kind::Face, n))
-        && (1..=first.counts().curves).all(|n| first.row(Kind::Curve, n) == second.row(Kind::Curve, n) && first.first(Kind::Curve, n) == second.first(Kind::Curve, n))
-        && (1..=first.counts().points).all(|n| first.row(Kind::Point, n) == second.row(Kind::Point, n) && first.first(Kind::Point, n) == second.first(Kind::Point, n))
+    let same = (1..=first.counts().faces)
+        .all(|n| first.row(Kind::Face, n) == second.row(Kind::Face, n) && first.first(Kind::Face, n) == second.first(Kind::Face, n))
+        && (1..=first.counts().curves)
+            .all(|n| first.row(Kind::Curve, n) == second.row(Kind::Curve, n) && first.first(Kind::Curve, n) == second.first(Kind::Curve, n))
+        && (1..=first.counts().points)
+            .all(|n| first.row(Kind::Point, n) == second.row(Kind::Point, n) && first.first(Kind::Point, n) == second.first(Kind::Point, n))
         && first.counts() == second.counts();
     println!("  same sheet {same}");
     // one entry less in each table that has one
@@ -102,7 +113,7 @@ fn differing() {
 /// An opened job over a volume in blocks, with some entries to spare in each table.
 fn opened(cutting: &Cutting, codes: &[u32], spare: u32) -> (Job, Vec<Vec<u32>>) {
     let blocks = label_blocks(cutting, codes).expect("small extents");
-    let entries = entries_for(&blocks);
+    let entries = entries_for(&blocks).expect("few components");
     let entries = Entries { faces: entries.faces + spare, curves: entries.curves + spare, points: entries.points + spare };
     let job = Job::open(cutting.clone(), entries).expect("an opening");
     (job, blocks.into_iter().map(|(block, _)| block.map).collect())
@@ -125,22 +136,22 @@ fn until(job: &mut Job, maps: &[Vec<u32>], seams: &[(u32, u32)], crossed: &[u32]
 fn forged_jobs() {
     let line = &volumes()[6];
     let blocks = label_blocks(&line.cutting, &line.codes).expect("small extents");
-    let fresh = Job::open(line.cutting.clone(), entries_for(&blocks)).expect("an opening");
+    let fresh = Job::open(line.cutting.clone(), entries_for(&blocks).expect("few components")).expect("an opening");
     let try_with = |what: &str, change: &dyn Fn(&mut Job)| {
         let mut job = fresh.clone();
         change(&mut job);
         println!("forged {what}: {}", number(run(&mut job, &blocks, false)));
     };
     try_with("nothing", &|_| {});
-    try_with("stage 9", &|j| j.numbers[0] = 9);
-    try_with("extent 0", &|j| j.numbers[1] = 0);
-    try_with("extent 1,025", &|j| j.numbers[2] = 1025);
-    try_with("another extent", &|j| j.numbers[1] = 4);
-    try_with("a tally above its entries", &|j| j.numbers[7] = 3);
-    try_with("more numbered than entries", &|j| j.numbers[10] = 3);
-    try_with("more points numbered than entries", &|j| j.numbers[12] = 1);
-    try_with("more numbered than enrolled", &|j| j.numbers[10] = 2);
-    try_with("entries of another table", &|j| j.numbers[4] = 1);
+    try_with("stage 9", &|j| forge(j, |n| n.stage = 9));
+    try_with("extent 0", &|j| forge(j, |n| n.extents[0] = 0));
+    try_with("extent 1,025", &|j| forge(j, |n| n.extents[1] = 1025));
+    try_with("another extent", &|j| forge(j, |n| n.extents[0] = 4));
+    try_with("a tally above its entries", &|j| forge(j, |n| n.tallies.faces = 3));
+    try_with("more numbered than entries", &|j| forge(j, |n| n.counts.faces = 3));
+    try_with("more points numbered than entries", &|j| forge(j, |n| n.counts.points = 1));
+    try_with("more numbered than enrolled", &|j| forge(j, |n| n.counts.faces = 2));
+    try_with("entries of another table", &|j| forge(j, |n| n.entries.faces = 1));
     try_with("a longer table", &|j| j.tables.curve_rows.push(0));
     try_with("old ticks", &|j| j.tables.ticks[0] = 5);
     try_with("another cut list", &|j| j.cutting.lists[0] = vec![0, 2]);
@@ -205,7 +216,7 @@ fn forged_crossings() {
         let (mut job, maps) = opened(&figure.cutting, &figure.codes, spare);
         until(&mut job, &maps, &figure.cutting.seams(), crossed);
         job.tables.curve_rows[0] = face;
-        let (entries, answer) = (job.numbers[4], number(job.crossing(b, &maps[b as usize])));
+        let (entries, answer) = (job.numbers().entries.faces, number(job.crossing(b, &maps[b as usize])));
         println!("crossing of {b} after {crossed:?}, forged row with face {face} of {entries}: {answer}");
     };
     row_with(&[], 0, 21, 0);
@@ -238,17 +249,22 @@ fn forged_numbers() {
     let line = &volumes()[6];
     let (mut job, maps) = opened(&line.cutting, &line.codes, 0);
     until(&mut job, &maps, &[(0, 1)], &[]);
-    job.numbers[0] = 4;
-    println!("forged closed job: row {:?} lookup {:?}", job.row(Kind::Face, 1).map_err(Refusal::number), job.lookup(0, &maps[0], [1, 0, 0]).map_err(Refusal::number));
-    job.numbers[10] = 2;
+    forge(&mut job, |n| n.stage = 4);
+    println!(
+        "forged closed job: row {:?} lookup {:?}",
+        job.row(Kind::Face, 1).map_err(Refusal::number),
+        job.lookup(0, &maps[0], [1, 0, 0]).map_err(Refusal::number)
+    );
+    forge(&mut job, |n| n.counts.faces = 2);
     println!("forged closed job, two faces numbered: row {:?}", job.row(Kind::Face, 1).map_err(Refusal::number));
-    job.numbers[10] = 3;
+    forge(&mut job, |n| n.counts.faces = 3);
     println!("forged closed job, three faces numbered: row {:?}", job.row(Kind::Face, 1).map_err(Refusal::number));
 }
 
 /// Openings that are refused.
 fn openings() {
-    let open = |extents: [u32; 3], lists: [&[u32]; 3]| number(Job::open(Cutting { extents, lists: lists.map(<[u32]>::to_vec) }, Entries::default()).map(|_| ()));
+    let open =
+        |extents: [u32; 3], lists: [&[u32]; 3]| number(Job::open(Cutting { extents, lists: lists.map(<[u32]>::to_vec) }, Entries::default()).map(|_| ()));
     println!("opening 65 cut 0 64: {}", open([65, 1, 1], [&[0, 64], &[0], &[0]]));
     println!("opening 65 cut 0 63 64: {}", open([65, 1, 1], [&[0, 63, 64], &[0], &[0]]));
     println!("opening extent 0: {}", open([0, 1, 1], [&[0], &[0], &[0]]));

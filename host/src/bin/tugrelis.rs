@@ -1,22 +1,33 @@
-//! Labels and joins a whole volume.
-//!
-//!     tugrelis VOLUME NX NY NZ FOLDER [--size N | --cut X-LIST Y-LIST Z-LIST]
-//!
-//! VOLUME is a file of little-endian 32-bit codes, x fastest, of NX × NY × NZ voxels. FOLDER, which must not exist yet, gets one record for each
-//! block and the result sheet, sheet.txt. Blocks have at most N voxels on each axis (2 to 64, 64 if nothing is said), or are cut where the
-//! lists say: numbers parted by commas, 0 first, the last voxel last. Memory is needed for the tables and for one or two blocks at a time.
+//! Labels and joins a whole volume: HELP tells what the tool takes and leaves. Memory is needed for the tables and for one or two blocks at a time.
 use std::fs::{self, File};
 use std::io::{BufWriter, Read, Seek, SeekFrom, Write};
 use std::path::{Path, PathBuf};
+use tugrelis::error::at;
 use tugrelis::sheet::write_sheet;
-use tugrelis::{Block, Cutting, Entries, Job};
+use tugrelis::{Block, Cutting, Entries, Error, Job};
 
-const USAGE: &str = "usage: tugrelis VOLUME NX NY NZ FOLDER [--size N | --cut X-LIST Y-LIST Z-LIST]";
+const HELP: &str = "\
+Labels and joins a whole volume.
 
-type Outcome<T> = Result<T, String>;
+usage: tugrelis VOLUME NX NY NZ FOLDER [--size N | --cut X-LIST Y-LIST Z-LIST]
 
-fn failed<E: std::fmt::Display>(what: impl std::fmt::Display) -> impl FnOnce(E) -> String {
-    move |e| format!("{what}: {e}")
+  VOLUME      a file of little-endian 32-bit codes, x fastest
+  NX NY NZ    the extents of the volume in voxels
+  FOLDER      gets one record for each block, and the result sheet sheet.txt; must not exist yet
+  --size N    blocks of at most N voxels on each axis, 2 to 64; 64 if nothing is said
+  --cut X-LIST Y-LIST Z-LIST
+              blocks cut where the lists say: numbers parted by commas, 0 first, the last voxel last
+  --help      prints this
+  --version   prints the version
+
+Exit status: 0; 1 for a refusal or a bad file, and then nothing is left behind; 2 for a command line that it does not take.";
+
+const VERSION: &str = concat!("tugrelis ", env!("CARGO_PKG_VERSION"));
+
+/// What the command line asks for.
+enum Asked {
+    Print(&'static str),
+    Label(Task),
 }
 
 struct Task {
@@ -25,24 +36,38 @@ struct Task {
     cutting: Cutting,
 }
 
-fn list(text: &str) -> Outcome<Vec<u32>> {
-    text.split(',').map(|w| w.parse().map_err(|_| format!("'{text}' is no list of numbers parted by commas"))).collect()
+fn usage<T>(what: String) -> Result<T, Error> {
+    Err(Error::Usage(format!("{what}; see tugrelis --help")))
 }
 
-fn task(words: &[String]) -> Outcome<Task> {
-    let [volume, nx, ny, nz, folder, rest @ ..] = words else { return Err(USAGE.into()) };
-    let extent = |w: &String| w.parse::<u32>().map_err(|_| format!("'{w}' is no extent\n{USAGE}"));
-    let extents = [extent(nx)?, extent(ny)?, extent(nz)?];
-    let cutting = match rest {
-        [] => Cutting::even(extents, 64),
+fn list(text: &str) -> Result<Vec<u32>, Error> {
+    text.split(',').map(|w| w.parse().or_else(|_| usage(format!("'{text}' is no list of numbers parted by commas")))).collect()
+}
+
+fn cutting(extents: [u32; 3], words: &[String]) -> Result<Cutting, Error> {
+    match words {
+        [] => Ok(Cutting::even(extents, 64)),
         [flag, size] if flag == "--size" => match size.parse() {
-            Ok(n) if (2..=64).contains(&n) => Cutting::even(extents, n),
-            _ => return Err(format!("'{size}' is no block size of 2 to 64")),
+            Ok(n) if (2..=64).contains(&n) => Ok(Cutting::even(extents, n)),
+            _ => usage(format!("'{size}' is no block size of 2 to 64")),
         },
-        [flag, x, y, z] if flag == "--cut" => Cutting { extents, lists: [list(x)?, list(y)?, list(z)?] },
-        _ => return Err(USAGE.into()),
-    };
-    Ok(Task { volume: volume.into(), folder: folder.into(), cutting })
+        [flag, x, y, z] if flag == "--cut" => Ok(Cutting { extents, lists: [list(x)?, list(y)?, list(z)?] }),
+        _ => usage(format!("'{}' is no way to cut a volume", words.join(" "))),
+    }
+}
+
+fn asked(words: &[String]) -> Result<Asked, Error> {
+    if let Some(option) = words.iter().find(|w| w.starts_with("--") && !["--size", "--cut"].contains(&w.as_str())) {
+        return match option.as_str() {
+            "--help" => Ok(Asked::Print(HELP)),
+            "--version" => Ok(Asked::Print(VERSION)),
+            _ => usage(format!("'{option}' is no option")),
+        };
+    }
+    let [volume, nx, ny, nz, folder, rest @ ..] = words else { return usage("VOLUME, NX, NY, NZ and FOLDER are needed".into()) };
+    let extent = |w: &String| w.parse().or_else(|_| usage(format!("'{w}' is no extent")));
+    let extents = [extent(nx)?, extent(ny)?, extent(nz)?];
+    Ok(Asked::Label(Task { volume: volume.into(), folder: folder.into(), cutting: cutting(extents, rest)? }))
 }
 
 /// Progress of long work on standard error, at most once in a second.
@@ -84,63 +109,71 @@ fn read_codes(file: &mut File, cutting: &Cutting, block: usize) -> std::io::Resu
 }
 
 /// Writes a file under a temporary name and then renames it.
-fn write_file(path: &Path, write: impl FnOnce(&mut dyn Write) -> Outcome<()>) -> Outcome<()> {
+fn write_file(path: &Path, write: impl FnOnce(&mut dyn Write) -> Result<(), Error>) -> Result<(), Error> {
     let partial = path.with_extension("partial");
-    let file = File::create(&partial).map_err(failed(partial.display()))?;
-    let mut out = BufWriter::new(file);
-    write(&mut out)?;
-    let file = out.into_inner().map_err(|e| format!("{}: {e}", partial.display()))?;
-    file.sync_all().map_err(failed(partial.display()))?;
-    fs::rename(&partial, path).map_err(failed(path.display()))
+    let written = || -> Result<(), Error> {
+        let mut out = BufWriter::new(File::create(&partial)?);
+        write(&mut out)?;
+        out.into_inner().map_err(|e| e.into_error())?.sync_all()?;
+        Ok(fs::rename(&partial, path)?)
+    };
+    written().map_err(at(path.display()))
 }
 
 fn record_path(folder: &Path, block: u32) -> PathBuf {
     folder.join(format!("block-{block:05}.record"))
 }
 
-/// Labels every block and writes its record; gives entries that suffice.
-fn label_all(task: &Task, folder: &Path) -> Outcome<Entries> {
-    let cutting = &task.cutting;
-    let mut file = File::open(&task.volume).map_err(failed(task.volume.display()))?;
-    let length = file.metadata().map_err(failed(task.volume.display()))?.len();
-    let right = 4 * cutting.extents.iter().map(|&n| u64::from(n)).product::<u64>();
-    if length != right {
-        return Err(format!("{}: has {length} bytes, and {} × {} × {} codes have {right}", task.volume.display(), cutting.extents[0], cutting.extents[1], cutting.extents[2]));
+/// Opens the volume, whose length must be that of its codes.
+fn open_volume(task: &Task) -> Result<File, Error> {
+    let file = File::open(&task.volume)?;
+    let (bytes, extents) = (file.metadata()?.len(), task.cutting.extents);
+    let right = 4 * extents.iter().map(|&n| u64::from(n)).product::<u64>();
+    if bytes != right {
+        return Err(Error::Length { bytes, extents, right });
     }
+    Ok(file)
+}
+
+/// Labels every block and writes its record; gives entries that suffice.
+fn label_all(task: &Task, folder: &Path) -> Result<Entries, Error> {
+    let (cutting, volume) = (&task.cutting, task.volume.display());
+    let mut file = open_volume(task).map_err(at(&volume))?;
     let mut entries = Entries::default();
     let mut progress = Progress::new("labelled", cutting.blocks());
     for b in 0..cutting.blocks() {
-        let codes = read_codes(&mut file, cutting, b).map_err(failed(task.volume.display()))?;
-        let (block, counts) = Block::label(cutting.block_extents(b), &codes).map_err(|r| format!("{}, block {b}: {r}", task.volume.display()))?;
-        let record = block.record(cutting.origin(b).map(|c| c as u16)).map_err(|r| format!("block {b}: {r}"))?;
-        write_file(&record_path(folder, b as u32), |out| out.write_all(&record).map_err(|e| format!("block {b}: {e}")))?;
-        for (sum, n) in [(&mut entries.faces, counts.faces), (&mut entries.curves, counts.curves), (&mut entries.points, counts.points)] {
-            *sum = sum.checked_add(n).ok_or("the volume has more components than a table can have entries")?;
-        }
+        let codes = read_codes(&mut file, cutting, b).map_err(at(&volume))?;
+        let (block, counts) = Block::label(cutting.block_extents(b), &codes).map_err(at(format_args!("{volume}, block {b}")))?;
+        let record = block.record(cutting.origin(b).map(|c| c as u16)).map_err(at(format_args!("block {b}")))?;
+        write_file(&record_path(folder, b as u32), |out| Ok(out.write_all(&record)?))?;
+        entries = entries.plus(counts).ok_or(Error::TooMany)?;
         progress.step();
     }
     Ok(entries)
 }
 
 /// The map of a block, from its record.
-fn load(folder: &Path, cutting: &Cutting, block: u32) -> Outcome<Vec<u32>> {
+fn load(folder: &Path, cutting: &Cutting, block: u32) -> Result<Vec<u32>, Error> {
     let path = record_path(folder, block);
-    let bytes = fs::read(&path).map_err(failed(path.display()))?;
-    let (read, origin) = Block::read(&bytes).map_err(|r| format!("{}: {r}", path.display()))?;
-    if read.extents != cutting.block_extents(block as usize) || origin.map(u32::from) != cutting.origin(block as usize) {
-        return Err(format!("{}: is the record of another block", path.display()));
-    }
-    Ok(read.map)
+    let read = || -> Result<Vec<u32>, Error> {
+        let (read, origin) = Block::read(&fs::read(&path)?)?;
+        let same = read.extents == cutting.block_extents(block as usize) && origin.map(u32::from) == cutting.origin(block as usize);
+        if same {
+            Ok(read.map)
+        } else {
+            Err(Error::OtherBlock)
+        }
+    };
+    read().map_err(at(path.display()))
 }
 
 /// Every step of the job, from the records.
-fn join_all(folder: &Path, job: &mut Job) -> Outcome<()> {
+fn join_all(folder: &Path, job: &mut Job) -> Result<(), Error> {
     let cutting = job.cutting.clone();
     let n = cutting.blocks() as u32;
-    let refused = |what: &str, b: u32, r: tugrelis::Refusal| format!("{what} of block {b}: {r}");
     let mut progress = Progress::new("enrolled", n as usize);
     for b in 0..n {
-        job.enrol(b, &load(folder, &cutting, b)?).map_err(|r| refused("the enrolment", b, r))?;
+        job.enrol(b, &load(folder, &cutting, b)?).map_err(at(format_args!("the enrolment of block {b}")))?;
         progress.step();
     }
     let seams = cutting.seams();
@@ -151,57 +184,61 @@ fn join_all(folder: &Path, job: &mut Job) -> Outcome<()> {
             lower = (a, load(folder, &cutting, a)?);
         }
         let upper = load(folder, &cutting, b)?;
-        job.seam((a, b), &lower.1, &upper).map_err(|r| format!("the seam of blocks {a} and {b}: {r}"))?;
+        job.seam((a, b), &lower.1, &upper).map_err(at(format_args!("the seam of blocks {a} and {b}")))?;
         progress.step();
     }
     drop(lower);
     let mut progress = Progress::new("crossed", n as usize);
     for b in 0..n {
-        job.crossing(b, &load(folder, &cutting, b)?).map_err(|r| refused("the crossing", b, r))?;
+        job.crossing(b, &load(folder, &cutting, b)?).map_err(at(format_args!("the crossing of block {b}")))?;
         progress.step();
     }
     let mut progress = Progress::new("points found in", n as usize);
     for b in 0..n {
-        job.point(b, &load(folder, &cutting, b)?).map_err(|r| refused("the point step", b, r))?;
+        job.point(b, &load(folder, &cutting, b)?).map_err(at(format_args!("the point step of block {b}")))?;
         progress.step();
     }
     Ok(())
 }
 
-fn work(task: &Task, folder: &Path) -> Outcome<()> {
+fn work(task: &Task, folder: &Path) -> Result<(), Error> {
     // an opening without entries tells whether extents and cut lists are good, before anything is read
-    Job::open(task.cutting.clone(), Entries::default()).map_err(|r| r.to_string())?;
-    fs::create_dir_all(folder).map_err(failed(folder.display()))?;
+    Job::open(task.cutting.clone(), Entries::default())?;
+    fs::create_dir_all(folder).map_err(at(folder.display()))?;
     let entries = label_all(task, folder)?;
-    let mut job = Job::open(task.cutting.clone(), entries).map_err(|r| r.to_string())?;
+    let mut job = Job::open(task.cutting.clone(), entries)?;
     join_all(folder, &mut job)?;
-    write_file(&folder.join("sheet.txt"), |out| match write_sheet(&job, out) {
-        Ok(Ok(())) => Ok(()),
-        Ok(Err(r)) => Err(r.to_string()),
-        Err(e) => Err(format!("sheet.txt: {e}")),
-    })
+    write_file(&folder.join("sheet.txt"), |out| write_sheet(&job, out))
 }
 
-fn run() -> Outcome<()> {
-    let words: Vec<String> = std::env::args().skip(1).collect();
-    let task = task(&words)?;
+/// Writes everything beside the folder, which gets its name when all is there.
+fn label(task: &Task) -> Result<(), Error> {
+    let place = task.folder.display();
     if task.folder.exists() {
-        return Err(format!("{}: exists already", task.folder.display()));
+        return Err(at(place)(Error::Exists));
     }
-    // everything is written beside the folder, which gets its name when all is there
     let mut name = task.folder.as_os_str().to_owned();
     name.push(format!(".partial-{}", std::process::id()));
     let partial = PathBuf::from(name);
-    let outcome = work(&task, &partial).and_then(|()| fs::rename(&partial, &task.folder).map_err(failed(task.folder.display())));
+    let outcome = work(task, &partial).and_then(|()| fs::rename(&partial, &task.folder).map_err(at(place)));
     if outcome.is_err() {
         let _ = fs::remove_dir_all(&partial);
     }
     outcome
 }
 
+fn run() -> Result<(), Error> {
+    let told = |word: std::ffi::OsString| word.into_string().or_else(|word| usage(format!("{word:?} is no text")));
+    let words = std::env::args_os().skip(1).map(told).collect::<Result<Vec<_>, _>>()?;
+    match asked(&words)? {
+        Asked::Print(text) => Ok(writeln!(std::io::stdout(), "{text}")?),
+        Asked::Label(task) => label(&task),
+    }
+}
+
 fn main() {
-    if let Err(message) = run() {
-        eprintln!("tugrelis: {message}");
-        std::process::exit(1);
+    if let Err(error) = run() {
+        eprintln!("tugrelis: {error}");
+        std::process::exit(if matches!(error, Error::Usage(_)) { 2 } else { 1 });
     }
 }

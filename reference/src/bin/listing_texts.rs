@@ -12,8 +12,30 @@ const VERY_LONG: usize = 3_000_000;
 
 /// Words that stand in for a number: some are numbers.
 const WORDS: [&str; 24] = [
-    "0", "00", "9", "1", "8", "0000000008", "00000000008", "0000000000", "00000000000", "4294967295", "4294967296", "9999999999",
-    "10000000000", "04294967295", "-1", "+1", "1.0", "1,2", "0x1", "1e3", "a", "1a", "_", "\u{661}",
+    "0",
+    "00",
+    "9",
+    "1",
+    "8",
+    "0000000008",
+    "00000000008",
+    "0000000000",
+    "00000000000",
+    "4294967295",
+    "4294967296",
+    "9999999999",
+    "10000000000",
+    "04294967295",
+    "-1",
+    "+1",
+    "1.0",
+    "1,2",
+    "0x1",
+    "1e3",
+    "a",
+    "1a",
+    "_",
+    "\u{661}",
 ];
 
 /// Bytes that are no separators.
@@ -74,7 +96,11 @@ fn spoiled(random: &mut Random) -> Vec<u8> {
     let mut bytes = text(random, &words);
     if random.once_in(3) && !bytes.is_empty() {
         let (at, byte) = (random.below(bytes.len()), random.pick(&BYTES));
-        if random.once_in(2) { bytes[at] = byte } else { bytes.insert(at, byte) }
+        if random.once_in(2) {
+            bytes[at] = byte
+        } else {
+            bytes.insert(at, byte)
+        }
     }
     bytes
 }
@@ -82,10 +108,44 @@ fn spoiled(random: &mut Random) -> Vec<u8> {
 /// Texts that are long, or at an edge of the form.
 fn fixed() -> Vec<Vec<u8>> {
     let plain = [
-        "", " ", "\n", "1", "1 1", "1 1 1", "1 1 1 0", "1 1 1 5", "1 1 1 5\n", "1 1 1 5 ", "1 1 1 5\r\n", "1\t1\t1\t5", "1111",
-        "1 1 1 5\x00", "\x001 1 1 5", "2 2 1 1 1 2 3", "9 1 1 x", "0 x 1", "9 1", "9 1 1", "1 1 9 0", "1 1 1 x", "1 0 1 5", "8 8 9",
-        "1 1 1 -5", "-1 1 1 5", "1 1 1 4294967295", "1 1 1 4294967296", "4294967295 1 1 5", "4294967296 1 1 5", "4294967297 1 1 5",
-        "2 1 1 0", "2 1 1 0 x", "2 1 1 0 5", "1 1 1 0 0", "1 1 1 00000000005", "1 1 1 0000000005", "65536 65536 1 5",
+        "",
+        " ",
+        "\n",
+        "1",
+        "1 1",
+        "1 1 1",
+        "1 1 1 0",
+        "1 1 1 5",
+        "1 1 1 5\n",
+        "1 1 1 5 ",
+        "1 1 1 5\r\n",
+        "1\t1\t1\t5",
+        "1111",
+        "1 1 1 5\x00",
+        "\x001 1 1 5",
+        "2 2 1 1 1 2 3",
+        "9 1 1 x",
+        "0 x 1",
+        "9 1",
+        "9 1 1",
+        "1 1 9 0",
+        "1 1 1 x",
+        "1 0 1 5",
+        "8 8 9",
+        "1 1 1 -5",
+        "-1 1 1 5",
+        "1 1 1 4294967295",
+        "1 1 1 4294967296",
+        "4294967295 1 1 5",
+        "4294967296 1 1 5",
+        "4294967297 1 1 5",
+        "2 1 1 0",
+        "2 1 1 0 x",
+        "2 1 1 0 5",
+        "1 1 1 0 0",
+        "1 1 1 00000000005",
+        "1 1 1 0000000005",
+        "65536 65536 1 5",
     ];
     let mut texts: Vec<Vec<u8>> = plain.iter().map(|t| t.as_bytes().to_vec()).collect();
     let run = |piece: &str, count: usize| piece.repeat(count).into_bytes();
@@ -179,7 +239,11 @@ fn main() {
         differences += 1;
         if differences == 1 {
             let answer = found.map_or("ended by a signal".to_string(), |bytes| shown(&bytes));
-            println!("listing_texts: seed {seed} text {i} differs\n  text: {}\n  program:   {answer}\n  reference: {}", shown(text), shown(expected.as_bytes()));
+            println!(
+                "listing_texts: seed {seed} text {i} differs\n  text: {}\n  program:   {answer}\n  reference: {}",
+                shown(text),
+                shown(expected.as_bytes())
+            );
         }
     }
     let kinds: Vec<String> = kinds.iter().map(|(kind, n)| format!("{kind}: {n}")).collect();

@@ -40,15 +40,26 @@ pub fn honest(random: &mut Random) -> Asked {
     let mut job = Job::open(cutting.clone(), entries(random, &cutting, &blocks)).expect("an opening");
     let (what, [lower, upper]) = advance(random, &mut job, &blocks);
     let map = |b: u32| blocks.get(b as usize).cloned().unwrap_or_default();
-    let cell = [0, 1, 2].map(|a: usize| 2 * cutting.origin(lower as usize)[a] + random.below(2 * usize::from(cutting.block_extents(lower as usize)[a]) - 1) as u32);
+    let cell =
+        [0, 1, 2].map(|a: usize| 2 * cutting.origin(lower as usize)[a] + random.below(2 * usize::from(cutting.block_extents(lower as usize)[a]) - 1) as u32);
     let many = match what {
-        What::FaceRow | What::Total => job.numbers[10],
-        What::CurveRow => job.numbers[11],
-        _ => job.numbers[12],
+        What::FaceRow | What::Total => job.counts().faces,
+        What::CurveRow => job.counts().curves,
+        _ => job.counts().points,
     };
     let cell = if what > What::Lookup { [1 + random.below(many as usize + 1) as u32, 0, 0] } else { cell };
     let Readings { values, kinds } = readings(random, &cutting, lower);
-    Asked { what, job: job.numbers, lists: cutting.lists, maps: [map(lower), map(upper)], tables: job.tables, blocks: [lower, upper], cell, values, kinds }
+    Asked {
+        what,
+        job: job.numbers().into(),
+        lists: cutting.lists,
+        maps: [map(lower), map(upper)],
+        tables: job.tables,
+        blocks: [lower, upper],
+        cell,
+        values,
+        kinds,
+    }
 }
 
 /// Good readings of a block.
@@ -93,20 +104,39 @@ fn advance(random: &mut Random, job: &mut Job, blocks: &[Vec<u32>]) -> (What, [u
             steps.swap(i, random.below(i + 1));
         }
         // the last step of a stage as often as all others
-        let stop = if until != stage || steps.is_empty() { usize::MAX } else if random.once_in(2) { steps.len() - 1 } else { random.below(steps.len()) };
+        let stop = if until != stage || steps.is_empty() {
+            usize::MAX
+        } else if random.once_in(2) {
+            steps.len() - 1
+        } else {
+            random.below(steps.len())
+        };
         for (i, &[b, c]) in steps.iter().enumerate() {
-            let refused = i < stop && match what {
-                What::Enrol => job.enrol(b, map(b)).is_err(),
-                What::Seam => job.seam((b, c), map(b), map(c)).is_err(),
-                What::Crossing => job.crossing(b, map(b)).is_err(),
-                _ => job.point(b, map(b)).is_err(),
-            };
+            let refused = i < stop
+                && match what {
+                    What::Enrol => job.enrol(b, map(b)).is_err(),
+                    What::Seam => job.seam((b, c), map(b), map(c)).is_err(),
+                    What::Crossing => job.crossing(b, map(b)).is_err(),
+                    _ => job.point(b, map(b)).is_err(),
+                };
             if i == stop || refused {
                 return (what, [b, c]);
             }
         }
     }
-    let what = random.pick(&[What::Lookup, What::Lookup, What::Lookup, What::FaceRow, What::CurveRow, What::PointRow, What::Total, What::Total, What::Strain, What::Strain, What::Strain]);
+    let what = random.pick(&[
+        What::Lookup,
+        What::Lookup,
+        What::Lookup,
+        What::FaceRow,
+        What::CurveRow,
+        What::PointRow,
+        What::Total,
+        What::Total,
+        What::Strain,
+        What::Strain,
+        What::Strain,
+    ]);
     if matches!(what, What::Total | What::Strain) {
         strain(random, job, blocks, (what == What::Strain).then_some(any));
     }
@@ -210,7 +240,11 @@ fn block(random: &mut Random, s: &mut Asked, kind: usize) {
 }
 
 fn of_kind(s: &mut Asked, kind: usize) -> &mut Vec<u32> {
-    if kind == 0 { &mut s.tables.face_links } else { &mut s.tables.curve_links }
+    if kind == 0 {
+        &mut s.tables.face_links
+    } else {
+        &mut s.tables.curve_links
+    }
 }
 
 /// One link: to the first place, to none, or by any distance.
@@ -308,7 +342,18 @@ fn total(random: &mut Random, s: &mut Asked) {
     } else if !t.face_sums.0.is_empty() {
         let at = random.below(t.face_sums.0.len());
         let (most, any) = (8_796_093_022_208.0f64, f64::from_bits(random.word()));
-        t.face_sums.0[at] = random.pick(&[most, -most, most - 0.5, f64::from_bits(most.to_bits() + 1), f64::from_bits((-most).to_bits() + 1), f64::NAN, f64::INFINITY, 1.0 / 2048.0, -0.0, any]);
+        t.face_sums.0[at] = random.pick(&[
+            most,
+            -most,
+            most - 0.5,
+            f64::from_bits(most.to_bits() + 1),
+            f64::from_bits((-most).to_bits() + 1),
+            f64::NAN,
+            f64::INFINITY,
+            1.0 / 2048.0,
+            -0.0,
+            any,
+        ]);
     }
 }
 

@@ -148,17 +148,19 @@ impl Comparison {
             *self.given.entry((what, 0)).or_default() += 1;
         }
         let reading = matches!(call, Call::Lookup { .. } | Call::Row { .. });
-        self.equal(if reading { "reading" } else { "step" }, proved == expected, &|| format!("{call:?} gave {proved:?}, the book says {expected:?}; job {:?} cutting {:?}", before.numbers, before.cutting));
+        self.equal(if reading { "reading" } else { "step" }, proved == expected, &|| {
+            format!("{call:?} gave {proved:?}, the book says {expected:?}; job {:?} cutting {:?}", before.numbers(), before.cutting)
+        });
         if reading || matches!(expected, Answer::Refused(_)) {
             self.equal("kept", before == *job, &|| format!("after {call:?}"));
         }
-        self.equal("closed", book.closed() == (job.stage() == Stage::Closed), &|| format!("after {call:?}"));
+        self.equal("closed", book.closed() == (job.stage() == Some(Stage::Closed)), &|| format!("after {call:?}"));
         true
     }
 
     /// The steps of a stage in random order, some twice, some with wrong maps or blocks, and a few calls of other stages between.
     fn stage(&mut self, case: &Case, job: &mut Job, book: &mut Book) -> bool {
-        let stage = job.stage();
+        let stage = job.stage().expect("a stage of an honest job");
         let mut steps: Vec<(usize, usize)> = match stage {
             Stage::Seam => case.cuts.seams(),
             _ => (0..case.cuts.blocks()).map(|b| (b, b)).collect(),
@@ -228,7 +230,9 @@ impl Comparison {
                 self.call(job, book, "row", &Call::Row { kind, number });
             }
         }
-        let listed = |firsts: &[u64], rows: &[u32], w: usize, many: usize| -> Vec<(u64, Vec<u32>)> { (0..many).map(|i| (firsts[i], rows[w * i..w * i + w].to_vec())).collect() };
+        let listed = |firsts: &[u64], rows: &[u32], w: usize, many: usize| -> Vec<(u64, Vec<u32>)> {
+            (0..many).map(|i| (firsts[i], rows[w * i..w * i + w].to_vec())).collect()
+        };
         let (t, counts) = (&job.tables, job.counts());
         let faces = listed(&t.face_firsts, &t.face_listed, 2, counts.faces as usize);
         let curves = listed(&t.curve_firsts, &t.curve_listed, 4, counts.curves as usize);
@@ -270,7 +274,9 @@ impl Comparison {
         let number = if let Answer::Refused(n) = expected { n } else { 0 };
         *self.given.entry(("strain", number)).or_default() += 1;
         let same = proved == expected || expected == Answer::Free && matches!(proved, Answer::Refused(8));
-        self.equal("strain", same, &|| format!("block {block} with {values:x?} {kinds:?} gave {proved:?}, the book says {expected:?}; cutting {:?}", before.cutting));
+        self.equal("strain", same, &|| {
+            format!("block {block} with {values:x?} {kinds:?} gave {proved:?}, the book says {expected:?}; cutting {:?}", before.cutting)
+        });
         if refused {
             self.equal("kept", before == *job, &|| format!("after refused readings of block {block}"));
         }
@@ -324,10 +330,26 @@ impl Comparison {
         let mut tables = Tables::new(case.cuts.blocks(), entries);
         let random = &mut self.random;
         let t = &mut tables;
-        for table in [&mut t.ticks, &mut t.blocks, &mut t.face_links, &mut t.curve_links, &mut t.face_rows, &mut t.curve_rows, &mut t.point_rows, &mut t.face_numbers, &mut t.curve_numbers, &mut t.point_numbers, &mut t.face_listed, &mut t.curve_listed, &mut t.point_listed, &mut t.came] {
+        for table in [
+            &mut t.ticks,
+            &mut t.blocks,
+            &mut t.face_links,
+            &mut t.curve_links,
+            &mut t.face_rows,
+            &mut t.curve_rows,
+            &mut t.point_rows,
+            &mut t.face_numbers,
+            &mut t.curve_numbers,
+            &mut t.point_numbers,
+            &mut t.face_listed,
+            &mut t.curve_listed,
+            &mut t.point_listed,
+            &mut t.came,
+        ] {
             table.iter_mut().for_each(|n| *n = random.word() as u32);
         }
-        for table in [&mut t.face_keys, &mut t.curve_keys, &mut t.point_keys, &mut t.face_firsts, &mut t.curve_firsts, &mut t.point_firsts, &mut t.face_counts] {
+        for table in [&mut t.face_keys, &mut t.curve_keys, &mut t.point_keys, &mut t.face_firsts, &mut t.curve_firsts, &mut t.point_firsts, &mut t.face_counts]
+        {
             table.iter_mut().for_each(|n| *n = random.word());
         }
         t.face_sums.0.iter_mut().for_each(|x| *x = f64::from_bits(random.word()));
@@ -359,7 +381,10 @@ impl Comparison {
                 _ => case.cutting.lists[a].clear(),
             }
         }
-        let told = Cuts { extents: case.cutting.extents.map(|n| n as usize), cuts: [0, 1, 2].map(|a: usize| case.cutting.lists[a].iter().map(|&c| c as usize).collect()) };
+        let told = Cuts {
+            extents: case.cutting.extents.map(|n| n as usize),
+            cuts: [0, 1, 2].map(|a: usize| case.cutting.lists[a].iter().map(|&c| c as usize).collect()),
+        };
         let expected = match told.refusal_or_empty() {
             0 if wrong => 6,
             n => n,
@@ -372,7 +397,7 @@ impl Comparison {
         self.equal("open", proved == expected, &|| format!("{:?} {entries:?}: {proved} for {expected}", case.cutting));
         let mut job = match opened {
             Ok(job) => job,
-            Err((_, tables)) => return self.equal("kept", tables == lent, &|| "after a refused opening".to_string()),
+            Err((_, tables)) => return self.equal("kept", *tables == lent, &|| "after a refused opening".to_string()),
         };
         let mut book = Book::open(case.cuts.clone(), [entries.faces, entries.curves, entries.points]).expect("an accepted opening");
         for _ in 0..4 {
@@ -459,7 +484,13 @@ fn main() {
     for ((what, refusal), times) in &c.given {
         write!(given, " {what} {refusal}: {times},").unwrap();
     }
-    println!("compare_joins: seed {seed}, {cases} cases, {} closed, {} calls, {} differences;{} times each", c.closed, c.calls, c.differences, given.trim_end_matches(','));
+    println!(
+        "compare_joins: seed {seed}, {cases} cases, {} closed, {} calls, {} differences;{} times each",
+        c.closed,
+        c.calls,
+        c.differences,
+        given.trim_end_matches(',')
+    );
     if c.differences > 0 {
         std::process::exit(1);
     }

@@ -12,13 +12,7 @@ use std::collections::BTreeMap;
 use std::fmt::{Debug, Write};
 use std::ops::Not;
 use std::slice::from_mut;
-
-extern "C" {
-    fn tugrelis_label(codes: *const u32, codes_len: usize, nx: u16, ny: u16, nz: u16, map: *mut u32, map_len: usize, work: *mut u32, work_len: usize, counts: *mut [u32; 3]) -> u32;
-    fn tugrelis_most_components(nx: u16, ny: u16, nz: u16, counts: *mut [u32; 3]) -> u32;
-    fn tugrelis_write_record(nx: u16, ny: u16, nz: u16, ox: u16, oy: u16, oz: u16, map: *const u32, map_len: usize, tray: *mut u8, tray_len: usize, size: *mut usize) -> u32;
-    fn tugrelis_read_record(bytes: *const u8, bytes_len: usize, map: *mut u32, map_len: usize, fields: *mut [u16; 6]) -> u32;
-}
+use tugrelis::raw;
 
 /// What is compared, by the names that --spoil takes: an entry's refusal by the entry's name (label, most, write, read), and what it leaves by a name of its own.
 const WHATS: [&str; 12] = ["label", "counts", "map", "work", "most", "maxima", "write", "length", "record", "read", "fields", "back"];
@@ -93,10 +87,7 @@ impl Comparison {
         let (mut other_map, mut other_work, mut other_counts) = (map.clone(), work.clone(), counts);
         let (m, w) = (GUARD..GUARD + map_length, GUARD..GUARD + work_length);
         let input = || format!("extents {extents:?} codes {codes:?} map tray of {map_length}, working tray of {work_length}");
-        // Safe: every pointer comes with the length of what it points at.
-        let refusal = unsafe {
-            tugrelis_label(codes.as_ptr(), codes.len(), nx, ny, nz, map[m.clone()].as_mut_ptr(), map_length, work[w.clone()].as_mut_ptr(), work_length, &mut counts)
-        };
+        let refusal = raw::label(codes, nx, ny, nz, &mut map[m.clone()], &mut work[w.clone()], &mut counts);
         let answer = label::label(codes, extents, &mut other_map[m.clone()], &mut other_work[w]);
         if let Ok(found) = answer {
             other_counts = found;
@@ -112,8 +103,7 @@ impl Comparison {
     fn most(&mut self, extents: [u16; 3], expected: Result<[u32; 3], u32>) {
         let ([nx, ny, nz], mut maxima) = (extents, [77; 3]);
         let input = || format!("extents {extents:?}");
-        // Safe: as above.
-        let refusal = unsafe { tugrelis_most_components(nx, ny, nz, &mut maxima) };
+        let refusal = raw::most_components(nx, ny, nz, &mut maxima);
         self.refusal("most", refusal, expected.err().unwrap_or(0), &input);
         self.same("maxima", &mut maxima, &expected.unwrap_or([77; 3]), &input);
     }
@@ -124,8 +114,7 @@ impl Comparison {
         let (mut other_tray, mut other_size) = (tray.clone(), size);
         let t = GUARD..GUARD + tray_length;
         let input = || format!("head {head:?} map {map:?} record tray of {tray_length}");
-        // Safe: as above.
-        let refusal = unsafe { tugrelis_write_record(nx, ny, nz, ox, oy, oz, map.as_ptr(), map.len(), tray[t.clone()].as_mut_ptr(), tray_length, &mut size) };
+        let refusal = raw::write_record(nx, ny, nz, ox, oy, oz, map, &mut tray[t.clone()], &mut size);
         let answer = codec::write(&head, map, &mut other_tray[t.clone()]);
         if let Ok(length) = answer {
             other_size = length;
@@ -141,8 +130,7 @@ impl Comparison {
         let (mut other_map, mut other_fields) = (map.clone(), fields);
         let m = GUARD..GUARD + map_length;
         let input = || format!("record {bytes:?} map tray of {map_length}");
-        // Safe: as above.
-        let refusal = unsafe { tugrelis_read_record(bytes.as_ptr(), bytes.len(), map[m.clone()].as_mut_ptr(), map_length, &mut fields) };
+        let refusal = raw::read_record(bytes, &mut map[m.clone()], &mut fields);
         let answer = codec::read(bytes, &mut other_map[m]);
         if let Ok(head) = answer {
             other_fields = head;

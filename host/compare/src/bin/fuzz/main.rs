@@ -209,7 +209,8 @@ impl Fuzz {
         let before = (tray.clone(), length);
         let refusal = raw::write_record(nx, ny, nz, 0, self.random.pick(&[0, 1, 1023]), 0, part(&mut map), part(&mut tray), &mut length);
         self.judge("write", refusal, before == (tray.clone(), length), holds(&tray));
-        let mut record: Vec<u8> = if refusal == 0 { part(&mut tray)[..length].to_vec() } else { (0..self.random.below(40)).map(|_| self.random.word() as u8).collect() };
+        let mut record: Vec<u8> =
+            if refusal == 0 { part(&mut tray)[..length].to_vec() } else { (0..self.random.below(40)).map(|_| self.random.word() as u8).collect() };
         for _ in 0..self.random.below(3) {
             if !record.is_empty() {
                 let at = self.random.below(record.len());
@@ -250,7 +251,11 @@ impl Fuzz {
 /// What a call was handed, without long tables.
 fn short(asked: &Asked) -> String {
     let text = format!("{asked:?}");
-    if text.len() < 6000 { text } else { format!("job {:?}, blocks {:?}, cell {:?}", asked.job, asked.blocks, asked.cell) }
+    if text.len() < 6000 {
+        text
+    } else {
+        format!("job {:?}, blocks {:?}, cell {:?}", asked.job, asked.blocks, asked.cell)
+    }
 }
 
 fn main() {
@@ -268,7 +273,8 @@ fn main() {
     if timed {
         watch();
     }
-    let mut f = Fuzz { random: Random::new(seed), timed, spoil, rounds: 0, calls: 0, slowest: (Duration::ZERO, String::new()), given: BTreeMap::new(), wrong: 0 };
+    let mut f =
+        Fuzz { random: Random::new(seed), timed, spoil, rounds: 0, calls: 0, slowest: (Duration::ZERO, String::new()), given: BTreeMap::new(), wrong: 0 };
     for round in 0..rounds {
         f.rounds = round;
         if f.random.once_in(4) {

@@ -46,7 +46,17 @@ fn job(random: &mut Random, what: What) -> Asked {
     longs_mut(&mut t).into_iter().enumerate().filter(|(i, _)| !longs.contains(i)).for_each(|(_, table)| *table = vec![]);
     let grid = reference::grid::Grid::new([64, 64, 2]);
     let mut map = || (0..grid.cells()).map(|p| if grid.order(p) == 3 { 1 } else { 1 + random.below(LONG as usize) as u32 }).collect();
-    Asked { what, job: numbers.try_into().expect("thirteen"), lists: cutting.lists, tables: t, blocks: [0, 1], maps: [map(), map()], cell: [1, 1, 1], values: vec![0.5; 64 * 64 * 2], kinds: vec![0; 64 * 64 * 2] }
+    Asked {
+        what,
+        job: numbers.try_into().expect("thirteen"),
+        lists: cutting.lists,
+        tables: t,
+        blocks: [0, 1],
+        maps: [map(), map()],
+        cell: [1, 1, 1],
+        values: vec![0.5; 64 * 64 * 2],
+        kinds: vec![0; 64 * 64 * 2],
+    }
 }
 
 /// Takes each of them, with a name.
@@ -82,7 +92,20 @@ fn many_readings(take: &mut dyn FnMut(&str, &Asked)) {
         tables.came.fill(1);
         missing.into_iter().for_each(|b: usize| tables.came[b] = 0);
         let job = [4, 129, 129, 1, 1, 0, 0, 1, 0, 0, 1, 0, 0];
-        take("16,384 blocks", &Asked { what: What::Total, job, lists: [list.clone(), list.clone(), vec![0]], tables, blocks: [0; 2], maps: [vec![], vec![]], cell: [1, 0, 0], values: vec![], kinds: vec![] });
+        take(
+            "16,384 blocks",
+            &Asked {
+                what: What::Total,
+                job,
+                lists: [list.clone(), list.clone(), vec![0]],
+                tables,
+                blocks: [0; 2],
+                maps: [vec![], vec![]],
+                cell: [1, 0, 0],
+                values: vec![],
+                kinds: vec![],
+            },
+        );
     }
 }
 
@@ -130,7 +153,17 @@ fn many_blocks(take: &mut dyn FnMut(&str, &Asked)) {
             let b = missing as u32;
             let map = vec![1, 0, 1, 0, 0, 0, 1, 0, 1];
             let job = [stage as u32, 129, 129, 1, 0, 0, 0, 0, 0, 0, 0, 0, 0];
-            let asked = Asked { what, job, lists: [list.clone(), list.clone(), vec![0]], tables, blocks: [b, b + 1], maps: [map.clone(), map], cell: [0; 3], values: vec![], kinds: vec![] };
+            let asked = Asked {
+                what,
+                job,
+                lists: [list.clone(), list.clone(), vec![0]],
+                tables,
+                blocks: [b, b + 1],
+                maps: [map.clone(), map],
+                cell: [0; 3],
+                values: vec![],
+                kinds: vec![],
+            };
             take(&format!("16,384 blocks, block {b},"), &asked);
         }
     }

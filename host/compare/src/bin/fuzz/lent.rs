@@ -161,7 +161,7 @@ pub struct Lent {
 
 impl Lent {
     pub fn new(asked: &Asked) -> Lent {
-        let (words, longs) = (words(&asked.tables).map(|t| guarded(t)), longs(&asked.tables).map(|t| guarded(t)));
+        let (words, longs) = (words(&asked.tables).map(guarded), longs(&asked.tables).map(guarded));
         let sums = Sums(guarded(&asked.tables.face_sums.0));
         Lent { job: asked.job, words: words.into(), longs: longs.into(), sums, number: 7, row: [7; 6], total: ([7; 2], [7; 6]) }
     }
@@ -175,14 +175,16 @@ impl Lent {
     pub fn call(&mut self, asked: &Asked) -> u32 {
         let ([cx, cy, cz], [b, c], [m, n], [x, y, z]) = (&asked.lists, asked.blocks, &asked.maps, asked.cell);
         let [ticks, blocks, fl, cl, fr, cr, pr, fnum, cnum, pnum, flist, clist, plist, came] = &mut self.words[..] else { unreachable!() };
-        let [ticks, blocks, fl, cl, fr, cr, pr, fnum, cnum, pnum, flist, clist, plist, came] = [ticks, blocks, fl, cl, fr, cr, pr, fnum, cnum, pnum, flist, clist, plist, came].map(part);
+        let [ticks, blocks, fl, cl, fr, cr, pr, fnum, cnum, pnum, flist, clist, plist, came] =
+            [ticks, blocks, fl, cl, fr, cr, pr, fnum, cnum, pnum, flist, clist, plist, came].map(|t| part(t));
         let [fk, ck, pk, ff, cf, pf, counts] = &mut self.longs[..] else { unreachable!() };
-        let [fk, ck, pk, ff, cf, pf, counts] = [fk, ck, pk, ff, cf, pf, counts].map(part);
+        let [fk, ck, pk, ff, cf, pf, counts] = [fk, ck, pk, ff, cf, pf, counts].map(|t| part(t));
         let sums = part(&mut self.sums.0);
         let (job, told) = (&mut self.job, &asked.job);
         match asked.what {
             What::Open => raw::open(
-                job, told[1], told[2], told[3], told[4], told[5], told[6], cx, cy, cz, ticks, blocks, fl, cl, fk, ck, pk, fr, cr, pr, fnum, cnum, pnum, ff, cf, pf, flist, clist, plist, came, sums, counts,
+                job, told[1], told[2], told[3], told[4], told[5], told[6], cx, cy, cz, ticks, blocks, fl, cl, fk, ck, pk, fr, cr, pr, fnum, cnum, pnum, ff, cf,
+                pf, flist, clist, plist, came, sums, counts,
             ),
             What::Enrol => raw::enrol(job, cx, cy, cz, ticks, blocks, fl, cl, fk, ck, fr, cr, b, m),
             What::Seam => raw::seam(job, cx, cy, cz, ticks, blocks, fl, cl, b, c, m, n),
@@ -227,7 +229,8 @@ impl Lent {
 
     /// The answer of a call, with the number or row that it left.
     pub fn answer(&self, what: What, refusal: u32) -> Answer {
-        let row = |places: usize| if self.row[places..].iter().all(|&n| n == 0) { Answer::Row(self.row[..places].to_vec()) } else { Answer::Row(self.row.to_vec()) };
+        let row =
+            |places: usize| if self.row[places..].iter().all(|&n| n == 0) { Answer::Row(self.row[..places].to_vec()) } else { Answer::Row(self.row.to_vec()) };
         match (refusal, what) {
             (0, What::Lookup) => Answer::Number(self.number),
             (0, What::FaceRow) => row(2),
@@ -246,7 +249,7 @@ pub fn guarded<T: Copy + From<u8>>(table: &[T]) -> Vec<T> {
 }
 
 /// The table between the guards.
-pub fn part<T>(table: &mut Vec<T>) -> &mut [T] {
+pub fn part<T>(table: &mut [T]) -> &mut [T] {
     let n = table.len();
     &mut table[GUARD..n - GUARD]
 }
@@ -260,13 +263,40 @@ pub fn holds<T: PartialEq + From<u8>>(table: &[T]) -> bool {
 }
 
 pub fn words(t: &Tables) -> [&[u32]; 14] {
-    [&t.ticks, &t.blocks, &t.face_links, &t.curve_links, &t.face_rows, &t.curve_rows, &t.point_rows, &t.face_numbers, &t.curve_numbers, &t.point_numbers, &t.face_listed, &t.curve_listed, &t.point_listed, &t.came]
+    [
+        &t.ticks,
+        &t.blocks,
+        &t.face_links,
+        &t.curve_links,
+        &t.face_rows,
+        &t.curve_rows,
+        &t.point_rows,
+        &t.face_numbers,
+        &t.curve_numbers,
+        &t.point_numbers,
+        &t.face_listed,
+        &t.curve_listed,
+        &t.point_listed,
+        &t.came,
+    ]
 }
 
 pub fn words_mut(t: &mut Tables) -> [&mut Vec<u32>; 14] {
     [
-        &mut t.ticks, &mut t.blocks, &mut t.face_links, &mut t.curve_links, &mut t.face_rows, &mut t.curve_rows, &mut t.point_rows, &mut t.face_numbers, &mut t.curve_numbers, &mut t.point_numbers,
-        &mut t.face_listed, &mut t.curve_listed, &mut t.point_listed, &mut t.came,
+        &mut t.ticks,
+        &mut t.blocks,
+        &mut t.face_links,
+        &mut t.curve_links,
+        &mut t.face_rows,
+        &mut t.curve_rows,
+        &mut t.point_rows,
+        &mut t.face_numbers,
+        &mut t.curve_numbers,
+        &mut t.point_numbers,
+        &mut t.face_listed,
+        &mut t.curve_listed,
+        &mut t.point_listed,
+        &mut t.came,
     ]
 }
 
