@@ -373,15 +373,21 @@ module _ (j : joiner.Job) (ticks : List ℕ) (c : CallName) (z : Lengths) (b ste
       let q = six-eight (blockFits j c z b (length m)) (talliesFit j) (mapStandsIn (blockExtents k b) (entryOf table b) (j .told .entries Face) (j .told .entries Curve) m) (n .1) in
       record { first = p .0; there = p .1; whole = size-passed j c z b (length m) (q .0); tallies = q .1; stands = q .2 }
 
--- .. where nothing is added: 10 cannot stand
+-- What comes after the judge may suppose that the tallies fit.
+pub judged-same : (s : State) (c : Call) (b step : ℕ) (m : List ℕ) (x y : ℕ) → (talliesFit (s .job) ≡ true → x ≡ y)
+    → firstRefusal (judgedOf (s .job) (s .tables .ticks) (s .tables .blocks) (nameOf c) (lengthsOf (s .tables)) b step m) x
+    ≡ firstRefusal (judgedOf (s .job) (s .tables .ticks) (s .tables .blocks) (nameOf c) (lengthsOf (s .tables)) b step m) y
+unfolding firstRefusal
+judged-same s c b step m x y h =
+    let n : ℕ = judgedOf (s .job) (s .tables .ticks) (s .tables .blocks) (nameOf c) (lengthsOf (s .tables)) b step m in
+    by-test (eqb n 0) (λ t. rw t (h (judged-passed (s .job) (s .tables .ticks) (nameOf c) (lengthsOf (s .tables)) b step (s .tables .blocks) m (eqb-true n 0 t) .tallies))) (λ t. rw t)
+
+-- .. so 10 cannot stand where nothing is added.
 pub rest-none : (s : State) (c : Call) → ((κ : Kind) → adds s c κ ≡ 0) → (b step : ℕ) (m : List ℕ) (own l : Bool)
     → firstRefusal (judgedOf (s .job) (s .tables .ticks) (s .tables .blocks) (nameOf c) (lengthsOf (s .tables)) b step m)
     (cond (not own) 8 (cond l 9 (cond (full (s .job .told .entries) (s .job .sofar) (adds s c)) 10 0)))
     ≡ firstRefusal (judgedOf (s .job) (s .tables .ticks) (s .tables .blocks) (nameOf c) (lengthsOf (s .tables)) b step m) (cond (not own) 8 (cond l 9 0))
-unfolding firstRefusal
-rest-none s c none b step m own l =
-    let x : ℕ = judgedOf (s .job) (s .tables .ticks) (s .tables .blocks) (nameOf c) (lengthsOf (s .tables)) b step m in
-    by-test (eqb x 0) (λ t. rw (t, room s c none (judged-passed (s .job) (s .tables .ticks) (nameOf c) (lengthsOf (s .tables)) b step (s .tables .blocks) m (eqb-true x 0 t) .tallies))) (λ t. rw t)
+rest-none s c none b step m own l = judged-same s c b step m _ _ (λ t. rw (room s c none t))
 
 -- ---- the ways of the judge
 

@@ -1,25 +1,24 @@
--- The tests by lengths are the joiner's, and what an accepted point step leaves is what the joiner asks for.
+-- What an accepted point step leaves is what the joiner asks for.
 -- Assumes nothing.
 use mathlib.Core.Path.{_≡_, refl, sym, ap, _∙_, subst}
-use mathlib.Core.Bool.{Bool, true, false, not, cond, _&&_, true≢false, false≢true}
+use mathlib.Core.Bool.{Bool, true, false, not, true≢false, false≢true}
 use mathlib.Core.Logic.{_≢_}
-use mathlib.Core.List.{List, [], _++_}
+use mathlib.Core.List.{List, []}
 use Prim.Native.Nat.{ℕ, _+_, _*_, _/_, _%_, _≤_, _<_}
 use native.Mathlib.Omega.{arith}
-use lib.Dec.{eqb, ltb}
 use lib.ListN.{length, getD}
-use borrow.Author.Tests.{eqb-true, eq-eqb, ne-eqb, le-ltb, not-true, not-false}
+use borrow.Author.Tests.{eqb-true, eq-eqb, ne-eqb, ltb-true, not-true, not-false}
 use Rattle.lists.specs.Lists.{overlay}
-use Rattle.lists.proofs.Cases.{by-test, and-first}
 use Rattle.lists.proofs.Overlay.{length-overlay}
 use Rattle.cells.specs.Box.{triple}
 use Rattle.cells.specs.Grid.{cells}
-use Rattle.cutting.specs.Cutting.{Cutting, intervals, blocks, blockExtents}
-use Rattle.joiner.specs.Job.{Kind, Face, Curve, Point, Points, Closed, State, sameStage, stageNumber, keyOf, countOf, fromOf, lengthsFit, ticked, blockTrays, numberTrays, foundTrays, firstTrays, listedTrays, kindTrays}
+use Rattle.extents.proofs.SizeLaws.{sized-of}
+use Rattle.cutting.specs.Cutting.{Cutting, intervals, blocks}
+use Rattle.joiner.specs.Job.{Kind, Face, Curve, Point, Closed, State, sameStage, stageNumber, keyOf, fromOf, blockTrays, numberTrays, foundTrays, firstTrays, listedTrays, kindTrays}
 use Rattle.joiner.specs.Job as joiner
 use Rattle.joiner.specs.Stages.{pointStep}
-use Rattle.joiner.specs.Calls.{point, answer, mapsFit, full, overfull}
-use Rattle.joiner.specs.Declines.{adds, curvesStand, lentTo, mapStands, numberStands, pointCells, refusal, stray, talliesFit}
+use Rattle.joiner.specs.Calls.{point, answer}
+use Rattle.joiner.specs.Declines.{adds, lentTo, pointCells, refusal}
 use Rattle.joiner.specs.Entries.{PointDone, CallStep, Ticked, rowFinal}
 use Rattle.joiner.proofs.Passed.{stage-same, Passed, passed, fits-at, tally-fits, points-room}
 use Rattle.ranking.proofs.HeadLaws.{class-point}
@@ -28,19 +27,18 @@ use Rattle.blocks.specs.declared.Block.{Block}
 use Rattle.pass_enrol.specs.Enrolment.{Lies, positionIn}
 use Rattle.pass_enrol.proofs.KeyLaws.{lies-told}
 use Rattle.pass_point.specs.Findings.{foundCells, foundRow, Room}
-use Rattle.pass_point.proofs.FoundLaws.{found-cells, found-room, found-keys, found-rows}
+use Rattle.pass_point.proofs.FoundLaws.{found-room, found-keys, found-rows}
 use Rattle.kind_numbers.specs.Numbered.{Numbered, anyCopied}
 use Rattle.kind_numbers.proofs.NumberedLaws.{numbered-kind}
 use Rattle.job.specs.declared.Job.{Job}
 use Rattle.job.specs.Jobs.{byKind, stageOf, toldOf, jobOf, stateOf}
-use Rattle.job.proofs.JobLaws.{fits-append}
-use Rattle.stages.specs.Ticks.{tickedIn}
 use Rattle.judge.specs.declared.Entry.{Entry}
-use Rattle.judge.specs.Judge.{reachedOf, entryOf, numberStandsIn, Advanced}
-use Rattle.judge.specs.Judge as steps
-use Rattle.judge.proofs.JudgeLaws.{or-none, or-six, six-none, refusal-reached, reached-passed, FirstTests, few-of, count-few, stands-is, ticked-by, numbered-kept, step-refused, step-accepted}
-use Rattle.step_point.specs.declared.Plan.{Plan}
-use Rattle.step_point.specs.Inner.{lent, sizesOf, traysFit, curvesIn, standIn, foundBy, lateOf, foundOf, refusalOf, Plans, Ready, withNumbered, Closes}
+use Rattle.judge.specs.Judge.{lengthsOf, entryOf, Advanced}
+use Rattle.judge.proofs.JudgeLaws.{few-of, count-few, ticked-by, numbered-kept, step-refused, step-accepted}
+use Rattle.judge_point.specs.declared.Plan.{Plan}
+use Rattle.judge_point.specs.Tests.{foundOf, refusalOf, Plans}
+use Rattle.judge_point.proofs.TestLaws.{place-is, found-is, refusal-is}
+use Rattle.step_point.specs.Inner.{lent, Ready, withNumbered, Closes}
 
 -- ---- the ways of `close`
 
@@ -67,18 +65,7 @@ not-closed : (s : joiner.Stage) → s ≢ Closed → sameStage s Closed ≡ fals
 unfolding sameStage
 not-closed s n = ne-eqb _ _ (λ e. n (stage-same s Closed e))
 
--- ---- the tests are the joiner's
-
-six-passed : (a : Bool) (x : ℕ) → _≡_ {A = ℕ} (cond (not a) 6 x) 0 → a ≡ true
-six-passed a x h = six-none a (or-none (cond (not a) 6 0) x (sym (or-six a x) ∙ h) .0)
-
--- 10 by the points alone, where the tallies fit
-full-points : (s : State) (b : ℕ) (m : List ℕ) → talliesFit (s .job) ≡ true
-    → full (s .job .told .entries) (s .job .sofar) (adds s (point b m)) ≡ ltb (s .job .told .entries Point) (s .job .sofar Point + adds s (point b m) Point)
-unfolding full overfull adds
-full-points s b m t =
-    let h : (κ : Kind) → s .job .sofar κ ≤ s .job .told .entries κ = tally-fits (s .job) t in
-    rw (le-ltb (s .job .told .entries Face) (s .job .sofar Face + 0) (omega (arith, h Face)), le-ltb (s .job .told .entries Curve) (s .job .sofar Curve + 0) (omega (arith, h Curve)))
+-- ---- what an accepted step has passed, and leaves
 
 module _ (j : Job) (cx cy cz ticks table curves keys rows numbers firsts listed : List ℕ) (b : ℕ) (m : List ℕ) where
   abbrev k : Cutting
@@ -87,63 +74,14 @@ module _ (j : Job) (cx cy cz ticks table curves keys rows numbers firsts listed 
   abbrev before : State
   before = stateOf j cx cy cz (lent ticks table curves keys rows numbers firsts listed)
 
-  trays-is : (mapsFit k (point b m) && lengthsFit (lentTo (before .job .told) (before .tables) (point b m)))
-      ≡ traysFit (blocks k) (blockExtents k b) (j .«curve_entries») (j .«point_entries») (sizesOf ticks table curves keys rows numbers firsts listed) (length m)
-  unfolding blockTrays numberTrays kindTrays foundTrays firstTrays listedTrays traysFit
-  trays-is =
-      let o = before .job .told in
-      let t = before .tables in
-      ap (λ (x : Bool). mapsFit k (point b m) && x)
-      (fits-append (blockTrays o t) (numberTrays o t Curve ++ kindTrays o t Point) ∙ ap (λ (x : Bool). lengthsFit (blockTrays o t) && x) (fits-append (numberTrays o t Curve) (kindTrays o t Point)))
-
-  place-is : fromOf (before .tables) Curve b ≡ entryOf table b .«curve_from»
-  unfolding fromOf entryOf
-  place-is = refl
-
-  found-is : foundOf k table curves b m ≡ adds before (point b m) Point
-  unfolding foundOf foundBy adds
-  found-is = ap length (found-cells k (before .tables) b m refl refl place-is)
-
-  curves-is : curvesStand before b ≡ curvesIn curves (before .job .numbered Curve) (entryOf table b .«curve_from») (entryOf table b .curves)
-  unfolding curvesStand curvesIn numberStands numberStandsIn fromOf countOf entryOf
-  curves-is = refl
-
-  late-is : _≡_ {A = ℕ} (cond (stray before (point b m)) 8 (cond (full (before .job .told .entries) (before .job .sofar) (adds before (point b m))) 10 0))
-      (lateOf (before .job) (blockExtents k b) (entryOf table b) curves m (foundOf k table curves b m))
-  unfolding stray lateOf standIn
-  late-is =
-      rw (← stands-is before (blockExtents k b) b m, ← curves-is, found-is)
-      (by-test (talliesFit (before .job) && (mapStands before (blockExtents k b) b m && curvesStand before b))
-      (λ t. rw (t, full-points before b m (and-first (talliesFit (before .job)) (mapStands before (blockExtents k b) b m && curvesStand before b) t)))
-      (λ t. rw t))
-
-  pub refusal-is : refusal before (point b m) ≡ refusalOf j cx cy cz ticks (sizesOf ticks table curves keys rows numbers firsts listed) table curves b m
-  unfolding refusalOf steps.lateOf ticked tickedIn pointStep
-  refusal-is = refusal-reached before (point b m) refl b (6 * b + 5) refl refl ∙ rw (← trays-is, ← late-is)
-
-  -- ---- what an accepted step has passed
-
   module _ (points : ℕ) (R : Ready j cx cy cz (lent ticks table curves keys rows numbers firsts listed) b m points) where
     call-facts : Passed before (point b m)
     call-facts = passed before (point b m) (R .none)
 
-    abbrev trays : Bool
-    trays = traysFit (blocks k) (blockExtents k b) (j .«curve_entries») (j .«point_entries») (sizesOf ticks table curves keys rows numbers firsts listed) (length m)
+    there : b < blocks k
+    there = ltb-true b (blocks k) (call-facts .placed-in)
 
-    rungs : (reachedOf (jobOf j cx cy cz) Points ticks b (6 * b + 5) ≡ 0) × (trays ≡ true)
-    unfolding refusalOf
-    rungs =
-        let n = or-none (reachedOf (jobOf j cx cy cz) Points ticks b (6 * b + 5)) (cond (not trays) 6 (lateOf (jobOf j cx cy cz) (blockExtents k b) (entryOf table b) curves m (foundOf k table curves b m))) (sym refusal-is ∙ R .none) in
-        (n .0, six-passed trays _ (n .1))
-
-    first-passed : FirstTests (jobOf j cx cy cz) Points × (b < blocks k)
-    first-passed = reached-passed (jobOf j cx cy cz) Points ticks b (6 * b + 5) (rungs .0)
-
-    map-size : length m ≡ cells (blockExtents k b)
-    unfolding traysFit
-    map-size = eqb-true _ _ (and-first (eqb (length m) (cells (blockExtents k b))) _ (rungs .1))
-
-    record Lengths : Type 0 where
+    record Long : Type 0 where
       on-ticks : length ticks ≡ 6 * blocks k
       on-keys : length keys ≡ j .«point_entries»
       on-rows : length rows ≡ 6 * j .«point_entries»
@@ -151,7 +89,7 @@ module _ (j : Job) (cx cy cz ticks table curves keys rows numbers firsts listed 
       on-firsts : length firsts ≡ j .«point_entries»
       on-listed : length listed ≡ 6 * j .«point_entries»
 
-    lengths : Lengths
+    lengths : Long
     unfolding blockTrays numberTrays kindTrays foundTrays firstTrays listedTrays
     lengths =
         let at : (i : ℕ) → _ = λ i. fits-at (lentTo (before .job .told) (before .tables) (point b m)) i (call-facts .lent) in
@@ -165,14 +103,14 @@ module _ (j : Job) (cx cy cz ticks table curves keys rows numbers firsts listed 
         × ((j .faces + 0 ≤ j .«face_entries») × (j .curves + 0 ≤ j .«curve_entries») × (j .points + points ≤ j .«point_entries»))
     accept-advance =
         let h : (κ : Kind) → before .job .sofar κ ≤ before .job .told .entries κ = tally-fits (before .job) (call-facts .tallies) in
-        ((omega (arith, lengths .on-ticks, first-passed .1), few-of k (call-facts .cut)), (omega (arith, h Face), omega (arith, h Curve), room))
+        ((omega (arith, lengths .on-ticks, there), few-of k (call-facts .cut)), (omega (arith, h Face), omega (arith, h Curve), room))
 
     module _ (r : Block) (T : anyExtents cx cy cz (λ k. Tells k b r)) (d : Entry) (f : d ≡ entryOf table b) where
       abbrev tells : Tells k b r
       tells = T (j .nx) (j .ny) (j .nz)
 
       from-is : fromOf (before .tables) Curve b ≡ d .«curve_from»
-      from-is = place-is ∙ ap (λ (x : Entry). x .«curve_from») (sym f)
+      from-is = place-is before b m ∙ ap (λ (x : Entry). x .«curve_from») (sym f)
 
       abbrev here : List ℕ
       here = foundCells (sizeOf r) curves (d .«curve_from») m
@@ -184,9 +122,9 @@ module _ (j : Job) (cx cy cz ticks table curves keys rows numbers firsts listed 
       -- .. and `store_points`
       pub accept-store : Lies (triple (j .nx) (j .ny) (j .nz)) r × (length m ≡ cells (sizeOf r)) × (b < 16384) × Room (length here) (j .points) (length keys) (length rows)
       accept-store = (
-        lies-told k b r tells (call-facts .cut) (first-passed .1) (first-passed .0 .sized),
-        map-size ∙ ap cells (sym (tells .size)),
-        omega (arith, first-passed .1, count-few k (call-facts .cut) (blocks k) refl),
+        lies-told k b r tells (call-facts .cut) there (sized-of 1024 (k .extents) (call-facts .on-size)),
+        eqb-true _ _ (call-facts .maps) ∙ ap cells (sym (tells .size)),
+        omega (arith, there, count-few k (call-facts .cut) (blocks k) refl),
         found-room k (before .tables) b m (tells .size) refl from-is (j .points) (length keys) (length rows) (fits-points .0) (fits-points .1),
       )
 
@@ -240,15 +178,15 @@ module _ (j : Job) (cx cy cz ticks table curves keys rows numbers firsts listed 
 
   -- ---- the entry
 
-  module _ (p : Plan) (P : Plans (refusalOf j cx cy cz ticks (sizesOf ticks table curves keys rows numbers firsts listed) table curves b m) (foundOf k table curves b m) p) where
+  module _ (p : Plan) (P : Plans (refusalOf (jobOf j cx cy cz) ticks (lengthsOf (before .tables)) table curves b m) (foundOf k table curves b m) p) where
     told-number : p .refusal ≡ refusal before (point b m)
-    told-number = P .told ∙ sym refusal-is
+    told-number = P .told ∙ sym (refusal-is before b m)
 
     pub point-refused : (p .refusal ≡ 0 → ⊥) → CallStep before (point b m) (answer (p .refusal) 0 []) before
     point-refused = step-refused before (point b m) (p .refusal) told-number
 
     pub point-ready : p .refusal ≡ 0 → Ready j cx cy cz (lent ticks table curves keys rows numbers firsts listed) b m (p .points)
-    point-ready z = record { none = sym told-number ∙ z; counted = P .counted (sym (P .told) ∙ z) ∙ found-is }
+    point-ready z = record { none = sym told-number ∙ z; counted = P .counted (sym (P .told) ∙ z) ∙ found-is before b m }
 
     pub point-accepted : p .refusal ≡ 0 → (t : State) → PointDone before b m t → CallStep before (point b m) (answer 0 0 []) t
     point-accepted z t D = step-accepted before (point b m) (p .refusal) told-number z (answer 0 0 []) t refl (refl, D)

@@ -1,91 +1,19 @@
--- The tests and the act of a point step, by lengths and by the entries of the block table.
+-- The tables of a point step, when it is not refused, and what its stores leave.
 -- Assumes nothing.
 use mathlib.Core.Path.{_≡_}
-use mathlib.Core.Bool.{Bool, true, false, not, cond, _&&_}
-use mathlib.Core.List.{List, [], _∷_}
-use Prim.Native.Nat.{ℕ, _+_, _*_}
-use lib.Dec.{eqb, ltb}
-use lib.ListN.{length}
-use Rattle.lists.specs.Lists.{consecutive, allOf}
-use Rattle.cells.specs.Box.{Triple}
-use Rattle.cells.specs.Grid.{cells}
-use Rattle.cutting.specs.Cutting.{Cutting, blocks, blockExtents}
-use Rattle.joiner.specs.Job.{Face, Curve, Point, Points, Closed, Tables, sameStage, tray, lengthsFit}
-use Rattle.joiner.specs.Job as joiner
+use mathlib.Core.Bool.{true, false}
+use mathlib.Core.List.{List, []}
+use Prim.Native.Nat.{ℕ}
+use Rattle.joiner.specs.Job.{Point, Closed, Tables, sameStage}
 use Rattle.joiner.specs.Calls.{point}
-use Rattle.joiner.specs.Declines.{talliesFit, adds, refusal}
-use Rattle.pass_point.specs.Findings.{foundCells}
+use Rattle.joiner.specs.Declines.{adds, refusal}
 use Rattle.kind_numbers.specs.Numbered.{Numbered}
 use Rattle.job.specs.declared.Job.{Job}
-use Rattle.job.specs.Jobs.{blockLengths, kindLengths, stageOf, tablesOf, toldOf, jobOf, stateOf}
-use Rattle.judge.specs.declared.Entry.{Entry}
-use Rattle.judge.specs.Judge.{firstRefusal, reachedOf, entryOf, mapStandsIn, numberStandsIn}
-use Rattle.step_point.specs.declared.Plan.{Plan}
-use Rattle.step_point.specs.declared.Sizes.{Sizes}
+use Rattle.job.specs.Jobs.{stageOf, tablesOf, stateOf}
 
 -- The tables that a point step is lent. The others go unread.
 abbrev pub lent : List ℕ → List ℕ → List ℕ → List ℕ → List ℕ → List ℕ → List ℕ → List ℕ → Tables
 lent ticks blocks curves keys rows numbers firsts listed = tablesOf ticks blocks [] [] [] [] keys [] [] rows [] curves numbers [] [] firsts [] [] listed
-
--- Their lengths.
-abbrev pub sizesOf : List ℕ → List ℕ → List ℕ → List ℕ → List ℕ → List ℕ → List ℕ → List ℕ → Sizes
-sizesOf ticks blocks curves keys rows numbers firsts listed =
-    record {
-      ticks = length ticks;
-      blocks = length blocks;
-      curves = length curves;
-      keys = length keys;
-      rows = length rows;
-      numbers = length numbers;
-      firsts = length firsts;
-      listed = length listed;
-    }
-
--- ---- what is declined
-
--- 6 denies it: a map of n cells for a block of e voxels, the tables of so many blocks, and those of so many curves and points.
-unfoldable pub traysFit : ℕ → Triple → ℕ → ℕ → Sizes → ℕ → Bool
-traysFit count e curves points z n =
-    eqb n (cells e) &&
-    (lengthsFit (blockLengths count (z .ticks) (z .blocks)) &&
-    (lengthsFit (tray (z .curves) curves ∷ []) && lengthsFit (kindLengths 6 points (z .keys) (z .rows) (z .numbers) (z .firsts) (z .listed))))
-
--- How many points a block of e voxels has, by its entry and the curves' final numbers.
-unfoldable pub foundBy : Triple → Entry → List ℕ → List ℕ → ℕ
-foundBy e d curves m = length (foundCells e curves (d .«curve_from») m)
-
--- The final numbers of so many curves, from a place on, are 1 to `most`: the joiner's `curvesStand`.
-unfoldable pub curvesIn : List ℕ → ℕ → ℕ → ℕ → Bool
-curvesIn curves most from count = allOf (numberStandsIn curves most) (consecutive from count)
-
--- 8 denies it: the map keeps to its block's entry, and the block's curves have final numbers.
-unfoldable pub standIn : Triple → Entry → ℕ → ℕ → ℕ → List ℕ → List ℕ → Bool
-standIn e d all-faces all-curves most curves m = mapStandsIn e d all-faces all-curves m && curvesIn curves most (d .«curve_from») (d .curves)
-
--- The refusals from 8 on, of a map with so many points.
-unfoldable pub lateOf : joiner.Job → Triple → Entry → List ℕ → List ℕ → ℕ → ℕ
-lateOf j e d curves m found =
-    cond (not (talliesFit j && standIn e d (j .told .entries Face) (j .told .entries Curve) (j .numbered Curve) curves m)) 8
-    (cond (ltb (j .told .entries Point) (j .sofar Point + found)) 10 0)
-
--- The points of block b.
-unfoldable pub foundOf : Cutting → List ℕ → List ℕ → ℕ → List ℕ → ℕ
-foundOf k table curves b m = foundBy (blockExtents k b) (entryOf table b) curves m
-
--- The refusal, 0 for none: the joiner's `refusal`.
-unfoldable pub refusalOf : Job → List ℕ → List ℕ → List ℕ → List ℕ → Sizes → List ℕ → List ℕ → ℕ → List ℕ → ℕ
-refusalOf j cx cy cz ticks z table curves b m =
-    let k : Cutting = toldOf j cx cy cz .cutting in
-    firstRefusal (reachedOf (jobOf j cx cy cz) Points ticks b (6 * b + 5))
-    (cond (not (traysFit (blocks k) (blockExtents k b) (j .«curve_entries») (j .«point_entries») z (length m))) 6
-    (lateOf (jobOf j cx cy cz) (blockExtents k b) (entryOf table b) curves m (foundOf k table curves b m)))
-
--- A plan tells the refusal, and where it is 0 the points.
-pub record Plans (number found : ℕ) (r : Plan) : Type 0 where
-  pub told : r .refusal ≡ number
-  pub counted : number ≡ 0 → r .points ≡ found
-
--- ---- the act
 
 -- The step is not refused, and finds so many points.
 pub record Ready (j : Job) (cx cy cz : List ℕ) (t : Tables) (b : ℕ) (m : List ℕ) (points : ℕ) : Type 0 where

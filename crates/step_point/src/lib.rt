@@ -1,179 +1,29 @@
 // The point step of a job.
-use blocks::Block;
 use blocks::block_at;
-use blocks::block_count;
 use job::Job;
 use job::Stage;
-use job::block_trays;
-use job::entry_tray;
-use job::kind_trays;
 use job::same_stage;
-use job::tallies_fit;
-use judge::Entry;
+use judge::KindLengths;
+use judge::Lengths;
 use judge::advance;
 use judge::entry_of;
-use judge::map_fits;
-use judge::map_stands;
-use judge::number_stands;
-use judge::reached;
+use judge_point::judge_points;
 use kind_numbers::number_copied;
-use pass_point::count_points;
 use pass_point::store_points;
-use refusals::STRAY_LABEL;
-use refusals::TABLE_FULL;
-use refusals::WRONG_TRAY;
 ghost use mathlib.Core.Path.{_≡_};
 ghost use mathlib.Core.List.{[]};
 ghost use Prim.Native.Nat.{_+_, _*_, _≤_};
 ghost use lib.ListN.{length};
-ghost use Rattle.cells.specs.Extents.{Sized};
-ghost use Rattle.cells.specs.Grid.{cells};
 ghost use Rattle.joiner.specs.Calls.{point, answer};
 ghost use Rattle.joiner.specs.Entries.{PointDone, CallStep};
-ghost use Rattle.blocks.specs.Blocks.{sizeOf};
-ghost use Rattle.job.specs.Jobs.{anyCuts, jobOf, toldOf, stateOf};
-ghost use Rattle.step_point.specs.Inner.{lent, traysFit, curvesIn, standIn, foundBy, lateOf, foundOf, refusalOf, Plans, Ready, Closes};
+ghost use Rattle.job.specs.Jobs.{stateOf};
+ghost use Rattle.step_point.specs.Inner.{lent, Ready, Closes};
 
 // What a point step answers: the number of its refusal, 0 for none, and the job.
 pub struct Pointed {
     pub refusal: u32,
     pub job: Job,
 }
-
-// The lengths of the tables: the curves' final numbers, and the tables of points.
-struct Sizes {
-    ticks: usize,
-    blocks: usize,
-    curves: usize,
-    keys: usize,
-    rows: usize,
-    numbers: usize,
-    firsts: usize,
-    listed: usize,
-}
-
-// The number of the refusal, and the block's points where it is 0.
-struct Plan {
-    refusal: u32,
-    points: u32,
-}
-
-// ---- what is declined
-
-// Whether a map of this length and the tables have the stated lengths.
-fn trays_fit(count: usize, block: Block, job: Job, sizes: Sizes, length: usize) -> bool
-    requires { ⌜ (count ≤ 16384) × Sized 64 (sizeOf block) ⌝ }
-    ensures { λ r. ⌜ r ≡ traysFit count (sizeOf block) (job .«curve_entries») (job .«point_entries») sizes length ⌝ }
-{
-    if !map_fits(block, length) {
-        return false;
-    }
-    if !block_trays(count, sizes.ticks, sizes.blocks) {
-        return false;
-    }
-    if !entry_tray(job.curve_entries, sizes.curves) {
-        return false;
-    }
-    kind_trays(
-        6,
-        job.point_entries,
-        sizes.keys,
-        sizes.rows,
-        sizes.numbers,
-        sizes.firsts,
-        sizes.listed,
-    )
-}
-
-// The plan of a refused step.
-fn refused(number: u32) -> Plan
-    ensures { λ r. ⌜ r .refusal ≡ number ⌝ }
-{
-    Plan {
-        refusal: number,
-        points: 0,
-    }
-}
-
-// Whether the final number of each of the block's curves is one of the closed table's.
-fn numbers_stand(curves: &[u32], most: u32, from: u32, count: u32) -> bool
-    ensures { λ r. ⌜ r ≡ curvesIn (now (curves .entry)) most from count ⌝ }
-{
-    let start = from as usize;
-    let n = count as usize;
-    let mut i: usize = 0;
-    while i < n {
-        if !number_stands(curves, most, start + i) {
-            return false;
-        }
-        i += 1;
-    }
-    true
-}
-
-// Whether the map keeps to its block's entry, and the block's curves have final numbers.
-fn stand(job: Job, block: Block, entry: Entry, curves: &[u32], m: &[u32]) -> bool
-    requires { ⌜ Sized 64 (sizeOf block) × (length (now m) ≡ cells (sizeOf block)) ⌝ }
-    ensures { λ r. ⌜ r ≡ standIn (sizeOf block) entry (job .«face_entries») (job .«curve_entries») (job .«numbered_curves») (now (curves .entry)) (now (m .entry)) ⌝ }
-{
-    if !map_stands(m, block, entry, job.face_entries, job.curve_entries) {
-        return false;
-    }
-    numbers_stand(curves, job.numbered_curves, entry.curve_from, entry.curves)
-}
-
-// The plan by the tallies, the map and the curves' final numbers. The points are counted before anything is stored.
-fn late(job: Job, block: Block, entry: Entry, curves: &[u32], m: &[u32]) -> Plan
-    requires { ⌜ Sized 64 (sizeOf block) × (length (now m) ≡ cells (sizeOf block)) ⌝ }
-    ensures { λ r. ⌜ anyCuts (λ cx cy cz. Plans (lateOf (jobOf job cx cy cz) (sizeOf block) entry (now (curves .entry)) (now (m .entry)) (foundBy (sizeOf block) entry (now (curves .entry)) (now (m .entry))))
-        (foundBy (sizeOf block) entry (now (curves .entry)) (now (m .entry))) r) ⌝ }
-{
-    if !tallies_fit(job) {
-        return refused(STRAY_LABEL);
-    }
-    if !stand(job, block, entry, curves, m) {
-        return refused(STRAY_LABEL);
-    }
-    let points = count_points(m, block.nx, block.ny, block.nz, curves, entry.curve_from);
-    if job.points as u64 + points as u64 > job.point_entries as u64 {
-        return refused(TABLE_FULL);
-    }
-    Plan {
-        refusal: 0,
-        points: points,
-    }
-}
-
-// The plan: the lowest refusal that applies, and 0 for none; then the block's points too.
-fn judge(
-    job: Job,
-    cx: &[u32],
-    cy: &[u32],
-    cz: &[u32],
-    ticks: &[u32],
-    sizes: Sizes,
-    table: &[u32],
-    curves: &[u32],
-    b: u32,
-    m: &[u32],
-) -> Plan
-    ensures { λ r. ⌜ Plans (refusalOf job (now (cx .entry)) (now (cy .entry)) (now (cz .entry)) (now (ticks .entry)) sizes (now (table .entry)) (now (curves .entry)) b (now (m .entry)))
-        (foundOf (toldOf job (now (cx .entry)) (now (cy .entry)) (now (cz .entry)) .cutting) (now (table .entry)) (now (curves .entry)) b (now (m .entry))) r ⌝ }
-{
-    let step = 6 * b as usize + 5;
-    let number = reached(job, cx, cy, cz, ticks, Stage::Points, b, step);
-    if number != 0 {
-        return refused(number);
-    }
-    let block = block_at(cx, cy, cz, b as usize);
-    let count = block_count(cx, cy, cz);
-    if !trays_fit(count, block, job, sizes, m.len()) {
-        return refused(WRONG_TRAY);
-    }
-    late(job, block, entry_of(table, b), curves, m)
-}
-
-// ---- what is stored
 
 // Numbers the n points of a job that is closed. In any other stage nothing changes.
 fn close(
@@ -274,17 +124,49 @@ pub fn point(
         (lent (now (ticks .exit)) (now (blocks .entry)) (now («curve_numbers» .entry)) (now («point_keys» .exit)) (now («point_rows» .exit)) (now («point_numbers» .exit))
         (now («point_firsts» .exit)) (now («point_listed» .exit)))) ⌝ }
 {
-    let has = Sizes {
+    let none = KindLengths {
+        faces: 0,
+        curves: 0,
+        points: 0,
+    };
+    let lengths = Lengths {
         ticks: ticks.len(),
         blocks: blocks.len(),
-        curves: curve_numbers.len(),
-        keys: point_keys.len(),
-        rows: point_rows.len(),
-        numbers: point_numbers.len(),
-        firsts: point_firsts.len(),
-        listed: point_listed.len(),
+        links: none,
+        keys: KindLengths {
+            points: point_keys.len(),
+            ..none
+        },
+        rows: KindLengths {
+            points: point_rows.len(),
+            ..none
+        },
+        numbers: KindLengths {
+            faces: 0,
+            curves: curve_numbers.len(),
+            points: point_numbers.len(),
+        },
+        firsts: KindLengths {
+            points: point_firsts.len(),
+            ..none
+        },
+        listed: KindLengths {
+            points: point_listed.len(),
+            ..none
+        },
     };
-    let plan = judge(job, cx, cy, cz, ticks, has, blocks, curve_numbers, block, m);
+    let plan = judge_points(
+        job,
+        cx,
+        cy,
+        cz,
+        ticks,
+        lengths,
+        blocks,
+        curve_numbers,
+        block,
+        m,
+    );
     if plan.refusal != 0 {
         return Pointed {
             refusal: plan.refusal,

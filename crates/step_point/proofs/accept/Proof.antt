@@ -21,23 +21,38 @@ entry-of-requires c κs = search needs
 
 advance-requires : tie.Need-advance-requires
 advance-requires c κs =
+    let back4 = c .before .before .before .before in
+    let back8 = back4 .before .before .before .before in
+    let back12 = back8 .before .before .before .before in
     accept-advance _ _ _ _ _ _ _ _ _ _ _ _ _ _ _
-    (c .before .before .before .before .before .before .before .before .before .before .before .before .before .before .before .before .pre)
+    (back12 .before .before .before .before .pre)
 
 store-points-requires : tie.Need-store-points-requires
 store-points-requires c κs =
+    let back4 = c .before .before .before .before in
+    let back8 = back4 .before .before .before .before in
+    let back12 = back8 .before .before .before .before in
+    let back16 = back12 .before .before .before .before in
+    let back20 = back16 .before .before .before .before in
     accept-store _ _ _ _ _ _ _ _ _ _ _ _ _ _ _
-    (c .before .before .before .before .before .before .before .before .before .before .before .before .before .before .before .before .before .before .before .before .before .pre) _
-    (c .before .before .before .before .before .before .before .block-at .ensures) _ (c .before .before .before .before .before .before .entry-of .ensures)
+    (back20 .before .pre) _
+    (back4 .before .before .before .block-at .ensures) _ (back4 .before .before .entry-of .ensures)
 
 close-requires : tie.Need-close-requires
 close-requires c κs =
+    let back4 = c .before .before .before .before in
+    let back8 = back4 .before .before .before .before in
+    let back12 = back8 .before .before .before .before in
+    let back16 = back12 .before .before .before .before in
+    let back20 = back16 .before .before .before .before in
+    let back24 = back20 .before .before .before .before in
+    let back28 = back24 .before .before .before .before in
     accept-close _ _ _ _ _ _ _ _ _ _ _ _ _ _ _
-    (c .before .before .before .before .before .before .before .before .before .before .before .before .before .before .before .before .before .before .before .before .before .before .before .before .before .before .before .before .before .before .before .pre) _
-    (c .before .before .before .before .before .before .before .before .before .before .before .before .before .before .before .before .before .block-at .ensures) _
-    (c .before .before .before .before .before .before .before .before .before .before .before .before .before .before .before .before .entry-of .ensures) _ _
-    (c .before .before .before .before .before .before .before .before .before .before .before .before .before .before .advance .ensures) _
-    (c .before .before .before .before .before .before .before .before .before .store-points .ensures .0)
+    (back28 .before .before .before .pre) _
+    (back16 .before .block-at .ensures) _
+    (back12 .before .before .before .before .entry-of .ensures) _ _
+    (back12 .before .before .advance .ensures) _
+    (back8 .before .store-points .ensures .0)
 
 same-length : tie.Need-same-length
 same-length c = search needs
@@ -59,13 +74,22 @@ same-length-6 c = search needs
 
 returns : tie.Need-returns
 returns c =
+    let back4 = c .before .before .before .before in
+    let back8 = back4 .before .before .before .before in
+    let back12 = back8 .before .before .before .before in
+    let back16 = back12 .before .before .before .before in
+    let back20 = back16 .before .before .before .before in
+    let back24 = back20 .before .before .before .before in
+    let back28 = back24 .before .before .before .before in
+    let back32 = back28 .before .before .before .before in
+    let back36 = back32 .before .before .before .before in
     accept-done _ _ _ _ _ _ _ _ _ _ _ _ _ _ _
-    (c .before .before .before .before .before .before .before .before .before .before .before .before .before .before .before .before .before .before .before .before .before .before .before .before .before .before .before .before .before .before .before .before .before .before .before .before .before .before .pre) _
-    (c .before .before .before .before .before .before .before .before .before .before .before .before .before .before .before .before .before .before .before .before .before .before .before .before .block-at .ensures) _
-    (c .before .before .before .before .before .before .before .before .before .before .before .before .before .before .before .before .before .before .before .before .before .before .before .entry-of .ensures) _ _
-    (c .before .before .before .before .before .before .before .before .before .before .before .before .before .before .before .before .before .before .before .before .before .advance .ensures) _
-    (c .before .before .before .before .before .before .before .before .before .before .before .before .before .before .before .before .store-points .ensures .0) _
-    (c .before .before .before .before .before .before .before .before .before .before .before .before .before .before .before .before .store-points .ensures .1) _ _ _ _ (c .before .before .before .before .before .before .close .ensures)
+    (back36 .before .before .pre) _
+    (back20 .before .before .before .before .block-at .ensures) _
+    (back20 .before .before .before .entry-of .ensures) _ _
+    (back20 .before .advance .ensures) _
+    (back12 .before .before .before .before .store-points .ensures .0) _
+    (back12 .before .before .before .before .store-points .ensures .1) _ _ _ _ (back4 .before .before .close .ensures)
 
 pub accept-spec : {M : Type 1} → statement M
 accept-spec =

@@ -4,21 +4,29 @@ use Rattle.step_point.proofs.DoneLaws.{point-refused, point-ready, poin
 use Rattle.step_point.proofs.point.Statement.{statement}
 use Rattle.step_point.proofs.point.Tie as tie
 
-judge-requires : tie.Need-judge-requires
-judge-requires c κs = search needs
+judge-points-requires : tie.Need-judge-points-requires
+judge-points-requires c κs = search needs
 
 same-length : tie.Need-same-length
 same-length c = search needs
 
 returns : tie.Need-returns
 returns c =
-    point-refused (c .before .before .before .before .before .before .before .before .before .before .before .before .before .before .before .before .args .job) _ _ _ _ _ _ _ _ _ _ _ _ _ _
-    (c .before .before .judge .ensures) (c .if1 .taken)
+    let back4 = c .before .before .before .before in
+    let back8 = back4 .before .before .before .before in
+    let back12 = back8 .before .before .before .before in
+    point-refused (back12 .before .before .before .before .args .job) _ _ _ _ _ _ _ _ _ _ _ _ _ _
+    (c .before .before .judge-points .ensures) (c .if1 .taken)
 
 accept-requires : tie.Need-accept-requires
 accept-requires c κs =
-    point-ready (c .before .before .before .before .before .before .before .before .before .before .before .before .before .before .before .before .before .before .before .before .before .before .args .job) _ _ _ _ _ _ _ _ _ _ _ _ _ _
-    (c .before .before .before .before .before .before .before .before .judge .ensures) (c .before .before .before .before .before .before .if1 .left)
+    let back4 = c .before .before .before .before in
+    let back8 = back4 .before .before .before .before in
+    let back12 = back8 .before .before .before .before in
+    let back16 = back12 .before .before .before .before in
+    let back20 = back16 .before .before .before .before in
+    point-ready (back20 .before .before .args .job) _ _ _ _ _ _ _ _ _ _ _ _ _ _
+    (back4 .before .before .before .before .judge-points .ensures) (back4 .before .before .if1 .left)
 
 same-length-2 : tie.Need-same-length-2
 same-length-2 c = search needs
@@ -40,16 +48,24 @@ same-length-7 c = search needs
 
 returns-2 : tie.Need-returns-2
 returns-2 c =
-    point-accepted (c .before .before .before .before .before .before .before .before .before .before .before .before .before .before .before .before .before .before .before .before .before .before .before .before .before .before .before .before .before .before .before .before .before .before .before .args .job) _ _ _ _ _ _ _ _ _ _ _ _ _ _
-    (c .before .before .before .before .before .before .before .before .before .before .before .before .before .before .before .before .before .before .before .before .before .judge .ensures)
-    (c .before .before .before .before .before .before .before .before .before .before .before .before .before .before .before .before .before .before .before .if1 .left) _
-    (c .before .before .before .before .before .before .before .before .before .before .before .before .accept .ensures)
+    let back4 = c .before .before .before .before in
+    let back8 = back4 .before .before .before .before in
+    let back12 = back8 .before .before .before .before in
+    let back16 = back12 .before .before .before .before in
+    let back20 = back16 .before .before .before .before in
+    let back24 = back20 .before .before .before .before in
+    let back28 = back24 .before .before .before .before in
+    let back32 = back28 .before .before .before .before in
+    point-accepted (back32 .before .before .before .args .job) _ _ _ _ _ _ _ _ _ _ _ _ _ _
+    (back20 .before .judge-points .ensures)
+    (back16 .before .before .before .if1 .left) _
+    (back8 .before .before .before .before .accept .ensures)
 
 pub point-spec : {M : Type 1} → statement M
 point-spec =
     tie.close
     (tie.spec
-    judge-requires
+    judge-points-requires
     same-length
     returns
     accept-requires

@@ -1,4 +1,4 @@
--- `step_point::numbers_stand` meets its contract. The invariant: what is left to test has the answer of all. The measure is what is left.
+-- `judge_point::numbers_stand` meets its contract. The invariant: what is left to test has the answer of all. The measure is what is left.
 use Prim.Native.Nat.{_+_, _-_, _≤_}
 use mathlib.Core.Path.{_≡_, _∙_, sym}
 use native.Mathlib.Omega.{arith}
@@ -7,9 +7,9 @@ use borrow.Author.Tests.{not-true, not-false}
 use Rattle.lists.specs.Lists.{consecutive, allOf}
 use Rattle.union_find.proofs.SoundLaws.{test-same, test-passed, test-failed, test-none}
 use Rattle.judge.specs.Judge.{numberStandsIn}
-use Rattle.step_point.specs.Inner.{curvesIn}
-use Rattle.step_point.proofs.numbers_stand.Statement.{statement}
-use Rattle.step_point.proofs.numbers_stand.Tie as tie
+use Rattle.judge_point.specs.Tests.{curvesIn}
+use Rattle.judge_point.proofs.numbers_stand.Statement.{statement}
+use Rattle.judge_point.proofs.numbers_stand.Tie as tie
 
 abbrev Inv-loop : tie.InvT-loop
 Inv-loop curves most from count start n i₀ i = (i ≤ n) × (allOf (numberStandsIn curves most) (consecutive (start + i) (n - i)) ≡ curvesIn curves most start n)
