@@ -1,3 +1,2 @@
--- The laws that the proofs cite.
-pub mod StrainingLaws
+-- The laws of the crate.
 pub mod DoneLaws

@@ -1,6 +1,6 @@
 -- `step_strain::accept` meets its contract.
 use borrow.Author.Needs.{needs}
-use Rattle.step_strain.proofs.StrainingLaws.{accept-whole, accept-stored}
+use Rattle.step_strain.proofs.DoneLaws.{accept-whole, accept-stored}
 use Rattle.step_strain.proofs.accept.Statement.{statement}
 use Rattle.step_strain.proofs.accept.Tie as tie
 
@@ -21,8 +21,11 @@ slice-write-came c = search needs
 
 sum-block-requires : tie.Need-sum-block-requires
 sum-block-requires c κs =
-    let a = c .before .before .before .before .before .before .before .before .before .before .before .before .before .before .before .before .args in
-    accept-whole _ _ _ (c .before .before .before .before .block-at .ensures (a .job .nx) (a .job .ny) (a .job .nz)) _ _ _ _ (c .before .before .before .before .before .before .before .before .before .before .before .before .before .before .before .before .pre)
+    let back4 = c .before .before .before .before in
+    let back8 = back4 .before .before .before .before in
+    let back12 = back8 .before .before .before .before in
+    let a = back12 .before .before .before .before .args in
+    accept-whole _ _ _ (c .before .before .before .before .block-at .ensures (a .job .nx) (a .job .ny) (a .job .nz)) _ _ _ _ (back12 .before .before .before .before .pre)
 
 same-length : tie.Need-same-length
 same-length c = search needs
@@ -35,9 +38,14 @@ same-length-3 c = search needs
 
 returns : tie.Need-returns
 returns c =
-    let a = c .before .before .before .before .before .before .before .before .before .before .before .before .before .before .before .before .before .before .before .before .before .args in
-    accept-stored _ _ _ (c .before .before .before .before .before .before .before .before .before .block-at .ensures (a .job .nx) (a .job .ny) (a .job .nz)) _ _ _ _ _ _ _ _ _ (c .before .before .before .before .before .before .before .before .entry-of .ensures) _
-    (c .before .before .before .before .before .before .before .starts-of .ensures (a .job .nx) (a .job .ny) (a .job .nz) _) _ (c .before .before .before .before .sum-block .ensures .0) _ (c .before .before .before .before .sum-block .ensures .1)
+    let back4 = c .before .before .before .before in
+    let back8 = back4 .before .before .before .before in
+    let back12 = back8 .before .before .before .before in
+    let back16 = back12 .before .before .before .before in
+    let back20 = back16 .before .before .before .before in
+    let a = back20 .before .args in
+    accept-stored _ _ _ (back8 .before .block-at .ensures (a .job .nx) (a .job .ny) (a .job .nz)) _ _ _ _ _ _ _ _ _ (back4 .before .before .before .before .entry-of .ensures) _
+    (back4 .before .before .before .starts-of .ensures (a .job .nx) (a .job .ny) (a .job .nz) _) _ (c .before .before .before .before .sum-block .ensures .0) _ (c .before .before .before .before .sum-block .ensures .1)
 
 pub accept-spec : {M : Type 1} → statement M
 accept-spec =

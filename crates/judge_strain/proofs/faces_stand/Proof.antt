@@ -1,4 +1,4 @@
--- `step_strain::faces_stand` meets its contract. The invariant: what is left to test has the answer of all. The measure is what is left.
+-- `judge_strain::faces_stand` meets its contract. The invariant: what is left to test has the answer of all. The measure is what is left.
 use Prim.Native.Nat.{_+_, _-_, _≤_}
 use mathlib.Core.Path.{_≡_, _∙_, sym}
 use native.Mathlib.Omega.{arith}
@@ -6,9 +6,9 @@ use borrow.Author.Needs.{needs}
 use borrow.Author.Tests.{not-true, not-false}
 use Rattle.lists.specs.Lists.{consecutive, allOf}
 use Rattle.union_find.proofs.SoundLaws.{test-same, test-passed, test-failed, test-none}
-use Rattle.step_strain.specs.Inner.{faceIn, facesIn}
-use Rattle.step_strain.proofs.faces_stand.Statement.{statement}
-use Rattle.step_strain.proofs.faces_stand.Tie as tie
+use Rattle.judge_strain.specs.Tests.{faceIn, facesIn}
+use Rattle.judge_strain.proofs.faces_stand.Statement.{statement}
+use Rattle.judge_strain.proofs.faces_stand.Tie as tie
 
 abbrev Inv-loop : tie.InvT-loop
 Inv-loop numbers most cells sums counts from count start n i₀ i =

@@ -1,8 +1,8 @@
--- `step_strain::face_stands` meets its contract.
+-- `judge_strain::face_stands` meets its contract.
 use borrow.Author.Needs.{needs}
-use Rattle.step_strain.proofs.StrainingLaws.{face-none, face-some, face-held, face-both}
-use Rattle.step_strain.proofs.face_stands.Statement.{statement}
-use Rattle.step_strain.proofs.face_stands.Tie as tie
+use Rattle.judge_strain.proofs.TestLaws.{face-none, face-some, face-held, face-both}
+use Rattle.judge_strain.proofs.face_stands.Statement.{statement}
+use Rattle.judge_strain.proofs.face_stands.Tie as tie
 
 number-stands-requires : tie.Need-number-stands-requires
 number-stands-requires c κs = search needs

@@ -1,8 +1,8 @@
--- `step_strain::late` meets its contract.
+-- `judge_strain::late` meets its contract.
 use borrow.Author.Needs.{needs}
-use Rattle.step_strain.proofs.StrainingLaws.{late-lists, late-8, late-12, late-0}
-use Rattle.step_strain.proofs.late.Statement.{statement}
-use Rattle.step_strain.proofs.late.Tie as tie
+use Rattle.judge_strain.proofs.TestLaws.{late-lists, late-8, late-12, late-0}
+use Rattle.judge_strain.proofs.late.Statement.{statement}
+use Rattle.judge_strain.proofs.late.Tie as tie
 
 stand-requires : tie.Need-stand-requires
 stand-requires c κs = search needs

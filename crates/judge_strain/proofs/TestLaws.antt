@@ -1,37 +1,40 @@
--- The ways of the functions of the readings' step, over plain lists and numbers.
+-- The ways of the tests of the readings' step, and that they are those of the definition.
 -- Assumes nothing.
-use mathlib.Core.Path.{_≡_, refl, sym, _∙_}
-use mathlib.Core.Bool.{Bool, true, false, not, _&&_}
-use mathlib.Core.List.{List, [], _∷_}
-use Prim.Native.Nat.{ℕ, _*_, _≤_, _<_}
+use mathlib.Core.Path.{_≡_, refl, sym, _∙_, ap}
+use mathlib.Core.Bool.{Bool, true, false, not, _&&_, cond}
+use mathlib.Core.List.{List, [], _∷_, _++_}
+use Prim.Native.Nat.{ℕ, _*_, _≤_, _<_, _+_}
 use native.Mathlib.Omega.{arith}
 use lib.Dec.{eqb, leb, ltb}
-use lib.ListN.{getD, length, set}
+use lib.ListN.{getD, length}
 use lib.Ieee.{Float}
 use borrow.Author.Tests.{eqb-true, eq-eqb, ne-eqb, leb-true, ltb-true, not-true, not-false}
 use Rattle.lists.proofs.Cases.{and-first, and-second}
 use Rattle.cells.specs.Box.{Triple, triple, volume}
-use Rattle.cells.specs.Extents.{Sized}
+use Rattle.cells.specs.Extents.{Sized, offSize}
 use Rattle.cells.specs.Grid.{cells}
-use Rattle.cutting.specs.Cutting.{Cutting, intervals, blocks, blockExtents}
-use Rattle.joiner.specs.Job.{Face, Closed, tray, lengthsFit}
-use Rattle.joiner.specs.Declines.{talliesFit}
+use Rattle.cutting.specs.Cutting.{Cutting, intervals, blocks, blockExtents, goodCut}
+use Rattle.joiner.specs.Job.{Face, Closed, tray, lengthsFit, Tables, State, sameStage, countOf, fromOf, numberTrays}
+use Rattle.joiner.specs.Declines.{talliesFit, mapStands, numberStands}
 use Rattle.joiner.proofs.Passed.{fits-at, numbered-fits}
 use Rattle.blocks.specs.Blocks.{Tells, sizeOf, anyExtents}
 use Rattle.blocks.specs.declared.Block.{Block}
 use Rattle.job.specs.declared.Job.{Job}
-use Rattle.job.specs.Jobs.{anyCuts, jobOf, toldOf, totalLengths}
+use Rattle.job.specs.Jobs.{anyCuts, jobOf, toldOf, totalLengths, stateOf}
 use Rattle.judge.specs.declared.Entry.{Entry}
-use Rattle.judge.specs.Judge.{reachedOf, entryOf, mapStandsIn, numberStandsIn}
-use Rattle.judge.proofs.JudgeLaws.{or-first, or-then, reached-passed, FirstTests, few-of, count-few, block-sized}
-use Rattle.totals.specs.Totals.{Holds, bothStand, readingsFit, sumsWith, countsWith}
+use Rattle.judge.specs.Judge.{reachedOf, entryOf, mapStandsIn, numberStandsIn, firstRefusal, openedOf}
+use Rattle.judge.proofs.JudgeLaws.{or-first, or-then, reached-passed, FirstTests, few-of, count-few, block-sized, stands-is}
+use Rattle.totals.specs.Totals.{Holds, bothStand, readingsFit}
 use Rattle.totals.proofs.TotalLaws.{fewer-held}
-use Rattle.lowest.specs.Lowest.{starts, startOf}
-use Rattle.lowest.specs.declared.Start.{Start}
-use Rattle.pass_strain.specs.Summing.{brought, blockTaken, Whole}
-use Rattle.strain_calls.specs.Tables.{totalTables}
-use Rattle.step_strain.specs.declared.Sizes.{Sizes}
-use Rattle.step_strain.specs.Inner.{sizesOf, listsIn, traysFit, faceIn, facesIn, standIn, lateOf, refusalOf, Ready, addsIn, storedIn}
+use Rattle.pass_strain.specs.Summing.{Whole}
+use Rattle.strain_calls.specs.Tables.{totalTables, TotalTables, totalTrays}
+use Rattle.judge_strain.specs.declared.Sizes.{Sizes}
+use Rattle.judge_strain.specs.Tests.{sizesOf, listsIn, traysFit, faceIn, facesIn, standIn, lateOf, refusalOf}
+use Rattle.refusals.specs.Refusals.{number, table, first, givenBy, standsIn}
+use Rattle.job.proofs.JobLaws.{fits-append}
+use Rattle.stages.specs.Ticks.{tickedIn}
+use Rattle.strain_calls.specs.Calls.{strain, listsFit}
+use Rattle.strain_calls.specs.Declines.{hasCome, lentFor, totalStands, faceStands, facesStand, strainDeclines, strainRefusal}
 
 -- ---- the lengths
 
@@ -200,17 +203,57 @@ module _ (j : Job) (cx cy cz table numbers came : List ℕ) (sums : List Float) 
     unfolding refusalOf
     judge-late w d f p L = rw (← e, sym trays-told ∙ not-false t w) (or-then n _ p q (rw (f, size-is) at (L cx cy cz)))
 
--- ---- the act
+-- ---- the tests are those of the definition
 
-module _ (k : Cutting) (b : ℕ) (r : Block) (T : Tells k b r) (m : List ℕ) (values : List Float) (kinds : List ℕ) where
-  -- what `sum_block` requires
-  pub accept-whole : (came : List ℕ) → Ready k came b m values kinds → Whole (sizeOf r) m values kinds
-  accept-whole came R = rw (T .size) (R .whole)
+ladder : (a b c d e f g h : Bool)
+    → _≡_ {A = ℕ} (cond a 1 (cond (not b) 2 (cond (not c) 3 (cond (not d) 4 (cond e 5 (cond (not f) 6 (cond (not g) 8 (cond (not h) 12 0))))))))
+    (firstRefusal (firstRefusal (cond a 1 (cond (not b) 2 (cond (not c) 3 0))) (cond (not d) 4 (cond e 5 0))) (cond (not f) 6 (cond (not g) 8 (cond (not h) 12 0))))
+unfolding firstRefusal
+ladder true b c d e f g h = refl
+ladder false false c d e f g h = refl
+ladder false true false d e f g h = refl
+ladder false true true false e f g h = refl
+ladder false true true true true f g h = refl
+ladder false true true true false f g h = refl
 
-  -- what is left
-  pub accept-stored : (table numbers came : List ℕ) (sums : List Float) (counts : List ℕ) (d : Entry) → d ≡ entryOf table b → (s : Start) → startOf s ≡ starts k b
-      → (sums′ : List Float) → sums′ ≡ sumsWith sums (blockTaken (sizeOf r) (startOf s) (brought m numbers (d .«face_from») values kinds))
-      → (counts′ : List ℕ) → counts′ ≡ countsWith counts (blockTaken (sizeOf r) (startOf s) (brought m numbers (d .«face_from») values kinds))
-      → totalTables (set came b 1) sums′ counts′ ≡ storedIn k table numbers (totalTables came sums counts) b m values kinds
-  unfolding storedIn addsIn
-  accept-stored table numbers came sums counts d f s a sums′ p counts′ q = rw (p, q, T .size, a, f)
+module _ (j : Job) (cx cy cz came : List ℕ) (sums : List Float) (counts : List ℕ) (b : ℕ) (m : List ℕ) (values : List Float) (kinds : List ℕ) (t : Tables) where
+  abbrev cut-of : Cutting
+  cut-of = toldOf j cx cy cz .cutting
+
+  abbrev before : State
+  before = stateOf j cx cy cz t
+
+  abbrev w : TotalTables
+  w = totalTables came sums counts
+
+  come-is : hasCome w b ≡ tickedIn came b
+  unfolding hasCome tickedIn
+  come-is = refl
+
+  trays-is : (listsFit cut-of (strain b m values kinds) && lengthsFit (lentFor (before .job .told) t w (strain b m values kinds)))
+      ≡ traysFit (blocks cut-of) (blockExtents cut-of b) (j .«face_entries») (sizesOf m values kinds (t .blocks) (t .numbers Face) w)
+  unfolding numberTrays totalTrays traysFit listsIn
+  trays-is =
+      let o = before .job .told in
+      ap (λ (x : Bool). listsFit cut-of (strain b m values kinds) && x)
+      (fits-append (tray (length (t .blocks)) (5 * blocks cut-of) ∷ []) (numberTrays o t Face ++ totalTrays o w) ∙
+      ap (λ (x : Bool). lengthsFit (tray (length (t .blocks)) (5 * blocks cut-of) ∷ []) && x) (fits-append (numberTrays o t Face) (totalTrays o w)))
+
+  faces-is : facesStand before w b
+      ≡ facesIn (t .numbers Face) (j .«numbered_faces») (cells (cut-of .extents)) sums counts (entryOf (t .blocks) b .«face_from») (entryOf (t .blocks) b .faces)
+  unfolding facesStand faceStands totalStands facesIn faceIn numberStands numberStandsIn fromOf countOf entryOf
+  faces-is = rw (let q : 5 * b + 0 ≡ 5 * b = omega arith in q)
+
+  stand-is : (talliesFit (before .job) && (mapStands before (blockExtents cut-of b) b m && facesStand before w b))
+      ≡ standIn (jobOf j cx cy cz) (blockExtents cut-of b) (entryOf (t .blocks) b) (t .numbers Face) sums counts m
+  unfolding standIn
+  stand-is = rw (stands-is before (blockExtents cut-of b) b m, faces-is)
+
+  -- The refusal is that of the definition, which reads nothing else of the joiner's tables.
+  pub refusal-is : strainRefusal before w (strain b m values kinds) ≡ refusalOf (jobOf j cx cy cz) (t .blocks) (t .numbers Face) w b m values kinds
+  unfolding strainRefusal strainDeclines givenBy first table number standsIn refusalOf lateOf reachedOf openedOf
+  refusal-is =
+      rw (come-is, trays-is, stand-is)
+      (ladder (offSize 1024 (cut-of .extents)) (goodCut cut-of) (sameStage (before .job .stage) Closed) (ltb b (blocks cut-of)) (tickedIn came b)
+      (traysFit (blocks cut-of) (blockExtents cut-of b) (j .«face_entries») (sizesOf m values kinds (t .blocks) (t .numbers Face) w))
+      (standIn (jobOf j cx cy cz) (blockExtents cut-of b) (entryOf (t .blocks) b) (t .numbers Face) sums counts m) (readingsFit values kinds))

@@ -1,9 +1,9 @@
--- `step_strain::trays_fit` meets its contract.
+-- `judge_strain::trays_fit` meets its contract.
 use borrow.Author.Needs.{needs}
 use Rattle.job.proofs.JobLaws.{and-here, and-next}
-use Rattle.step_strain.specs.Inner.{traysFit}
-use Rattle.step_strain.proofs.trays_fit.Statement.{statement}
-use Rattle.step_strain.proofs.trays_fit.Tie as tie
+use Rattle.judge_strain.specs.Tests.{traysFit}
+use Rattle.judge_strain.proofs.trays_fit.Statement.{statement}
+use Rattle.judge_strain.proofs.trays_fit.Tie as tie
 
 lists-fit-requires : tie.Need-lists-fit-requires
 lists-fit-requires c κs = search needs

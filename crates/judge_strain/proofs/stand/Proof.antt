@@ -1,8 +1,8 @@
--- `step_strain::stand` meets its contract.
+-- `judge_strain::stand` meets its contract.
 use borrow.Author.Needs.{needs}
-use Rattle.step_strain.proofs.StrainingLaws.{stand-tallies, stand-map, stand-held, stand-faces}
-use Rattle.step_strain.proofs.stand.Statement.{statement}
-use Rattle.step_strain.proofs.stand.Tie as tie
+use Rattle.judge_strain.proofs.TestLaws.{stand-tallies, stand-map, stand-held, stand-faces}
+use Rattle.judge_strain.proofs.stand.Statement.{statement}
+use Rattle.judge_strain.proofs.stand.Tie as tie
 
 tallies-fit-requires : tie.Need-tallies-fit-requires
 tallies-fit-requires c κs = search needs
