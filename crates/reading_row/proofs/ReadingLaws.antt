@@ -2,7 +2,7 @@
 -- Assumes nothing.
 use mathlib.Core.Path.{_≡_, refl, sym, ap, _∙_}
 use mathlib.Core.Bool.{Bool, true, false, not, cond, _&&_, and-true}
-use mathlib.Core.List.{List, [], _++_}
+use mathlib.Core.List.{List, []}
 use Prim.Native.Nat.{ℕ, suc, _+_, _-_, _*_, _≤_, _<_}
 use native.Mathlib.Nat.{mul-le-mul-left, mul-suc}
 use native.Mathlib.Omega.{arith}
@@ -11,7 +11,7 @@ use lib.ListN.{length, take, drop}
 use borrow.Author.Tests.{leb-true, ltb-true, lt-ltb, le-ltb}
 use Rattle.lists.proofs.Cases.{and-first, and-second}
 use Rattle.refusals.specs.Refusals.{number, table, first, givenBy, standsIn}
-use Rattle.joiner.specs.Job.{Face, Curve, Point, State, width, lengthsFit, listedTrays}
+use Rattle.joiner.specs.Job.{Face, Curve, Point, State, width, listedTrays}
 use Rattle.joiner.specs.Job as joiner
 use Rattle.joiner.specs.Calls.{Call, reading, answer}
 use Rattle.joiner.specs.Declines.{adds, declines, lentTo, refusal, standsFor, talliesFit, tallyFits}
@@ -19,10 +19,11 @@ use Rattle.joiner.specs.Entries.{CallStep, rowTaken}
 use Rattle.joiner.proofs.Passed.{Passed, passed, fits-at, numbered-fits}
 use Rattle.job.specs.declared.Job.{Job}
 use Rattle.job.specs.Jobs.{jobOf, stateOf, anyCuts}
-use Rattle.job.proofs.JobLaws.{cond-not-here, cond-not-next, fits-append}
-use Rattle.judge.proofs.JudgeLaws.{late-none, step-refused, step-accepted}
+use Rattle.job.proofs.JobLaws.{cond-not-here, cond-not-next}
+use Rattle.judge.specs.Judge.{lengthsOf}
+use Rattle.judge.proofs.JudgeLaws.{lent-is, late-none, step-refused, step-accepted}
 use Rattle.reading_row.specs.declared.Kind.{Kind}
-use Rattle.reading_row.specs.Inner.{kindOf, lent, sizesOf, numberedOf, traysFit, refusalOf, HasRow, rowIn}
+use Rattle.reading_row.specs.Inner.{kindOf, lent, numberedOf, refusalOf, HasRow, rowIn}
 
 -- ---- the ways of the functions
 
@@ -60,9 +61,6 @@ module _ (kind : Kind) (n : ℕ) (faces curves points : List ℕ) (κ : Kind) (e
   pub row-same : (x : List ℕ) → x ≡ rowIn κ n faces curves points → x ≡ rowIn kind n faces curves points
   row-same x q = rw e q
 
--- ---- tallies
-
--- No more is numbered than there are entries.
 -- ---- the tests by lengths are the joiner's
 
 module _ (j : Job) (kind : Kind) (n : ℕ) (faces curves points : List ℕ) (cx cy cz : List ℕ) where
@@ -71,13 +69,6 @@ module _ (j : Job) (kind : Kind) (n : ℕ) (faces curves points : List ℕ) (cx 
 
   abbrev call : Call
   call = reading (kindOf kind) n
-
-  trays-is : lengthsFit (lentTo (before .job .told) (before .tables) call) ≡ traysFit (j .«face_entries») (j .«curve_entries») (j .«point_entries») (sizesOf faces curves points)
-  unfolding listedTrays traysFit
-  trays-is =
-      fits-append (listedTrays (before .job .told) (before .tables) Face) (listedTrays (before .job .told) (before .tables) Curve ++ listedTrays (before .job .told) (before .tables) Point) ∙
-      ap (λ (x : Bool). lengthsFit (listedTrays (before .job .told) (before .tables) Face) && x)
-      (fits-append (listedTrays (before .job .told) (before .tables) Curve) (listedTrays (before .job .told) (before .tables) Point))
 
   none-added : (κ : joiner.Kind) → adds before call κ ≡ 0
   unfolding adds
@@ -91,13 +82,13 @@ module _ (j : Job) (kind : Kind) (n : ℕ) (faces curves points : List ℕ) (cx 
   stands-is = and-true (talliesFit (before .job)) ∙ tallies-is
 
   -- The refusal is the joiner's.
-  pub refusal-is : refusal before call ≡ refusalOf j kind n (sizesOf faces curves points)
+  pub refusal-is : refusal before call ≡ refusalOf j kind n (lengthsOf (lent faces curves points))
   unfolding refusal declines givenBy first table number standsIn refusalOf
-  refusal-is = rw (← trays-is, ← stands-is, ← late-none before call none-added false)
+  refusal-is = rw (lent-is (before .job .told) (before .tables) call, ← stands-is, ← late-none before call none-added false)
 
   -- ---- an accepted reading
 
-  module _ (acc : refusalOf j kind n (sizesOf faces curves points) ≡ 0) where
+  module _ (acc : refusalOf j kind n (lengthsOf (lent faces curves points)) ≡ 0) where
     call-facts : Passed before call
     call-facts = passed before call (refusal-is ∙ acc)
 
@@ -118,7 +109,7 @@ module _ (j : Job) (kind : Kind) (n : ℕ) (faces curves points : List ℕ) (cx 
 
 -- ---- the entry
 
-module _ (j : Job) (kind : Kind) (n : ℕ) (faces curves points : List ℕ) (number′ : ℕ) (e : number′ ≡ refusalOf j kind n (sizesOf faces curves points)) where
+module _ (j : Job) (kind : Kind) (n : ℕ) (faces curves points : List ℕ) (number′ : ℕ) (e : number′ ≡ refusalOf j kind n (lengthsOf (lent faces curves points))) where
   abbrev Reads : List ℕ → Type 0
   Reads part =
       anyCuts (λ cx cy cz. CallStep (stateOf j cx cy cz (lent faces curves points)) (reading (kindOf kind) n) (answer number′ 0 part)

@@ -1,19 +1,21 @@
 -- The tests of a row reading by lengths, and the row by kind.
 -- Assumes nothing.
-use mathlib.Core.Bool.{Bool, not, cond, _&&_}
-use mathlib.Core.List.{List, [], _∷_}
+use mathlib.Core.Bool.{not, cond, _&&_}
+use mathlib.Core.List.{List, []}
 use Prim.Native.Nat.{ℕ, _-_, _*_, _≤_, _<_}
 use lib.Dec.{leb, ltb}
 use lib.ListN.{length, take, drop}
 use Rattle.cells.specs.Box.{triple}
 use Rattle.cells.specs.Extents.{offSize}
-use Rattle.joiner.specs.Job.{Closed, Tables, sameStage, width, tray, lengthsFit}
+use Rattle.joiner.specs.Job.{Closed, Tables, sameStage, width, lengthsFit}
 use Rattle.joiner.specs.Job as joiner
 use Rattle.joiner.specs.Declines.{talliesFit}
 use Rattle.job.specs.declared.Job.{Job}
 use Rattle.job.specs.Jobs.{byKind, stageOf, jobOf, tablesOf}
+use Rattle.judge.specs.declared.CallName.{CallName}
+use Rattle.judge.specs.declared.Lengths.{Lengths}
+use Rattle.judge.specs.Judge.{entriesOf, lentBy}
 use Rattle.reading_row.specs.declared.Kind.{Kind}
-use Rattle.reading_row.specs.declared.Sizes.{Sizes}
 
 -- The kinds by name.
 abbrev pub kindOf : Kind → joiner.Kind
@@ -25,25 +27,17 @@ kindOf Kind.Point = joiner.Point
 abbrev pub lent : List ℕ → List ℕ → List ℕ → Tables
 lent faces curves points = tablesOf [] [] [] [] [] [] [] [] [] [] [] [] [] [] [] [] faces curves points
 
--- Their lengths.
-abbrev pub sizesOf : List ℕ → List ℕ → List ℕ → Sizes
-sizesOf faces curves points = record { faces = length faces; curves = length curves; points = length points }
-
 -- How many of a kind are numbered.
 abbrev pub numberedOf : Job → Kind → ℕ
 numberedOf j kind = byKind (j .«numbered_faces») (j .«numbered_curves») (j .«numbered_points») (kindOf kind)
 
--- 6 denies it: the tables have a row for each entry.
-unfoldable pub traysFit : ℕ → ℕ → ℕ → Sizes → Bool
-traysFit faces curves points z = lengthsFit (tray (z .faces) (2 * faces) ∷ []) && (lengthsFit (tray (z .curves) (4 * curves) ∷ []) && lengthsFit (tray (z .points) (6 * points) ∷ []))
-
 -- The refusal, 0 for none: the joiner's `refusal`, whatever the cut lists are.
-unfoldable pub refusalOf : Job → Kind → ℕ → Sizes → ℕ
+unfoldable pub refusalOf : Job → Kind → ℕ → Lengths → ℕ
 refusalOf j kind n z =
     cond (offSize 1024 (triple (j .nx) (j .ny) (j .nz))) 1
     (cond (not (sameStage (stageOf (j .stage)) Closed)) 3
     (cond (not (ltb 0 n && leb n (numberedOf j kind))) 4
-    (cond (not (traysFit (j .«face_entries») (j .«curve_entries») (j .«point_entries») z)) 6 (cond (not (talliesFit (jobOf j [] [] []))) 8 0))))
+    (cond (not (lengthsFit (lentBy CallName.Row 0 (entriesOf j) z))) 6 (cond (not (talliesFit (jobOf j [] [] []))) 8 0))))
 
 -- The table of a kind.
 abbrev pub tableOf : Kind → List ℕ → List ℕ → List ℕ → List ℕ

@@ -2,9 +2,12 @@
 use extents::off_size;
 use job::Job;
 use job::Stage;
-use job::row_tray;
 use job::same_stage;
 use job::tallies_fit;
+use judge::CallName;
+use judge::KindLengths;
+use judge::Lengths;
+use judge::lent_fits;
 use refusals::NO_SUCH_PLACE;
 use refusals::OFF_SIZE;
 use refusals::STRAY_LABEL;
@@ -18,20 +21,13 @@ ghost use lib.ListN.{length, take, drop};
 ghost use Rattle.joiner.specs.Calls.{reading, answer};
 ghost use Rattle.joiner.specs.Entries.{CallStep};
 ghost use Rattle.job.specs.Jobs.{anyCuts, stateOf};
-ghost use Rattle.reading_row.specs.Inner.{kindOf, lent, numberedOf, traysFit, refusalOf, HasRow, rowIn};
+ghost use Rattle.reading_row.specs.Inner.{kindOf, lent, numberedOf, refusalOf, HasRow, rowIn};
 
 // What the tables hold.
 pub enum Kind {
     Face,
     Curve,
     Point,
-}
-
-// The lengths of the tables of rows.
-struct Sizes {
-    faces: usize,
-    curves: usize,
-    points: usize,
 }
 
 // How many of a kind are numbered.
@@ -55,22 +51,9 @@ fn has_number(job: Job, kind: Kind, number: u32) -> bool
     false
 }
 
-// Whether the tables have the stated lengths.
-fn trays_fit(job: Job, sizes: Sizes) -> bool
-    ensures { λ r. ⌜ r ≡ traysFit (job .«face_entries») (job .«curve_entries») (job .«point_entries») sizes ⌝ }
-{
-    if !row_tray(2, job.face_entries, sizes.faces) {
-        return false;
-    }
-    if !row_tray(4, job.curve_entries, sizes.curves) {
-        return false;
-    }
-    row_tray(6, job.point_entries, sizes.points)
-}
-
 // The number of the refusal, the lowest that applies, and 0 for none.
-fn refuse(job: Job, kind: Kind, number: u32, sizes: Sizes) -> u32
-    ensures { λ r. ⌜ r ≡ refusalOf job kind number sizes ⌝ }
+fn refuse(job: Job, kind: Kind, number: u32, lengths: Lengths) -> u32
+    ensures { λ r. ⌜ r ≡ refusalOf job kind number lengths ⌝ }
 {
     if off_size(1024, job.nx as usize, job.ny as usize, job.nz as usize) {
         return OFF_SIZE;
@@ -82,7 +65,7 @@ fn refuse(job: Job, kind: Kind, number: u32, sizes: Sizes) -> u32
     if !has_number(job, kind, number) {
         return NO_SUCH_PLACE;
     }
-    if !trays_fit(job, sizes) {
+    if !lent_fits(CallName::Row, 0, job, lengths) {
         return WRONG_TRAY;
     }
     if !tallies_fit(job) {
@@ -136,12 +119,26 @@ pub fn row<'a>(
         (reading (kindOf kind) number) (answer (now (refusal .exit)) 0 (now r))
         (stateOf job cx cy cz (lent (now («face_listed» .entry)) (now («curve_listed» .entry)) (now («point_listed» .entry))))) ⌝ }
 {
-    let sizes = Sizes {
-        faces: face_listed.len(),
-        curves: curve_listed.len(),
-        points: point_listed.len(),
+    let none = KindLengths {
+        faces: 0,
+        curves: 0,
+        points: 0,
     };
-    let declined = refuse(job, kind, number, sizes);
+    let lengths = Lengths {
+        ticks: 0,
+        blocks: 0,
+        links: none,
+        keys: none,
+        rows: none,
+        numbers: none,
+        firsts: none,
+        listed: KindLengths {
+            faces: face_listed.len(),
+            curves: curve_listed.len(),
+            points: point_listed.len(),
+        },
+    };
+    let declined = refuse(job, kind, number, lengths);
     *refusal = declined;
     if declined != 0 {
         return &face_listed[..0];

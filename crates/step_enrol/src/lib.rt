@@ -1,16 +1,13 @@
 // The enrolment of a block: what a job takes in of its map.
 use blocks::Block;
 use blocks::block_at;
-use blocks::block_count;
 use job::Job;
-use job::Stage;
-use job::block_trays;
-use job::found_trays;
-use job::link_trays;
 use job::tallies_fit;
+use judge::CallName;
+use judge::KindLengths;
+use judge::Lengths;
 use judge::advance;
-use judge::map_fits;
-use judge::reached;
+use judge::judge_lengths;
 use lists::write_zeros;
 use pass_enrol::store_keys;
 use pass_enrol::store_rows;
@@ -18,38 +15,22 @@ use pass_survey::Survey;
 use pass_survey::survey_map;
 use refusals::STRAY_LABEL;
 use refusals::TABLE_FULL;
-use refusals::WRONG_TRAY;
 ghost use mathlib.Core.Path.{_≡_};
-ghost use mathlib.Core.Bool.{true};
 ghost use mathlib.Core.List.{[]};
 ghost use Prim.Native.Nat.{_+_, _*_, _≤_, _<_};
 ghost use lib.Dec.{ltb};
 ghost use lib.ListN.{length};
 ghost use Rattle.lists.specs.Lists.{overlay};
 ghost use Rattle.cells.specs.Box.{triple};
-ghost use Rattle.cutting.specs.Cutting.{blocks, goodCut};
 ghost use Rattle.joiner.specs.Calls.{enrol, answer, full};
 ghost use Rattle.joiner.specs.Entries.{EnrolDone, CallStep};
-ghost use Rattle.blocks.specs.Blocks.{cutOf};
-ghost use Rattle.job.specs.Jobs.{byKind, anyCuts, toldOf, jobOf, tablesOf, stateOf};
-ghost use Rattle.step_enrol.specs.Inner.{tablesFit, lentFit, earlyOf, lateOf, Judged, KindReady, KindDone, blockNumbers, Ready, Planned};
+ghost use Rattle.job.specs.Jobs.{byKind, anyCuts, jobOf, tablesOf, stateOf};
+ghost use Rattle.step_enrol.specs.Inner.{lentLengths, lateOf, Judged, KindReady, KindDone, blockNumbers, Ready};
 
 // What an enrolment answers: the number of its refusal, 0 for none, and the job.
 pub struct Enrolled {
     pub refusal: u32,
     pub job: Job,
-}
-
-// The lengths of the tables.
-struct Sizes {
-    ticks: usize,
-    blocks: usize,
-    face_links: usize,
-    curve_links: usize,
-    face_keys: usize,
-    curve_keys: usize,
-    face_rows: usize,
-    curve_rows: usize,
 }
 
 // The number of the refusal, and the block's largest numbers where it is 0.
@@ -61,73 +42,6 @@ struct Plan {
 }
 
 // ---- what is declined
-
-// Whether every table has the stated length.
-fn tables_fit(blocks: usize, job: Job, sizes: Sizes) -> bool
-    requires { ⌜ blocks ≤ 16384 ⌝ }
-    ensures { λ r. ⌜ r ≡ tablesFit blocks (job .«face_entries») (job .«curve_entries») sizes ⌝ }
-{
-    if !block_trays(blocks, sizes.ticks, sizes.blocks) {
-        return false;
-    }
-    if !link_trays(
-        job.face_entries,
-        job.curve_entries,
-        sizes.face_links,
-        sizes.curve_links,
-    ) {
-        return false;
-    }
-    if !found_trays(2, job.face_entries, sizes.face_keys, sizes.face_rows) {
-        return false;
-    }
-    found_trays(4, job.curve_entries, sizes.curve_keys, sizes.curve_rows)
-}
-
-// Whether a map of this length is one of block b, and every table has the stated length.
-fn lent_fit(
-    job: Job,
-    cx: &[u32],
-    cy: &[u32],
-    cz: &[u32],
-    sizes: Sizes,
-    b: u32,
-    length: usize,
-) -> bool
-    requires { ⌜ (goodCut (cutOf (job .nx) (job .ny) (job .nz) (now cx) (now cy) (now cz)) ≡ true) × (b < blocks (cutOf (job .nx) (job .ny) (job .nz) (now cx) (now cy) (now cz))) ⌝ }
-    ensures { λ r. ⌜ r ≡ lentFit (toldOf job (now (cx .entry)) (now (cy .entry)) (now (cz .entry))) sizes b length ⌝ }
-{
-    let block = block_at(cx, cy, cz, b as usize);
-    if !map_fits(block, length) {
-        return false;
-    }
-    let blocks = block_count(cx, cy, cz);
-    tables_fit(blocks, job, sizes)
-}
-
-// The refusals that need no look at the map, 0 for none.
-fn early(
-    job: Job,
-    cx: &[u32],
-    cy: &[u32],
-    cz: &[u32],
-    ticks: &[u32],
-    sizes: Sizes,
-    b: u32,
-    length: usize,
-) -> u32
-    ensures { λ r. ⌜ r ≡ earlyOf (jobOf job (now (cx .entry)) (now (cy .entry)) (now (cz .entry))) (now (ticks .entry)) sizes b length ⌝ }
-{
-    let step = 6 * (b as usize);
-    let number = reached(job, cx, cy, cz, ticks, Stage::Enrol, b, step);
-    if number != 0 {
-        return number;
-    }
-    if !lent_fit(job, cx, cy, cz, sizes, b, length) {
-        return WRONG_TRAY;
-    }
-    0
-}
 
 // Whether with so many more a tally would exceed its table's entries.
 fn overfull(entries: u32, sofar: u32, more: u32) -> bool
@@ -164,19 +78,31 @@ fn late(job: Job, survey: Survey) -> u32
 }
 
 // The number of the refusal, the lowest that applies, and 0 for none; then the block's largest numbers too.
-fn judge(
+fn plan_of(
     job: Job,
     cx: &[u32],
     cy: &[u32],
     cz: &[u32],
     ticks: &[u32],
-    sizes: Sizes,
+    lengths: Lengths,
     b: u32,
     m: &[u32],
 ) -> Plan
-    ensures { λ r. ⌜ Judged (jobOf job (now (cx .entry)) (now (cy .entry)) (now (cz .entry))) (now (ticks .entry)) sizes b (now (m .entry)) r ⌝ }
+    ensures { λ r. ⌜ Judged (jobOf job (now (cx .entry)) (now (cy .entry)) (now (cz .entry))) (now (ticks .entry)) lengths b (now (m .entry)) r ⌝ }
 {
-    let number = early(job, cx, cy, cz, ticks, sizes, b, m.len());
+    let step = 6 * (b as usize);
+    let number = judge_lengths(
+        job,
+        cx,
+        cy,
+        cz,
+        ticks,
+        CallName::Enrol,
+        lengths,
+        b,
+        step,
+        m.len(),
+    );
     if number != 0 {
         return Plan {
             refusal: number,
@@ -192,6 +118,48 @@ fn judge(
         faces: survey.faces,
         curves: survey.curves,
         points: survey.points,
+    }
+}
+
+// The lengths of the tables that an enrolment is lent, 0 for the others.
+fn lengths_of(
+    ticks: usize,
+    blocks: usize,
+    face_links: usize,
+    curve_links: usize,
+    face_keys: usize,
+    curve_keys: usize,
+    face_rows: usize,
+    curve_rows: usize,
+) -> Lengths
+    ensures { λ r. ⌜ r ≡ lentLengths ticks blocks «face_links» «curve_links» «face_keys» «curve_keys» «face_rows» «curve_rows» ⌝ }
+{
+    let none = KindLengths {
+        faces: 0,
+        curves: 0,
+        points: 0,
+    };
+    Lengths {
+        ticks: ticks,
+        blocks: blocks,
+        links: KindLengths {
+            faces: face_links,
+            curves: curve_links,
+            points: 0,
+        },
+        keys: KindLengths {
+            faces: face_keys,
+            curves: curve_keys,
+            points: 0,
+        },
+        rows: KindLengths {
+            faces: face_rows,
+            curves: curve_rows,
+            points: 0,
+        },
+        numbers: none,
+        firsts: none,
+        listed: none,
     }
 }
 
@@ -254,7 +222,7 @@ fn act(
 ) -> Job
     requires { ⌜ Ready (stateOf job (now cx) (now cy) (now cz)
         (tablesOf (now ticks) (now blocks) (now «face_links») (now «curve_links») (now «face_keys») (now «curve_keys») [] (now «face_rows») (now «curve_rows») [] [] [] [] [] [] [] [] [] []))
-        block (now m) × Planned (jobOf job (now cx) (now cy) (now cz)) block (now m) plan ⌝ }
+        block (now m) plan ⌝ }
     ensures { λ r. ⌜ EnrolDone
         (stateOf job (now (cx .entry)) (now (cy .entry)) (now (cz .entry))
         (tablesOf (now (ticks .entry)) (now (blocks .entry)) (now («face_links» .entry)) (now («curve_links» .entry)) (now («face_keys» .entry)) (now («curve_keys» .entry)) []
@@ -331,17 +299,17 @@ pub fn enrol(
         (tablesOf (now (ticks .exit)) (now (blocks .exit)) (now («face_links» .exit)) (now («curve_links» .exit)) (now («face_keys» .exit)) (now («curve_keys» .exit)) []
         (now («face_rows» .exit)) (now («curve_rows» .exit)) [] [] [] [] [] [] [] [] [] [])) ⌝ }
 {
-    let sizes = Sizes {
-        ticks: ticks.len(),
-        blocks: blocks.len(),
-        face_links: face_links.len(),
-        curve_links: curve_links.len(),
-        face_keys: face_keys.len(),
-        curve_keys: curve_keys.len(),
-        face_rows: face_rows.len(),
-        curve_rows: curve_rows.len(),
-    };
-    let plan = judge(job, cx, cy, cz, ticks, sizes, block, m);
+    let lengths = lengths_of(
+        ticks.len(),
+        blocks.len(),
+        face_links.len(),
+        curve_links.len(),
+        face_keys.len(),
+        curve_keys.len(),
+        face_rows.len(),
+        curve_rows.len(),
+    );
+    let plan = plan_of(job, cx, cy, cz, ticks, lengths, block, m);
     if plan.refusal != 0 {
         return Enrolled {
             refusal: plan.refusal,

@@ -9,19 +9,19 @@ enum-told : tie.Need-enum-told
 enum-told c = search needs
 
 row-of-requires : tie.Need-row-of-requires
-row-of-requires c κs = row-there _ _ _ _ _ Kind.Face (c .enum-told .given .1) (c .before .before .before .before .before .pre)
+row-of-requires c κs = let lent = c .before .before in row-there _ _ _ _ _ Kind.Face (c .enum-told .given .1) (lent .before .before .before .pre)
 
 enum-told-2 : tie.Need-enum-told-2
 enum-told-2 c = search needs
 
 row-of-requires-2 : tie.Need-row-of-requires-2
-row-of-requires-2 c κs = row-there _ _ _ _ _ Kind.Curve (c .enum-told2 .given .1) (c .before .before .before .before .before .pre)
+row-of-requires-2 c κs = let lent = c .before .before in row-there _ _ _ _ _ Kind.Curve (c .enum-told2 .given .1) (lent .before .before .before .pre)
 
 enum-told-3 : tie.Need-enum-told-3
 enum-told-3 c = search needs
 
 row-of-requires-3 : tie.Need-row-of-requires-3
-row-of-requires-3 c κs = row-there _ _ _ _ _ Kind.Point (c .enum-told3 .given .1) (c .before .before .before .before .before .pre)
+row-of-requires-3 c κs = let lent = c .before .before in row-there _ _ _ _ _ Kind.Point (c .enum-told3 .given .1) (lent .before .before .before .pre)
 
 returns : tie.Need-returns
 returns c = search row-same

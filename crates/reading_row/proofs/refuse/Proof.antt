@@ -36,8 +36,8 @@ returns-3 : tie.Need-returns-3
 unfolding refusalOf
 returns-3 c = search (cond-next, cond-not-here, cond-not-next) depth 12
 
-trays-fit-requires : tie.Need-trays-fit-requires
-trays-fit-requires c κs = search needs
+lent-fits-requires : tie.Need-lent-fits-requires
+lent-fits-requires c κs = search needs
 
 returns-4 : tie.Need-returns-4
 unfolding refusalOf
@@ -67,7 +67,7 @@ refuse-spec =
     returns-2
     has-number-requires
     returns-3
-    trays-fit-requires
+    lent-fits-requires
     returns-4
     tallies-fit-requires
     returns-5

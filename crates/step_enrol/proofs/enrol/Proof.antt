@@ -4,21 +4,51 @@ use Rattle.step_enrol.proofs.EnrollingLaws.{enrol-refused, enrol-ready,
 use Rattle.step_enrol.proofs.enrol.Statement.{statement}
 use Rattle.step_enrol.proofs.enrol.Tie as tie
 
-judge-requires : tie.Need-judge-requires
-judge-requires c κs = search needs
+-- The places of the calls, each from the one after it, and the start.
+abbrev start : tie.After-lengths-of → tie.Start
+start c =
+    let lent = c .before in
+    let tables = lent .before .before .before .before in
+    let lists = tables .before .before .before .before in
+    lists .before .before .before .before
+
+abbrev measured : tie.After-plan-of → tie.After-lengths-of
+measured c = c .before .before
+
+abbrev planned : tie.Else1 → tie.After-plan-of
+planned c = c .before .before
+
+abbrev accepted : tie.After-act-arg8 → tie.Else1
+accepted c = let tables = c .before .before .before .before in tables .before .before .before .before
+
+abbrev acted : tie.After-slice-known16 → tie.After-act
+acted c =
+    let keys = c .before .before .before .before in
+    let links = keys .before .before .before .before in
+    let tables = links .before .before .before .before in
+    tables .before .before .before .before
+
+lengths-of-requires : tie.Need-lengths-of-requires
+lengths-of-requires c κs = search needs
+
+plan-of-requires : tie.Need-plan-of-requires
+plan-of-requires c κs = search needs
 
 same-length : tie.Need-same-length
 same-length c = search needs
 
 returns : tie.Need-returns
 returns c =
-    let s = c .before .before .before .before .before .before .before .before .before .before .before .before .before .before .before .before in
-    enrol-refused (s .args .job) _ _ _ _ _ _ _ _ _ _ _ _ _ _ (c .before .before .judge .ensures) (c .if1 .taken)
+    let plan = c .before .before in
+    let lengths = measured plan in
+    enrol-refused (start lengths .args .job) _ _ _ _ _ _ _ _ _ _ _ _ _ _ (lengths .lengths-of .ensures) _ (plan .plan-of .ensures) (c .if1 .taken)
 
 act-requires : tie.Need-act-requires
 act-requires c κs =
-    let s = c .before .before .before .before .before .before .before .before .before .before .before .before .before .before .before .before .before .before .before .before .before .before .before .before in
-    enrol-ready (s .args .job) _ _ _ _ _ _ _ _ _ _ _ _ _ _ (c .before .before .before .before .before .before .before .before .before .before .judge .ensures) (c .before .before .before .before .before .before .before .before .if1 .left)
+    let passed = accepted c in
+    let plan = planned passed in
+    let lengths = measured plan in
+    enrol-ready (start lengths .args .job) _ _ _ _ _ _ _ _ _ _ _ _ _ _ (lengths .lengths-of .ensures) _ (plan .plan-of .ensures) (passed .if1 .left)
 
 same-length-2 : tie.Need-same-length-2
 same-length-2 c = search needs
@@ -46,14 +76,18 @@ same-length-9 c = search needs
 
 returns-2 : tie.Need-returns-2
 returns-2 c =
-    let s = c .before .before .before .before .before .before .before .before .before .before .before .before .before .before .before .before .before .before .before .before .before .before .before .before .before .before .before .before .before .before .before .before .before .before .before .before .before .before .before .before .before in
-    enrol-accepted (s .args .job) _ _ _ _ _ _ _ _ _ _ _ _ _ _ (c .before .before .before .before .before .before .before .before .before .before .before .before .before .before .before .before .before .before .before .before .before .before .before .before .before .before .before .judge .ensures) (c .before .before .before .before .before .before .before .before .before .before .before .before .before .before .before .before .before .before .before .before .before .before .before .before .before .if1 .left) _ (c .before .before .before .before .before .before .before .before .before .before .before .before .before .before .before .before .act .ensures)
+    let done = acted c in
+    let passed = accepted (done .before) in
+    let plan = planned passed in
+    let lengths = measured plan in
+    enrol-accepted (start lengths .args .job) _ _ _ _ _ _ _ _ _ _ _ _ _ _ (lengths .lengths-of .ensures) _ (plan .plan-of .ensures) (passed .if1 .left) _ (done .act .ensures)
 
 pub enrol-spec : {M : Type 1} → statement M
 enrol-spec =
     tie.close
     (tie.spec
-    judge-requires
+    lengths-of-requires
+    plan-of-requires
     same-length
     returns
     act-requires

@@ -4,6 +4,13 @@ use Rattle.step_enrol.proofs.EnrollingLaws.{kind-rows}
 use Rattle.step_enrol.proofs.enrol_kind.Statement.{statement}
 use Rattle.step_enrol.proofs.enrol_kind.Tie as tie
 
+-- The places of the calls, each from the one after it, and the start.
+abbrev start : tie.After-write-zeros → tie.Start
+start c = let lent = c .before .before in lent .before .before .before .before
+
+abbrev zeroed : tie.After-store-keys → tie.After-write-zeros
+zeroed c = c .before .before .before .before
+
 write-zeros-requires : tie.Need-write-zeros-requires
 write-zeros-requires c κs = search needs
 
@@ -11,7 +18,9 @@ store-keys-requires : tie.Need-store-keys-requires
 store-keys-requires c κs = search needs
 
 store-rows-requires : tie.Need-store-rows-requires
-store-rows-requires c κs = kind-rows _ _ _ _ _ _ _ _ _ _ _ (c .before .before .before .before .before .before .before .before .before .before .before .before .before .before .pre) _ (c .before .before .before .before .store-keys .ensures)
+store-rows-requires c κs =
+    let keyed = c .before .before .before .before in
+    kind-rows _ _ _ _ _ _ _ _ _ _ _ (start (zeroed keyed) .pre) _ (keyed .store-keys .ensures)
 
 same-length : tie.Need-same-length
 same-length c = search needs
