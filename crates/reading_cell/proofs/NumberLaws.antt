@@ -22,20 +22,10 @@ use Rattle.blocks.specs.declared.Block.{Block}
 use Rattle.blocks.proofs.BlockLaws.{in-low, in-high, local-told, shift-inside-told}
 use Rattle.job.specs.declared.Job.{Job}
 use Rattle.job.specs.Jobs.{toldOf, stateOf}
+use Rattle.pass_point.specs.Findings.{finalIn}
 use Rattle.judge.specs.declared.Entry.{Entry}
 use Rattle.judge.specs.Judge.{entryOf, numberStandsIn}
-use Rattle.reading_cell.specs.Inner.{lent, finalIn, orderAt, HasPlace, numberIn, handedIn, lookIn}
-
--- ---- the ways of `final_of`
-
-module _ (numbers : List ℕ) (from n : ℕ) where
-  pub final-none : n ≡ 0 → 0 ≡ finalIn numbers from n
-  unfolding finalIn
-  final-none e = rw (eq-eqb n 0 e)
-
-  pub final-some : (n ≡ 0 → ⊥) → (r : ℕ) → r ≡ getD numbers (from + (n - 1)) 0 → r ≡ finalIn numbers from n
-  unfolding finalIn
-  final-some o r e = rw (ne-eqb n 0 o) e
+use Rattle.reading_cell.specs.Inner.{lent, orderAt, HasPlace, numberIn, handedIn, lookIn}
 
 -- ---- a cell of a block
 

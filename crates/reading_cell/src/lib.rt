@@ -8,51 +8,39 @@ use blocks::has_cell;
 use blocks::local;
 use job::Job;
 use job::Stage;
-use job::block_trays;
-use job::entry_tray;
-use job::tallies_fit;
+use judge::CallName;
 use judge::Entry;
+use judge::KindLengths;
+use judge::Lengths;
 use judge::at;
 use judge::entry_of;
-use judge::map_fits;
-use judge::map_stands;
+use judge::fits;
+use judge::judge_map;
 use judge::number_stands;
 use judge::opened;
+use pass_point::final_number;
 use refusals::NO_SUCH_PLACE;
 use refusals::STRAY_LABEL;
-use refusals::WRONG_TRAY;
 ghost use mathlib.Core.Path.{_≡_};
-ghost use mathlib.Core.Bool.{true, _&&_};
+ghost use mathlib.Core.Bool.{_&&_};
 ghost use mathlib.Core.List.{[]};
-ghost use Prim.Native.Nat.{_+_, _^_, _<_, _≤_};
+ghost use Prim.Native.Nat.{_+_, _^_, _<_};
 ghost use lib.Dec.{ltb};
-ghost use lib.ListN.{getD, length};
+ghost use lib.ListN.{getD};
 ghost use Rattle.cells.specs.Box.{triple, index};
-ghost use Rattle.cells.specs.Extents.{Sized};
-ghost use Rattle.cells.specs.Grid.{cells, sides};
-ghost use Rattle.cutting.specs.Cutting.{goodCut, blocks};
+ghost use Rattle.cells.specs.Grid.{sides};
+ghost use Rattle.cutting.specs.Cutting.{blocks};
 ghost use Rattle.joiner.specs.Stages.{hasCell};
 ghost use Rattle.joiner.specs.Calls.{look, answer};
-ghost use Rattle.joiner.specs.Declines.{talliesFit};
 ghost use Rattle.joiner.specs.Entries.{CallStep, bisect, pointNumber};
-ghost use Rattle.blocks.specs.Blocks.{anyExtents, cutOf, sizeOf};
-ghost use Rattle.job.specs.Jobs.{anyCuts, jobOf, stateOf};
-ghost use Rattle.reading_cell.specs.Inner.{lent, traysFit, standIn, laterRefusal, refusalOf, Ready, halvedOf, finalIn, orderAt, HasPlace, numberIn, handedIn, lookIn, Looks};
+ghost use Rattle.blocks.specs.Blocks.{anyExtents};
+ghost use Rattle.job.specs.Jobs.{stateOf};
+ghost use Rattle.reading_cell.specs.Inner.{lent, lookJudged, halvedOf, orderAt, HasPlace, numberIn, handedIn, lookIn};
 
 // What a lookup answers: the number of its refusal, 0 for none, and the final number of the cell.
 pub struct Found {
     pub refusal: u32,
     pub number: u32,
-}
-
-// The lengths of the tables and of the map.
-struct Sizes {
-    ticks: usize,
-    blocks: usize,
-    face_numbers: usize,
-    curve_numbers: usize,
-    point_firsts: usize,
-    map: usize,
 }
 
 // ---- the tests
@@ -68,78 +56,27 @@ fn has_place(cx: &[u32], cy: &[u32], cz: &[u32], b: u32, x: u32, y: u32, z: u32)
     has_cell(block, x as u64, y as u64, z as u64)
 }
 
-// Whether map and tables have the stated lengths.
-fn trays_fit(blocks: usize, block: Block, job: Job, sizes: Sizes) -> bool
-    requires { ⌜ (blocks ≤ 16384) × Sized 64 (sizeOf block) ⌝ }
-    ensures { λ r. ⌜ r ≡ traysFit blocks (sizeOf block) (job .«face_entries») (job .«curve_entries») (job .«point_entries») sizes ⌝ }
-{
-    if !map_fits(block, sizes.map) {
-        return false;
-    }
-    if !block_trays(blocks, sizes.ticks, sizes.blocks) {
-        return false;
-    }
-    if !entry_tray(job.face_entries, sizes.face_numbers) {
-        return false;
-    }
-    if !entry_tray(job.curve_entries, sizes.curve_numbers) {
-        return false;
-    }
-    entry_tray(job.point_entries, sizes.point_firsts)
-}
-
-// Whether the tallies fit, and the map keeps to its block's entry.
-fn stands(job: Job, block: Block, d: Entry, m: &[u32]) -> bool
-    requires { ⌜ Sized 64 (sizeOf block) × (length (now m) ≡ cells (sizeOf block)) ⌝ }
-    ensures { λ r. ⌜ anyCuts (λ cx cy cz. r ≡ standIn (talliesFit (jobOf job cx cy cz)) (sizeOf block) d (job .«face_entries») (job .«curve_entries») (now (m .entry))) ⌝ }
-{
-    if !tallies_fit(job) {
-        return false;
-    }
-    map_stands(m, block, d, job.face_entries, job.curve_entries)
-}
-
-// The refusal of a call that names a cell of a block.
-fn rest(
-    job: Job,
-    cx: &[u32],
-    cy: &[u32],
-    cz: &[u32],
-    sizes: Sizes,
-    table: &[u32],
-    b: u32,
-    m: &[u32],
-) -> u32
-    requires { ⌜ (goodCut (cutOf (job .nx) (job .ny) (job .nz) (now cx) (now cy) (now cz)) ≡ true)
-        × (b < blocks (cutOf (job .nx) (job .ny) (job .nz) (now cx) (now cy) (now cz))) × (sizes .map ≡ length (now m)) ⌝ }
-    ensures { λ r. ⌜ r ≡ laterRefusal job (now (cx .entry)) (now (cy .entry)) (now (cz .entry)) sizes (now (table .entry)) b (now (m .entry)) ⌝ }
-{
-    let block = block_at(cx, cy, cz, b as usize);
-    if !trays_fit(block_count(cx, cy, cz), block, job, sizes) {
-        return WRONG_TRAY;
-    }
-    if !stands(job, block, entry_of(table, b), m) {
-        return STRAY_LABEL;
-    }
-    0
-}
-
 // The number of the refusal, the lowest that applies, and 0 for none; but for the final number that is handed out.
 fn refusal(
     job: Job,
     cx: &[u32],
     cy: &[u32],
     cz: &[u32],
-    sizes: Sizes,
+    ticks: &[u32],
     table: &[u32],
+    face_numbers: &[u32],
+    curve_numbers: &[u32],
+    point_firsts: &[u64],
     b: u32,
     m: &[u32],
     x: u32,
     y: u32,
     z: u32,
 ) -> u32
-    requires { ⌜ sizes .map ≡ length (now m) ⌝ }
-    ensures { λ r. ⌜ r ≡ refusalOf job (now (cx .entry)) (now (cy .entry)) (now (cz .entry)) sizes (now (table .entry)) b (now (m .entry)) (triple x y z) ⌝ }
+    ensures { λ r. ⌜ r ≡ lookJudged
+        (stateOf job (now (cx .entry)) (now (cy .entry)) (now (cz .entry))
+        (lent (now (ticks .entry)) (now (table .entry)) (now («face_numbers» .entry)) (now («curve_numbers» .entry)) (now («point_firsts» .entry))))
+        b (now (m .entry)) (triple x y z) ⌝ }
 {
     let number = opened(job, cx, cy, cz, Stage::Closed);
     if number != 0 {
@@ -148,7 +85,32 @@ fn refusal(
     if !has_place(cx, cy, cz, b, x, y, z) {
         return NO_SUCH_PLACE;
     }
-    rest(job, cx, cy, cz, sizes, table, b, m)
+    let none = KindLengths {
+        faces: 0,
+        curves: 0,
+        points: 0,
+    };
+    let lengths = Lengths {
+        ticks: ticks.len(),
+        blocks: table.len(),
+        links: none,
+        keys: none,
+        rows: none,
+        numbers: KindLengths {
+            faces: face_numbers.len(),
+            curves: curve_numbers.len(),
+            points: 0,
+        },
+        firsts: KindLengths {
+            points: point_firsts.len(),
+            ..none
+        },
+        listed: none,
+    };
+    let block = block_at(cx, cy, cz, b as usize);
+    let count = block_count(cx, cy, cz);
+    let whole = fits(CallName::Lookup, count, block, job, lengths, m.len());
+    judge_map(job, block, entry_of(table, b), whole, m)
 }
 
 // ---- a point by its position
@@ -218,16 +180,6 @@ fn point_number(table: &[u64], count: u32, v: u64) -> u32
 
 // ---- the number of a cell
 
-// The final number of number n of a block whose first component stands at place `from`; 0 stays 0.
-fn final_of(numbers: &[u32], from: u32, n: u32) -> u32
-    ensures { λ r. ⌜ r ≡ finalIn (now (numbers .entry)) from n ⌝ }
-{
-    if n == 0 {
-        return 0;
-    }
-    at(numbers, from as usize + (n as usize - 1))
-}
-
 // The order of the cell at a place.
 fn order_at(x: u32, y: u32, z: u32) -> u32
     ensures { λ r. ⌜ r ≡ orderAt (triple x y z) ⌝ }
@@ -267,10 +219,10 @@ fn number_of(
         return n;
     }
     if order == 2 {
-        return final_of(face_numbers, d.face_from, n);
+        return final_number(face_numbers, d.face_from, n);
     }
     if order == 1 {
-        return final_of(curve_numbers, d.curve_from, n);
+        return final_number(curve_numbers, d.curve_from, n);
     }
     let v = position(job, block, x, y, z);
     point_number(point_firsts, job.numbered_points, v)
@@ -309,13 +261,7 @@ fn number_handed(
     true
 }
 
-// What is read of a cell: whether its final number is one of the closed table's, and the number.
-struct Looked {
-    stands: bool,
-    number: u32,
-}
-
-// What is read of the cell, where the call is not refused before.
+// The answer, where the call is not refused before: the final number that is handed out is tested last.
 fn look_up(
     job: Job,
     cx: &[u32],
@@ -331,19 +277,29 @@ fn look_up(
     x: u32,
     y: u32,
     z: u32,
-) -> Looked
-    requires { ⌜ Ready job (now cx) (now cy) (now cz) (now ticks) (now table) (now «face_numbers») (now «curve_numbers») (now «point_firsts») b (now m) (triple x y z) ⌝ }
-    ensures { λ r. ⌜ Looks
+) -> Found
+    requires { ⌜ lookJudged
+        (stateOf job (now cx) (now cy) (now cz) (lent (now ticks) (now table) (now «face_numbers») (now «curve_numbers») (now «point_firsts»)))
+        b (now m) (triple x y z) ≡ 0 ⌝ }
+    ensures { λ r. ⌜ CallStep
         (stateOf job (now (cx .entry)) (now (cy .entry)) (now (cz .entry))
         (lent (now (ticks .entry)) (now (table .entry)) (now («face_numbers» .entry)) (now («curve_numbers» .entry)) (now («point_firsts» .entry))))
-        b (now (m .entry)) (triple x y z) r ⌝ }
+        (look b (now (m .entry)) (triple x y z)) (answer (r .refusal) (r .number) [])
+        (stateOf job (now (cx .entry)) (now (cy .entry)) (now (cz .entry))
+        (lent (now (ticks .entry)) (now (table .entry)) (now («face_numbers» .entry)) (now («curve_numbers» .entry)) (now («point_firsts» .entry)))) ⌝ }
 {
     let block = block_at(cx, cy, cz, b as usize);
     let p = local(block, x as u64, y as u64, z as u64);
     let d = entry_of(table, b);
     let n = at(m, p);
-    Looked {
-        stands: number_handed(job, d, face_numbers, curve_numbers, n, x, y, z),
+    if !number_handed(job, d, face_numbers, curve_numbers, n, x, y, z) {
+        return Found {
+            refusal: STRAY_LABEL,
+            number: 0,
+        };
+    }
+    Found {
+        refusal: 0,
         number: number_of(
             job,
             block,
@@ -384,22 +340,7 @@ pub fn lookup(
         (stateOf job (now (cx .entry)) (now (cy .entry)) (now (cz .entry))
         (lent (now (ticks .entry)) (now (blocks .entry)) (now («face_numbers» .entry)) (now («curve_numbers» .entry)) (now («point_firsts» .entry)))) ⌝ }
 {
-    let sizes = Sizes {
-        ticks: ticks.len(),
-        blocks: blocks.len(),
-        face_numbers: face_numbers.len(),
-        curve_numbers: curve_numbers.len(),
-        point_firsts: point_firsts.len(),
-        map: m.len(),
-    };
-    let declined = refusal(job, cx, cy, cz, sizes, blocks, block, m, x, y, z);
-    if declined != 0 {
-        return Found {
-            refusal: declined,
-            number: 0,
-        };
-    }
-    let looked = look_up(
+    let declined = refusal(
         job,
         cx,
         cy,
@@ -415,14 +356,26 @@ pub fn lookup(
         y,
         z,
     );
-    if !looked.stands {
+    if declined != 0 {
         return Found {
-            refusal: STRAY_LABEL,
+            refusal: declined,
             number: 0,
         };
     }
-    Found {
-        refusal: 0,
-        number: looked.number,
-    }
+    look_up(
+        job,
+        cx,
+        cy,
+        cz,
+        ticks,
+        blocks,
+        face_numbers,
+        curve_numbers,
+        point_firsts,
+        block,
+        m,
+        x,
+        y,
+        z,
+    )
 }

@@ -1,7 +1,7 @@
 -- `reading_cell::look_up` meets its contract.
 use borrow.Author.Needs.{needs}
 use Rattle.reading_cell.proofs.NumberLaws.{looked-up, looked-stands}
-use Rattle.reading_cell.proofs.LookupLaws.{cell-there, cell-local, cell-placed}
+use Rattle.reading_cell.proofs.LookupLaws.{cell-there, cell-local, cell-placed, look-stray, look-accepted}
 use Rattle.reading_cell.proofs.look_up.Statement.{statement}
 use Rattle.reading_cell.proofs.look_up.Tie as tie
 
@@ -9,7 +9,11 @@ block-at-requires : tie.Need-block-at-requires
 block-at-requires c κs = search needs
 
 local-requires : tie.Need-local-requires
-local-requires c κs = cell-local _ _ _ _ _ _ _ _ _ _ _ _ (c .before .before .before .before .before .before .before .before .before .before .pre) _ (c .block-at .ensures _ _ _)
+local-requires c κs =
+    let at0 = c .before .before .before .before in
+    let at1 = at0 .before .before .before in
+    let start = at1 .before .before .before in
+    cell-local (start .args .job) _ _ _ _ _ _ _ _ _ _ _ (start .pre) _ (c .block-at .ensures _ _ _)
 
 entry-of-requires : tie.Need-entry-of-requires
 entry-of-requires c κs = search needs
@@ -20,17 +24,41 @@ at-requires c κs = search needs
 number-handed-requires : tie.Need-number-handed-requires
 number-handed-requires c κs = search needs
 
-number-of-requires : tie.Need-number-of-requires
-number-of-requires c κs = cell-placed _ _ _ _ _ _ _ _ _ _ _ _ (c .before .before .before .before .before .before .before .before .before .before .before .before .before .before .pre) _ (c .before .before .before .before .block-at .ensures _ _ _)
-
 returns : tie.Need-returns
 returns c =
-    let T = c .before .before .before .before .before .block-at .ensures _ _ _ in
-    let there = cell-there _ _ _ _ _ _ _ _ _ _ _ _ (c .before .before .before .before .before .before .before .before .before .before .before .before .before .before .before .pre) _ T in
-    record {
-      stands = looked-stands _ _ _ _ _ _ _ _ _ _ _ _ _ T there _ _ _ _ (c .before .before .before .before .local .ensures) (c .before .before .before .entry-of .ensures) (c .before .before .at .ensures) (c .before .number-handed .ensures);
-      number = looked-up _ _ _ _ _ _ _ _ _ _ _ _ _ T there _ _ _ _ (c .before .before .before .before .local .ensures) (c .before .before .before .entry-of .ensures) (c .before .before .at .ensures) (c .number-of .ensures);
-    }
+    let read = c .before in
+    let told = read .before .before .before .before in
+    let at0 = told .before .before .before .before in
+    let at1 = at0 .before .before .before in
+    let start = at1 .before .before .before in
+    let T = told .block-at .ensures _ _ _ in
+    let there = cell-there (start .args .job) _ _ _ _ _ _ _ _ _ _ _ (start .pre) _ T in
+    look-stray (start .args .job) _ _ _ _ _ _ _ _ _ _ _ (start .pre) _
+    (looked-stands _ _ _ _ _ _ _ _ _ _ _ _ _ T there _ _ _ _ (read .before .before .before .local .ensures) (read .before .before .entry-of .ensures) (read .before .at .ensures) (read .number-handed .ensures))
+    (c .if1 .taken)
+
+number-of-requires : tie.Need-number-of-requires
+number-of-requires c κs =
+    let read = c .before .before in
+    let told = read .before .before .before in
+    let at0 = told .before .before .before .before in
+    let at1 = at0 .before .before .before in
+    let start = at1 .before .before .before in
+    cell-placed (start .args .job) _ _ _ _ _ _ _ _ _ _ _ (start .pre) _ (told .block-at .ensures _ _ _)
+
+returns-2 : tie.Need-returns-2
+returns-2 c =
+    let read = c .before .before in
+    let told = read .before .before .before .before in
+    let at0 = told .before .before .before .before in
+    let at1 = at0 .before .before .before in
+    let start = at1 .before .before .before in
+    let T = told .block-at .ensures _ _ _ in
+    let there = cell-there (start .args .job) _ _ _ _ _ _ _ _ _ _ _ (start .pre) _ T in
+    look-accepted (start .args .job) _ _ _ _ _ _ _ _ _ _ _ (start .pre) _
+    (looked-stands _ _ _ _ _ _ _ _ _ _ _ _ _ T there _ _ _ _ (read .before .before .before .local .ensures) (read .before .before .entry-of .ensures) (read .before .at .ensures) (read .number-handed .ensures))
+    (c .before .if1 .left) _
+    (looked-up _ _ _ _ _ _ _ _ _ _ _ _ _ T there _ _ _ _ (read .before .before .before .local .ensures) (read .before .before .entry-of .ensures) (read .before .at .ensures) (c .number-of .ensures))
 
 pub look-up-spec : {M : Type 1} → statement M
 look-up-spec =
@@ -41,5 +69,6 @@ look-up-spec =
     entry-of-requires
     at-requires
     number-handed-requires
+    returns
     number-of-requires
-    returns)
+    returns-2)

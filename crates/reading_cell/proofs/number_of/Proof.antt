@@ -10,14 +10,14 @@ order-at-requires c κs = search needs
 returns : tie.Need-returns
 returns c = search number-voxel
 
-final-of-requires : tie.Need-final-of-requires
-final-of-requires c κs = search needs
+final-number-requires : tie.Need-final-number-requires
+final-number-requires c κs = search needs
 
 returns-2 : tie.Need-returns-2
 returns-2 c = search number-face
 
-final-of-requires-2 : tie.Need-final-of-requires-2
-final-of-requires-2 c κs = search needs
+final-number-requires-2 : tie.Need-final-number-requires-2
+final-number-requires-2 c κs = search needs
 
 returns-3 : tie.Need-returns-3
 returns-3 c = search number-curve
@@ -37,9 +37,9 @@ number-of-spec =
     (tie.spec
     order-at-requires
     returns
-    final-of-requires
+    final-number-requires
     returns-2
-    final-of-requires-2
+    final-number-requires-2
     returns-3
     position-requires
     point-number-requires
