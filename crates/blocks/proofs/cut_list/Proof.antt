@@ -58,7 +58,10 @@ loop-less : tie.Need-loop-less Inv-loop μ-loop
 loop-less c = search needs
 
 loop-again : tie.Need-loop-again Inv-loop μ-loop
-loop-again c = (search needs, cut-more _ (c .before .before .before .before .before .before .before .before .before .before .args .c .now) (c .before .before .before .before .before .loop .i) _ (c .before .before .before .before .loop-test .taken) (c .before .before .before .before .before .loop .inv .1) (c .before .near .ensures) (c .if3 .left))
+loop-again c =
+    let back4 = c .before .before .before .before in
+    let back8 = back4 .before .before .before .before in
+    (search needs, cut-more _ (back8 .before .before .args .c .now) (back4 .before .loop .i) _ (c .before .before .before .before .loop-test .taken) (back4 .before .loop .inv .1) (c .before .near .ensures) (c .if3 .left))
 
 mul-ends : tie.Need-mul-ends Inv-loop μ-loop
 mul-ends c = search needs

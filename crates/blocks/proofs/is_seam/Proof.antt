@@ -26,7 +26,9 @@ beside-requires : tie.Need-beside-requires
 beside-requires c κs = search needs
 
 returns-3 : tie.Need-returns-3
-returns-3 c = λ nx ny nz. seam-both _ _ _ _ (c .before .before .before .before .before .before .has-block .ensures nx ny nz) (c .before .before .before .before .before .if1 .left) _ (c .before .before .before .before .has-block2 .ensures nx ny nz) (c .before .before .before .if2 .left) _ _ _ (c .before .before .place-of .ensures) (c .before .place-of2 .ensures) (c .beside .ensures)
+returns-3 c =
+    let back4 = c .before .before .before .before in
+    λ nx ny nz. seam-both _ _ _ _ (back4 .before .before .has-block .ensures nx ny nz) (back4 .before .if1 .left) _ (c .before .before .before .before .has-block2 .ensures nx ny nz) (c .before .before .before .if2 .left) _ _ _ (c .before .before .place-of .ensures) (c .before .place-of2 .ensures) (c .beside .ensures)
 
 pub is-seam-spec : {M : Type 1} → statement M
 is-seam-spec =

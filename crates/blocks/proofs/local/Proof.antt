@@ -40,7 +40,9 @@ sub-position-2 c = search needs
 
 position-requires : tie.Need-position-requires
 unfolding sides
-position-requires c κs = let p = c .before .before .before .before .before .pre in omega (arith, p .1, in-low _ _ (p .0) X, in-low _ _ (p .0) Y, in-low _ _ (p .0) Z, in-high _ _ (p .0) X, in-high _ _ (p .0) Y, in-high _ _ (p .0) Z)
+position-requires c κs =
+    let p4 = c .before .before .before .before in
+    let p = p4 .before .pre in omega (arith, p .1, in-low _ _ (p .0) X, in-low _ _ (p .0) Y, in-low _ _ (p .0) Z, in-high _ _ (p .0) X, in-high _ _ (p .0) Y, in-high _ _ (p .0) Z)
 
 returns : tie.Need-returns
 unfolding localIn index sides

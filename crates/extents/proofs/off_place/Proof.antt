@@ -28,7 +28,8 @@ beyond-requires-2 c κs = search needs
 returns-3 : tie.Need-returns-3
 unfolding offPlace
 returns-3 c =
-    rw (sym (c .before .before .before .before .before .off-size .ensures) ∙ c .before .before .before .before .if1 .left, sym (c .before .before .before .beyond .ensures) ∙ c .before .before .if2 .left, sym (c .before .beyond2 .ensures) ∙ c .if3 .taken)
+    let back4 = c .before .before .before .before in
+    rw (sym (back4 .before .off-size .ensures) ∙ c .before .before .before .before .if1 .left, sym (c .before .before .before .beyond .ensures) ∙ c .before .before .if2 .left, sym (c .before .beyond2 .ensures) ∙ c .if3 .taken)
 
 beyond-requires-3 : tie.Need-beyond-requires-3
 beyond-requires-3 c κs = search needs
@@ -36,7 +37,8 @@ beyond-requires-3 c κs = search needs
 returns-4 : tie.Need-returns-4
 unfolding offPlace
 returns-4 c =
-    rw (sym (c .before .before .before .before .before .before .off-size .ensures) ∙ c .before .before .before .before .before .if1 .left, sym (c .before .before .before .before .beyond .ensures) ∙ c .before .before .before .if2 .left, sym (c .before .before .beyond2 .ensures) ∙ c .before .if3 .left) (c .beyond3 .ensures)
+    let back4 = c .before .before .before .before in
+    rw (sym (back4 .before .before .off-size .ensures) ∙ back4 .before .if1 .left, sym (c .before .before .before .before .beyond .ensures) ∙ c .before .before .before .if2 .left, sym (c .before .before .beyond2 .ensures) ∙ c .before .if3 .left) (c .beyond3 .ensures)
 
 pub off-place-spec : {M : Type 1} → statement M
 off-place-spec =

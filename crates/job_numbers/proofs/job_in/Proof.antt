@@ -47,7 +47,10 @@ element-copy-out-t42 : tie.Need-element-copy-out-t42
 element-copy-out-t42 c = search needs
 
 returns : tie.Need-returns
-returns c = job-read _ _ _ ((c .before .before .before .before .before .before .before .before .before .before .before .before .stage-in) .ensures)
+returns c =
+    let back4 = c .before .before .before .before in
+    let back8 = back4 .before .before .before .before in
+    job-read _ _ _ ((back8 .before .before .before .before .stage-in) .ensures)
 
 pub job-in-spec : {M : Type 1} → statement M
 job-in-spec =

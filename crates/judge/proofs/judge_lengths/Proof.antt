@@ -13,7 +13,8 @@ reached-requires c κs = search needs
 
 returns : tie.Need-returns
 returns c =
-    let at0 = c .before .before .before .before .before .before in
+    let at04 = c .before .before .before .before in
+    let at0 = at04 .before .before in
     let start = at0 .before .args in
     lengths-first (start .job) _ _ _ _ (start .call) (start .z) _ _ _ _ (c .before .before .stage-of .ensures) (c .before .reached .ensures) _ (c .if1 .taken)
 
@@ -23,14 +24,16 @@ block-at-requires c κs = search needs
 block-count-requires : tie.Need-block-count-requires
 block-count-requires c κs =
     let ask = c .before .before in
-    let at0 = ask .before .before .before .before .before in
+    let at04 = ask .before .before .before .before in
+    let at0 = at04 .before in
     let start = at0 .before .args in
     begun-few (start .job) _ _ _ _ (start .call) (start .z) _ _ _ _ (ask .before .stage-of .ensures) (ask .reached .ensures) (c .before .if1 .left)
 
 fits-requires : tie.Need-fits-requires
 fits-requires c κs =
     let ask = c .before .before .before in
-    let at0 = ask .before .before .before .before .before in
+    let at04 = ask .before .before .before .before in
+    let at0 = at04 .before in
     let start = at0 .before .args in
     begun-sized (start .job) _ _ _ _ (start .call) (start .z) _ _ _ _ (ask .before .stage-of .ensures) (ask .reached .ensures) (c .before .before .if1 .left) _ (c .before .block-at .ensures) _ (c .block-count .ensures)
 
@@ -38,7 +41,8 @@ returns-2 : tie.Need-returns-2
 returns-2 c =
     let told = c .before .before in
     let ask = told .before .before .before in
-    let at0 = ask .before .before .before .before .before in
+    let at04 = ask .before .before .before .before in
+    let at0 = at04 .before in
     let start = at0 .before .args in
     lengths-6 (start .job) _ _ _ _ (start .call) (start .z) _ _ _ _ (ask .before .stage-of .ensures) (ask .reached .ensures) (told .before .before .if1 .left) _ (told .before .block-at .ensures) _ (told .block-count .ensures) _ _ (c .before .fits2 .ensures) (c .if2 .taken)
 
@@ -46,7 +50,8 @@ returns-3 : tie.Need-returns-3
 returns-3 c =
     let told = c .before .before in
     let ask = told .before .before .before in
-    let at0 = ask .before .before .before .before .before in
+    let at04 = ask .before .before .before .before in
+    let at0 = at04 .before in
     let start = at0 .before .args in
     lengths-0 (start .job) _ _ _ _ (start .call) (start .z) _ _ _ _ (ask .before .stage-of .ensures) (ask .reached .ensures) (told .before .before .if1 .left) _ (told .before .block-at .ensures) _ (told .block-count .ensures) _ _ (c .before .fits2 .ensures) (c .if2 .left)
 

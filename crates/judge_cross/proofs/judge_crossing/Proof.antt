@@ -15,7 +15,8 @@ judge-requires c κs = search needs
 returns : tie.Need-returns
 returns c =
     let ask = c .before in
-    let at0 = ask .before .before .before .before .before in
+    let at04 = ask .before .before .before .before in
+    let at0 = at04 .before in
     let at1 = at0 .before .before .before .before in
     let start = at1 .before .before .args in
     cross-first (start .job) _ _ _ _ (start .lengths) _ _ _ _ _ _ _ _ (ask .before .step-of .ensures) (ask .judge .ensures) (c .if1 .taken)
@@ -23,7 +24,8 @@ returns c =
 block-count-requires : tie.Need-block-count-requires
 block-count-requires c κs =
     let ask = c .before in
-    let at0 = ask .before .before .before .before .before in
+    let at04 = ask .before .before .before .before in
+    let at0 = at04 .before in
     let at1 = at0 .before .before .before .before in
     let start = at1 .before .before .args in
     cross-few (start .job) _ _ _ _ (start .lengths) _ [] [] [] _ _ _ _ (ask .before .step-of .ensures) (ask .judge .ensures) (c .if1 .left)
@@ -34,7 +36,8 @@ entry-of-requires c κs = search needs
 own-stands-requires : tie.Need-own-stands-requires
 own-stands-requires c κs =
     let ask = c .before .before .before in
-    let at0 = ask .before .before .before .before .before in
+    let at04 = ask .before .before .before .before in
+    let at0 = at04 .before in
     let at1 = at0 .before .before .before .before in
     let start = at1 .before .before .args in
     cross-count (start .job) _ _ _ _ (start .lengths) _ [] [] [] _ _ _ _ (ask .before .step-of .ensures) (ask .judge .ensures) (c .before .before .if1 .left) _ (c .before .block-count .ensures _ _ _)
@@ -43,7 +46,8 @@ returns-2 : tie.Need-returns-2
 returns-2 c =
     let told = c .before .before .before in
     let ask = told .before .before in
-    let at0 = ask .before .before .before .before .before in
+    let at04 = ask .before .before .before .before in
+    let at0 = at04 .before in
     let at1 = at0 .before .before .before .before in
     let start = at1 .before .before .args in
     cross-8 (start .job) _ _ _ _ (start .lengths) _ _ _ _ _ _ _ _ (ask .before .step-of .ensures) (ask .judge .ensures) (told .before .if1 .left) _ (told .block-count .ensures _ _ _) _ (c .before .before .entry-of .ensures) _ (c .before .own-stands .ensures) (c .if2 .taken)
@@ -52,7 +56,8 @@ returns-3 : tie.Need-returns-3
 returns-3 c =
     let told = c .before .before .before in
     let ask = told .before .before in
-    let at0 = ask .before .before .before .before .before in
+    let at04 = ask .before .before .before .before in
+    let at0 = at04 .before in
     let at1 = at0 .before .before .before .before in
     let start = at1 .before .before .args in
     cross-0 (start .job) _ _ _ _ (start .lengths) _ _ _ _ _ _ _ _ (ask .before .step-of .ensures) (ask .judge .ensures) (told .before .if1 .left) _ (told .block-count .ensures _ _ _) _ (c .before .before .entry-of .ensures) _ (c .before .own-stands .ensures) (c .if2 .left)

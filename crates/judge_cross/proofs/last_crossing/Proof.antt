@@ -21,7 +21,9 @@ crossed-but-requires c κs = search needs
 
 returns : tie.Need-returns Inv-loop μ-loop
 unfolding lastIn
-returns c = held-broken (crossedBut ((c .before .before .before .before .before .args) .ticks .now) ((c .before .before .before .before .before .args) .b)) _ _ _ (omega arith) ((c .before .crossed-but) .ensures) ((c .if1) .taken)
+returns c =
+    let back4 = c .before .before .before .before in
+    held-broken (crossedBut ((back4 .before .args) .ticks .now) ((back4 .before .args) .b)) _ _ _ (omega arith) ((c .before .crossed-but) .ensures) ((c .if1) .taken)
 
 add-x : tie.Need-add-x Inv-loop μ-loop
 add-x c = search needs
@@ -30,7 +32,9 @@ loop-less : tie.Need-loop-less Inv-loop μ-loop
 loop-less c = search needs
 
 loop-again : tie.Need-loop-again Inv-loop μ-loop
-loop-again c = (omega arith, held-more (crossedBut ((c .before .before .before .before .before .args) .ticks .now) ((c .before .before .before .before .before .args) .b)) _ _ ((c .before .before .before .loop) .inv .1) ((c .before .crossed-but) .ensures) ((c .if1) .left))
+loop-again c =
+    let back4 = c .before .before .before .before in
+    (omega arith, held-more (crossedBut ((back4 .before .args) .ticks .now) ((back4 .before .args) .b)) _ _ ((c .before .before .before .loop) .inv .1) ((c .before .crossed-but) .ensures) ((c .if1) .left))
 
 returns-2 : tie.Need-returns-2 Inv-loop μ-loop
 unfolding lastIn

@@ -23,7 +23,9 @@ face-in-requires c κs = search needs
 
 returns : tie.Need-returns Inv-loop μ-loop
 unfolding rowsIn
-returns c = held-broken ((λ j. leb (getD ((c .before .before .before .before .before .args) .rows .now) j 0) ((c .before .before .before .before .before .args) .faces))) _ _ _ (omega arith) ((c .before .face-in) .ensures) ((c .if1) .taken)
+returns c =
+    let back4 = c .before .before .before .before in
+    held-broken ((λ j. leb (getD ((back4 .before .args) .rows .now) j 0) ((back4 .before .args) .faces))) _ _ _ (omega arith) ((c .before .face-in) .ensures) ((c .if1) .taken)
 
 add-i : tie.Need-add-i Inv-loop μ-loop
 add-i c = search needs
@@ -32,7 +34,9 @@ loop-less : tie.Need-loop-less Inv-loop μ-loop
 loop-less c = search needs
 
 loop-again : tie.Need-loop-again Inv-loop μ-loop
-loop-again c = (omega arith, held-more ((λ j. leb (getD ((c .before .before .before .before .before .args) .rows .now) j 0) ((c .before .before .before .before .before .args) .faces))) _ _ ((c .before .before .before .loop) .inv .1) ((c .before .face-in) .ensures) ((c .if1) .left))
+loop-again c =
+    let back4 = c .before .before .before .before in
+    (omega arith, held-more ((λ j. leb (getD ((back4 .before .args) .rows .now) j 0) ((back4 .before .args) .faces))) _ _ ((c .before .before .before .loop) .inv .1) ((c .before .face-in) .ensures) ((c .if1) .left))
 
 returns-2 : tie.Need-returns-2 Inv-loop μ-loop
 unfolding rowsIn

@@ -8,10 +8,21 @@ rank-kind-requires : tie.Need-rank-kind-requires
 rank-kind-requires c κs = search needs
 
 curve-rows-requires : tie.Need-curve-rows-requires
-curve-rows-requires c κs = rows-room _ _ _ _ _ _ _ _ ((c .before .before .before .before .before .before .before .before .rank-kind) .ensures .0) 4 ((c .before .before .before .before .before .before .before .before .rank-kind) .ensures .1) ((c .before .before .before .before .before .before .before .before .before .before .before .before .before .before .before .before .before .before .before .pre) .2) ((c .before .before .before .before .before .before .before .before .before .before .before .before .before .before .before .before .before .before .before .pre) .3)
+curve-rows-requires c κs =
+    let back4 = c .before .before .before .before in
+    let back8 = back4 .before .before .before .before in
+    let back12 = back8 .before .before .before .before in
+    let back16 = back12 .before .before .before .before in
+    rows-room _ _ _ _ _ _ _ _ ((back4 .before .before .before .before .rank-kind) .ensures .0) 4 ((back4 .before .before .before .before .rank-kind) .ensures .1) ((back16 .before .before .before .pre) .2) ((back16 .before .before .before .pre) .3)
 
 write-firsts-requires : tie.Need-write-firsts-requires
-write-firsts-requires c κs = rows-room _ _ _ _ _ _ _ _ ((c .before .before .before .before .before .before .before .before .before .before .before .before .rank-kind) .ensures .0) 4 ((c .before .before .before .before .before .before .before .before .before .before .before .before .rank-kind) .ensures .1) ((c .before .before .before .before .before .before .before .before .before .before .before .before .before .before .before .before .before .before .before .before .before .before .before .pre) .2) ((c .before .before .before .before .before .before .before .before .before .before .before .before .before .before .before .before .before .before .before .before .before .before .before .pre) .3) .0
+write-firsts-requires c κs =
+    let back4 = c .before .before .before .before in
+    let back8 = back4 .before .before .before .before in
+    let back12 = back8 .before .before .before .before in
+    let back16 = back12 .before .before .before .before in
+    let back20 = back16 .before .before .before .before in
+    rows-room _ _ _ _ _ _ _ _ ((back8 .before .before .before .before .rank-kind) .ensures .0) 4 ((back8 .before .before .before .before .rank-kind) .ensures .1) ((back20 .before .before .before .pre) .2) ((back20 .before .before .before .pre) .3) .0
 
 same-length : tie.Need-same-length
 same-length c = search needs
@@ -24,7 +35,13 @@ same-length-3 c = search needs
 
 returns : tie.Need-returns
 returns c =
-    numbered-curves _ _ _ _ _ _ _ _ _ _ _ _ _ ((c .before .before .before .before .before .before .before .before .before .before .before .before .before .before .before .rank-kind) .ensures .0) ((c .before .before .before .before .before .before .before .before .before .before .before .before .before .before .before .before .before .before .before .before .before .before .before .before .before .before .pre) .2) ((c .before .before .before .before .before .before .before .before .before .before .before .before .before .before .before .rank-kind) .ensures .1) ((c .before .before .write-firsts) .ensures) _ ((c .before .before .before .before .before .before .before .before .before .before .before .before .before .before .before .before .before .before .before .before .before .before .before .before .before .before .pre) .3) ((c .before .before .before .before .before .before .curve-rows) .ensures)
+    let back4 = c .before .before .before .before in
+    let back8 = back4 .before .before .before .before in
+    let back12 = back8 .before .before .before .before in
+    let back16 = back12 .before .before .before .before in
+    let back20 = back16 .before .before .before .before in
+    let back24 = back20 .before .before .before .before in
+    numbered-curves _ _ _ _ _ _ _ _ _ _ _ _ _ ((back12 .before .before .before .rank-kind) .ensures .0) ((back24 .before .before .pre) .2) ((back12 .before .before .before .rank-kind) .ensures .1) ((c .before .before .write-firsts) .ensures) _ ((back24 .before .before .pre) .3) ((back4 .before .before .curve-rows) .ensures)
 
 pub number-curves-spec : {M : Type 1} → statement M
 number-curves-spec =

@@ -22,7 +22,9 @@ same-length-2 : tie.Need-same-length-2
 same-length-2 c = search needs
 
 returns-2 : tie.Need-returns-2
-returns-2 c = label-accepted _ _ _ _ _ (c .before .before .before .before .before .before .before .before .refusal .ensures) (c .before .before .before .before .before .before .before .if1 .left) _ _ _ (c .before .before .before .before .label-block .ensures)
+returns-2 c =
+    let back4 = c .before .before .before .before in
+    label-accepted _ _ _ _ _ (back4 .before .before .before .before .refusal .ensures) (back4 .before .before .before .if1 .left) _ _ _ (c .before .before .before .before .label-block .ensures)
 
 pub label-spec : {M : Type 1} → statement M
 label-spec =

@@ -33,9 +33,10 @@ row-of-four-requires c κs = search needs
 returns : tie.Need-returns
 unfolding around
 returns c =
-    let a = (c .before .before .before .before .before .before) .args in
+    let back4 = c .before .before .before .before in
+    let a = (back4 .before .before) .args in
     let e = triple (a .nx) (a .ny) (a .nz) in
-    c .row-of-four .ensures ∙ rw (c .before .before .before .before .below .ensures, c .before .before .before .above .ensures, c .before .before .below2 .ensures, c .before .above2 .ensures) (sym (row-odds e (a .map .now) (a .p) (a .a ∷ a .b ∷ []) ((c .before .before .before .before .before .before) .pre .2)))
+    c .row-of-four .ensures ∙ rw (c .before .before .before .before .below .ensures, c .before .before .before .above .ensures, c .before .before .below2 .ensures, c .before .above2 .ensures) (sym (row-odds e (a .map .now) (a .p) (a .a ∷ a .b ∷ []) ((back4 .before .before) .pre .2)))
 
 pub curve-row-spec : {M : Type 1} → statement M
 curve-row-spec = tie.close (tie.spec below-requires above-requires below-requires-2 above-requires-2 row-of-four-requires returns)

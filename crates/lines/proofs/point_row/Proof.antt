@@ -31,10 +31,14 @@ above-requires-2 : tie.Need-above-requires-2
 above-requires-2 c κs = on-b (c .before .before .before .before) .high
 
 below-requires-3 : tie.Need-below-requires-3
-below-requires-3 c κs = let r = on-c (c .before .before .before .before .before) in (r .low, r .here)
+below-requires-3 c κs =
+    let back4 = c .before .before .before .before in
+    let r = on-c (back4 .before) in (r .low, r .here)
 
 above-requires-3 : tie.Need-above-requires-3
-above-requires-3 c κs = on-c (c .before .before .before .before .before .before) .high
+above-requires-3 c κs =
+    let back4 = c .before .before .before .before in
+    on-c (back4 .before .before) .high
 
 row-of-six-requires : tie.Need-row-of-six-requires
 row-of-six-requires c κs = search needs
@@ -42,9 +46,10 @@ row-of-six-requires c κs = search needs
 returns : tie.Need-returns
 unfolding around
 returns c =
-    let a = (c .before .before .before .before .before .before .before .before) .args in
+    let back4 = c .before .before .before .before in
+    let a = (back4 .before .before .before .before) .args in
     let e = triple (a .nx) (a .ny) (a .nz) in
-    c .row-of-six .ensures ∙ rw (c .before .before .before .before .before .before .below .ensures, c .before .before .before .before .before .above .ensures, c .before .before .before .before .below2 .ensures, c .before .before .before .above2 .ensures, c .before .before .below3 .ensures, c .before .above3 .ensures) (sym (row-odds e (a .map .now) (a .p) (a .a ∷ a .b ∷ a .c ∷ []) ((c .before .before .before .before .before .before .before .before) .pre .2)))
+    c .row-of-six .ensures ∙ rw (back4 .before .before .below .ensures, back4 .before .above .ensures, c .before .before .before .before .below2 .ensures, c .before .before .before .above2 .ensures, c .before .before .below3 .ensures, c .before .above3 .ensures) (sym (row-odds e (a .map .now) (a .p) (a .a ∷ a .b ∷ a .c ∷ []) ((back4 .before .before .before .before) .pre .2)))
 
 pub point-row-spec : {M : Type 1} → statement M
 point-row-spec = tie.close (tie.spec below-requires above-requires below-requires-2 above-requires-2 below-requires-3 above-requires-3 row-of-six-requires returns)

@@ -59,7 +59,8 @@ add-result-5 c = search needs
 
 returns : tie.Need-returns
 returns c =
-    rw (six (c .before .before .before .before .before .before .args .t1) (search needs), c .before .before .before .before .before .one-if .ensures .0, c .before .before .before .before .one-if2 .ensures .0, c .before .before .before .one-if3 .ensures .0, c .before .before .one-if4 .ensures .0, c .before .one-if5 .ensures .0, c .one-if6 .ensures .0) (omega arith)
+    let back4 = c .before .before .before .before in
+    rw (six (back4 .before .before .args .t1) (search needs), back4 .before .one-if .ensures .0, c .before .before .before .before .one-if2 .ensures .0, c .before .before .before .one-if3 .ensures .0, c .before .before .one-if4 .ensures .0, c .before .one-if5 .ensures .0, c .one-if6 .ensures .0) (omega arith)
 
 pub count-active-spec : {M : Type 1} → statement M
 count-active-spec =

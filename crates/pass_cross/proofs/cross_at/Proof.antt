@@ -19,7 +19,8 @@ rows-around-requires c κs = search needs
 
 join-among-requires : tie.Need-join-among-requires
 join-among-requires c κs =
-    let d = c .before .before .before .before .before .before .before in
+    let d4 = c .before .before .before .before in
+    let d = d4 .before .before .before in
     let s = d .before .before .before .before in
     (λ k h. numbers-fit _ _ _ _ (d .numbers-around .ensures) _ _ (s .pre .at .inside) (s .pre .own) k, s .pre .own .fits)
 

@@ -69,7 +69,9 @@ cross-line-requires c κs =
     (trays-kept (begin d .pre) (d .loop .inv), c .before .before .loop-test .taken)
 
 add-l : tie.Need-add-l Inv-loop μ-loop
-add-l c = omega (arith, lines-fit (begin (c .before .before .before .before .before .before .before .before)))
+add-l c =
+    let back4 = c .before .before .before .before in
+    omega (arith, lines-fit (begin (back4 .before .before .before .before)))
 
 loop-less : tie.Need-loop-less Inv-loop μ-loop
 loop-less c = search needs
@@ -77,11 +79,13 @@ loop-less c = search needs
 loop-again : tie.Need-loop-again Inv-loop μ-loop
 unfolding lineCount sides
 loop-again c =
-    let d = c .before .before .before .before .before .before .before .before in
+    let back4 = c .before .before .before .before in
+    let d4 = c .before .before .before .before in
+    let d = d4 .before .before .before .before in
     let s = begin d in
     let l = d .loop in
     rest-fewer (λ f. lineEdges (edges s f) (extents-of s) (s .args .j - 1) (l .l))
-    (rw (lines-next (edges s (root (s .args .above .now))) (extents-of s) (s .args .j - 1) (l .l) (c .before .before .before .before .before .before .before .loop-test .taken)) at (l .inv))
+    (rw (lines-next (edges s (root (s .args .above .now))) (extents-of s) (s .args .j - 1) (l .l) (back4 .before .before .before .loop-test .taken)) at (l .inv))
     (c .before .before .before .before .cross-line .ensures)
 
 same-length : tie.Need-same-length Inv-loop μ-loop

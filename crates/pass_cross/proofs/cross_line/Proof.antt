@@ -42,7 +42,9 @@ odd-axes s = omega (arith, s .pre .0 .low, s .pre .0 .high)
 
 -- The entry, from the place after the strides and from the loop.
 abbrev entry : tie.After-last-stride Inv-loop μ-loop → tie.Start Inv-loop μ-loop
-entry d = d .before .before .before .before .before .before
+entry d =
+    let back4 = d .before .before .before .before in
+    back4 .before .before
 
 abbrev begin : tie.At-loop Inv-loop μ-loop → tie.Start Inv-loop μ-loop
 begin d = entry (d .before)
@@ -86,7 +88,9 @@ first-stride-requires : tie.Need-first-stride-requires Inv-loop μ-loop
 first-stride-requires c κs = search needs
 
 mul-last-stride : tie.Need-mul-last-stride Inv-loop μ-loop
-mul-last-stride c = omega (arith, layer-high (c .before .before .before .before .before .pre .0 .sized))
+mul-last-stride c =
+    let back4 = c .before .before .before .before in
+    omega (arith, layer-high (back4 .before .pre .0 .sized))
 
 last-stride-requires : tie.Need-last-stride-requires Inv-loop μ-loop
 last-stride-requires c κs = search needs
@@ -125,10 +129,12 @@ loop-less c = search needs
 loop-again : tie.Need-loop-again Inv-loop μ-loop
 unfolding sides lineY lineZ
 loop-again c =
-    let d = c .before .before .before .before .before .before .before .before in
+    let back4 = c .before .before .before .before in
+    let d4 = c .before .before .before .before in
+    let d = d4 .before .before .before .before in
     let s = begin d in
     let l = d .loop in
-    let i = l .inv .0 (c .before .before .before .before .before .before .before .loop-test .taken) in (
+    let i = l .inv .0 (back4 .before .before .before .loop-test .taken) in (
       λ h. omega arith,
       rest-fewer (λ f. crossAt (extents-of s) (s .args .map .now) f (s .args .above-from) (s .args .from) (s .args .l * (2 * s .args .nx - 1) + l .x))
           (rw (cells-next (edges s) (extents-of s) (s .args .j - 1) (s .args .l) (4 - s .args .j) (odd-axes s) (l .x) (omega arith) (omega arith)) at (l .inv .1))

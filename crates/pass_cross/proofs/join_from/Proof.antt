@@ -51,7 +51,8 @@ array-copy-out-join-two c = search needs
 
 join-two-requires : tie.Need-join-two-requires Inv-loop μ-loop
 join-two-requires c κs =
-    let s = c .before .before .before .before .before .before in
+    let s4 = c .before .before .before .before in
+    let s = s4 .before .before in
     let l = c .before .before .before .loop in
     let z = l .inv .size in
     (omega (arith, z, s .pre .1 (s .args .i) (s .pre .0)), omega (arith, z, s .pre .1 (l .k) (c .before .before .loop-test .taken)), omega (arith, z, s .pre .2))

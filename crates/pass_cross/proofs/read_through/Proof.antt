@@ -19,7 +19,9 @@ find-halving-requires : tie.Need-find-halving-requires
 find-halving-requires c κs = search needs
 
 add-result : tie.Need-add-result
-add-result c = let s = c .before .before .before .before .before .before in omega (arith, root-fits _ _ (s .args .from) (s .args .n) _ (c .before .before .before .before .if1 .left) (c .before .before .find-halving .ensures) (s .pre .0))
+add-result c =
+    let s4 = c .before .before .before .before in
+    let s = s4 .before .before in omega (arith, root-fits _ _ (s .args .from) (s .args .n) _ (c .before .before .before .before .if1 .left) (c .before .before .find-halving .ensures) (s .pre .0))
 
 same-length : tie.Need-same-length
 same-length c = search needs

@@ -37,8 +37,10 @@ rows-along-requires-4 c κs = search (three-middle, beside-kept)
 
 rows-along-requires-5 : tie.Need-rows-along-requires-5
 rows-along-requires-5 c κs =
-    let d = c .before .before .before .before .before .before .before in
-    let s = d .before .before .before .before .before in
+    let d4 = c .before .before .before .before in
+    let d = d4 .before .before .before in
+    let s4 = d .before .before .before .before in
+    let s = s4 .before in
     beside-kept _ _ _ _ _ _ _ _ _ _ _
     (beside-kept _ _ _ _ _ _ _ _ _ _ _ (three-last _ _ _ _ _ _ _ (s .pre .0) _ _ (s .pre .1) (d .before .before .if1 .left)) (d .rows-along3 .ensures))
     (c .before .before .before .rows-along4 .ensures)

@@ -38,19 +38,22 @@ sub-x-2 c = search needs
 
 add-key-cell : tie.Need-add-key-cell Inv-loop μ-loop
 add-key-cell c =
-    let a = c .before .before .before .before .before .pre .0 in
+    let a4 = c .before .before .before .before in
+    let a = a4 .before .pre .0 in
     let h = along-here a (c .before .before .loop .x - 2) (omega arith) (omega arith) (omega arith) in
     omega (arith, h .within, h .few)
 
 add-key-cell-2 : tie.Need-add-key-cell-2 Inv-loop μ-loop
 add-key-cell-2 c =
-    let a = c .before .before .before .before .before .pre .0 in
+    let a4 = c .before .before .before .before in
+    let a = a4 .before .pre .0 in
     let h = along-here a (c .before .before .loop .x - 2) (omega arith) (omega arith) (omega arith) in
     omega (arith, h .high)
 
 key-cell-requires : tie.Need-key-cell-requires Inv-loop μ-loop
 key-cell-requires c κs =
-    let st = c .before .before .before .before .before in
+    let st4 = c .before .before .before .before in
+    let st = st4 .before in
     let i = c .before .before .loop .inv in
     let h = along-here (st .pre .0) (c .before .before .loop .x - 2) (omega arith) (omega arith) (omega arith) in
     (h .within, omega (arith, h .number, st .pre .2, i .3), h .position, h .high, st .pre .1)
@@ -60,8 +63,10 @@ loop-less c = search needs
 
 loop-again : tie.Need-loop-again Inv-loop μ-loop
 loop-again c =
-    let st = c .before .before .before .before .before .before .before .before in
-    let i = c .before .before .before .before .before .loop .inv in
+    let st4 = c .before .before .before .before in
+    let st = st4 .before .before .before .before in
+    let i4 = c .before .before .before .before in
+    let i = i4 .before .loop .inv in
     (omega arith, omega arith, omega arith, omega arith, cells-next (st .pre .0) _ _ _ _ _ _ (omega arith) (i .0) (i .1) (i .2) (i .4) (c .before .before .key-cell .ensures))
 
 same-length : tie.Need-same-length Inv-loop μ-loop

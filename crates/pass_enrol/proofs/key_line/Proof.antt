@@ -38,13 +38,15 @@ first-x-requires c κs = search needs
 embed-requires : tie.Need-embed-requires
 unfolding sides
 embed-requires c κs =
-    let p = c .before .before .before .before .before .pre in
+    let p4 = c .before .before .before .before in
+    let p = p4 .before .pre in
     (p .0 .whole, shift-in (p .0) _ (line-in _ _ (omega (arith, p .0 .sized)) (p .5)))
 
 key-cells-requires : tie.Need-key-cells-requires
 unfolding sides lineY lineZ
 key-cells-requires c κs =
-    let p = c .before .before .before .before .before .before .before .pre in (
+    let p4 = c .before .before .before .before in
+    let p = p4 .before .before .before .pre in (
       record { lies = p .0; size = p .1; below = p .3; on = p .5; wide = refl; first = c .before .before .first-x .ensures; begins = c .before .embed .ensures },
       p .2,
       p .4,

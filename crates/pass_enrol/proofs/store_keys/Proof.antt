@@ -39,7 +39,9 @@ sub-lines-2 c = search needs
 
 mul-lines-3 : tie.Need-mul-lines-3 Inv-loop μ-loop
 unfolding lineCount sides
-mul-lines-3 c = omega (arith, lines-high (c .before .before .before .before .before .before .before .before .pre .0 .sized))
+mul-lines-3 c =
+    let back4 = c .before .before .before .before in
+    omega (arith, lines-high (back4 .before .before .before .before .pre .0 .sized))
 
 loop-holds : tie.Need-loop-holds Inv-loop μ-loop
 unfolding lineCount sides
@@ -51,7 +53,9 @@ sub-key-line c = omega (arith, c .before .before .loop .inv .0)
 key-line-requires : tie.Need-key-line-requires Inv-loop μ-loop
 unfolding lineCount sides
 key-line-requires c κs =
-    let p = c .before .before .before .before .before .before .before .before .before .before .before .pre in
+    let p4 = c .before .before .before .before in
+    let p8 = p4 .before .before .before .before in
+    let p = p8 .before .before .before .pre in
     (p .0, p .1, p .2, p .3, omega (arith, p .4, p .5, c .before .before .loop .inv .1), omega (arith, c .before .before .loop .inv .0))
 
 sub-l : tie.Need-sub-l Inv-loop μ-loop
@@ -63,7 +67,8 @@ loop-less c = search needs
 loop-again : tie.Need-loop-again Inv-loop μ-loop
 unfolding lineCount sides
 loop-again c =
-    let i = c .before .before .before .before .before .loop .inv in
+    let i4 = c .before .before .before .before in
+    let i = i4 .before .loop .inv in
     (omega (arith, i .0), omega (arith, i .1), lines-next _ _ _ _ _ _ _ _ _ _ (omega arith) (i .0) (i .2) (c .before .before .key-line .ensures))
 
 same-length : tie.Need-same-length Inv-loop μ-loop
@@ -71,8 +76,10 @@ same-length c = omega (arith, c .before .loop .inv .1)
 
 returns : tie.Need-returns Inv-loop μ-loop
 returns c =
+    let back4 = c .before .before .before .before in
+    let back8 = back4 .before .before .before .before in
     let i = c .before .loop .inv in
-    lines-end _ _ _ _ _ _ _ _ _ _ _ (omega arith) (c .before .before .before .before .before .before .before .before .before .before .pre .4) (c .before .before .before .before .before .before .clear-keys .ensures) (i .2)
+    lines-end _ _ _ _ _ _ _ _ _ _ _ (omega arith) (back8 .before .before .pre .4) (back4 .before .before .clear-keys .ensures) (i .2)
 
 pub store-keys-spec : {M : Type 1} → statement M
 store-keys-spec =

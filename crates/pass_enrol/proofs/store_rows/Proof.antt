@@ -38,19 +38,24 @@ shared-slice-read-row-for c = search needs
 
 row-for-requires : tie.Need-row-for-requires Inv-loop μ-loop
 row-for-requires c κs =
-    let p = c .before .before .before .before .before .before .pre in
+    let p4 = c .before .before .before .before in
+    let p = p4 .before .before .pre in
     (p .0, p .1, number-has (p .0) _ _ _ (p .2) _ (p .3 .at _ (omega arith)))
 
 add-put-row : tie.Need-add-put-row Inv-loop μ-loop
 add-put-row c = search needs
 
 mul-put-row : tie.Need-mul-put-row Inv-loop μ-loop
-mul-put-row c = omega (arith, row-room (6 - 2 * c .before .before .before .before .before .before .before .before .args .j) (c .before .before .before .before .before .before .before .before .args .from) (c .before .before .before .before .before .before .before .before .args .count) (c .before .before .before .before .loop .i) (omega arith), c .before .before .before .before .before .before .before .before .pre .4)
+mul-put-row c =
+    let back4 = c .before .before .before .before in
+    omega (arith, row-room (6 - 2 * back4 .before .before .before .before .args .j) (back4 .before .before .before .before .args .from) (back4 .before .before .before .before .args .count) (c .before .before .before .before .loop .i) (omega arith), back4 .before .before .before .before .pre .4)
 
 put-row-requires : tie.Need-put-row-requires Inv-loop μ-loop
 put-row-requires c κs =
-    let a = c .before .before .before .before .before .before .before .before .args in
-    let p = c .before .before .before .before .before .before .before .before .pre in
+    let a4 = c .before .before .before .before in
+    let a = a4 .before .before .before .before .args in
+    let p4 = c .before .before .before .before in
+    let p = p4 .before .before .before .before .pre in
     let l = c .before .before .before .before .loop in (
       omega (arith, row-room (6 - 2 * a .j) (a .from) (a .count) (l .i) (omega arith), p .4, l .inv .1),
       omega arith,
@@ -65,9 +70,14 @@ loop-less c = search needs
 
 loop-again : tie.Need-loop-again Inv-loop μ-loop
 loop-again c =
-    let a = c .before .before .before .before .before .before .before .before .before .before .before .args in
-    let p = c .before .before .before .before .before .before .before .before .before .before .before .pre in
-    let i = c .before .before .before .before .before .before .before .loop .inv in
+    let a4 = c .before .before .before .before in
+    let a8 = a4 .before .before .before .before in
+    let a = a8 .before .before .before .args in
+    let p4 = c .before .before .before .before in
+    let p8 = p4 .before .before .before .before in
+    let p = p8 .before .before .before .pre in
+    let i4 = c .before .before .before .before in
+    let i = i4 .before .before .before .loop .inv in
     let r = number-row (p .0) _ _ _ (p .2) _ (p .3 .at _ (omega arith)) _ (c .before .before .before .before .row-for .ensures) in
     (omega arith, omega arith, rows-next _ _ _ (λ x k. rowIn (sizeOf (a .block)) (a .shift) (a .map .now) (a .j) (suc x) k) _ _ _ _ (i .2) (c .before .before .put-row .ensures) (row-entry _ _ _ _ _ _ r))
 

@@ -50,11 +50,14 @@ loop-holds c =
 join-line-requires : tie.Need-join-line-requires Inv-loop μ-loop
 unfolding lineCount sides
 join-line-requires c κs =
-    let s = c .before .before .before .before .before in
+    let s4 = c .before .before .before .before in
+    let s = s4 .before in
     (trays-kept (s .pre .0) (c .before .before .loop .inv), s .pre .1, c .before .loop-test .taken)
 
 add-l : tie.Need-add-l Inv-loop μ-loop
-add-l c = omega (arith, lines-high (c .before .before .before .before .before .before .before .before))
+add-l c =
+    let back4 = c .before .before .before .before in
+    omega (arith, lines-high (back4 .before .before .before .before))
 
 loop-less : tie.Need-loop-less Inv-loop μ-loop
 loop-less c = search needs
@@ -62,8 +65,10 @@ loop-less c = search needs
 loop-again : tie.Need-loop-again Inv-loop μ-loop
 unfolding lineCount sides
 loop-again c =
-    let s = c .before .before .before .before .before .before .before .before in
-    let l = c .before .before .before .before .before .loop in
+    let s4 = c .before .before .before .before in
+    let s = s4 .before .before .before .before in
+    let l4 = c .before .before .before .before in
+    let l = l4 .before .loop in
     left-fewer _ (rw (lines-next (extents-of s) (s .args .map .now) (s .args .j) (l .l) (c .before .before .before .before .loop-test .taken)) at (l .inv)) (c .before .before .join-line .ensures)
 
 same-length : tie.Need-same-length Inv-loop μ-loop

@@ -44,22 +44,34 @@ curve-row-requires-3 : tie.Need-curve-row-requires-3
 curve-row-requires-3 c κs = on-b (c .before .before .before .before) .down
 
 add-curve-row-2 : tie.Need-add-curve-row-2
-add-curve-row-2 c = omega (arith, on-b (c .before .before .before .before .before) .fits)
+add-curve-row-2 c =
+    let back4 = c .before .before .before .before in
+    omega (arith, on-b (back4 .before) .fits)
 
 curve-row-requires-4 : tie.Need-curve-row-requires-4
-curve-row-requires-4 c κs = on-b (c .before .before .before .before .before) .up
+curve-row-requires-4 c κs =
+    let back4 = c .before .before .before .before in
+    on-b (back4 .before) .up
 
 sub-curve-row-3 : tie.Need-sub-curve-row-3
-sub-curve-row-3 c = on-c (c .before .before .before .before .before .before) .low
+sub-curve-row-3 c =
+    let back4 = c .before .before .before .before in
+    on-c (back4 .before .before) .low
 
 curve-row-requires-5 : tie.Need-curve-row-requires-5
-curve-row-requires-5 c κs = on-c (c .before .before .before .before .before .before) .down
+curve-row-requires-5 c κs =
+    let back4 = c .before .before .before .before in
+    on-c (back4 .before .before) .down
 
 add-curve-row-3 : tie.Need-add-curve-row-3
-add-curve-row-3 c = omega (arith, on-c (c .before .before .before .before .before .before .before) .fits)
+add-curve-row-3 c =
+    let back4 = c .before .before .before .before in
+    omega (arith, on-c (back4 .before .before .before) .fits)
 
 curve-row-requires-6 : tie.Need-curve-row-requires-6
-curve-row-requires-6 c κs = on-c (c .before .before .before .before .before .before .before) .up
+curve-row-requires-6 c κs =
+    let back4 = c .before .before .before .before in
+    on-c (back4 .before .before .before) .up
 
 is-blank-requires : tie.Need-is-blank-requires
 is-blank-requires c κs = search needs
@@ -82,57 +94,113 @@ is-blank-requires-6 c κs = search needs
 returns : tie.Need-returns
 unfolding around
 returns c =
-    let s = c .before .before .before .before .before .before .before .before .before .before .before .before .before .before .before in
+    let back4 = c .before .before .before .before in
+    let back8 = back4 .before .before .before .before in
+    let s4 = c .before .before .before .before in
+    let s8 = s4 .before .before .before .before in
+    let s12 = s8 .before .before .before .before in
+    let s = s12 .before .before .before in
     let t5 = c .if1 .taken in
-    let t4 = and-first ((((c .before .before .before .before .before .before .is-blank .result && c .before .before .before .before .before .is-blank2 .result) && c .before .before .before .before .is-blank3 .result) && c .before .before .before .is-blank4 .result) && c .before .before .is-blank5 .result) (c .before .is-blank6 .result) t5 in
-    let t3 = and-first (((c .before .before .before .before .before .before .is-blank .result && c .before .before .before .before .before .is-blank2 .result) && c .before .before .before .before .is-blank3 .result) && c .before .before .before .is-blank4 .result) (c .before .before .is-blank5 .result) t4 in
-    let t2 = and-first ((c .before .before .before .before .before .before .is-blank .result && c .before .before .before .before .before .is-blank2 .result) && c .before .before .before .before .is-blank3 .result) (c .before .before .before .is-blank4 .result) t3 in
-    let t1 = and-first (c .before .before .before .before .before .before .is-blank .result && c .before .before .before .before .before .is-blank2 .result) (c .before .before .before .before .is-blank3 .result) t2 in
-    let t0 = and-first (c .before .before .before .before .before .before .is-blank .result) (c .before .before .before .before .before .is-blank2 .result) t1 in
+    let t4 = and-first ((((back4 .before .before .is-blank .result && back4 .before .is-blank2 .result) && c .before .before .before .before .is-blank3 .result) && c .before .before .before .is-blank4 .result) && c .before .before .is-blank5 .result) (c .before .is-blank6 .result) t5 in
+    let t3 = and-first (((back4 .before .before .is-blank .result && back4 .before .is-blank2 .result) && c .before .before .before .before .is-blank3 .result) && c .before .before .before .is-blank4 .result) (c .before .before .is-blank5 .result) t4 in
+    let t2 = and-first ((back4 .before .before .is-blank .result && back4 .before .is-blank2 .result) && c .before .before .before .before .is-blank3 .result) (c .before .before .before .is-blank4 .result) t3 in
+    let t1 = and-first (back4 .before .before .is-blank .result && back4 .before .is-blank2 .result) (c .before .before .before .before .is-blank3 .result) t2 in
+    let t0 = and-first (back4 .before .before .is-blank .result) (back4 .before .is-blank2 .result) t1 in
     idle-around (extents-of s) (s .args .map .now) (s .args .t) (s .args .a ∷ s .args .b ∷ s .args .c ∷ []) (s .pre .2)
-    (c .before .before .before .before .before .before .before .before .before .before .before .before .curve-row .result ∷ c .before .before .before .before .before .before .before .before .before .before .before .curve-row2 .result ∷ c .before .before .before .before .before .before .before .before .before .before .curve-row3 .result ∷ c .before .before .before .before .before .before .before .before .before .curve-row4 .result ∷ c .before .before .before .before .before .before .before .before .curve-row5 .result ∷ c .before .before .before .before .before .before .before .curve-row6 .result ∷ [])
-    (rw (c .before .before .before .before .before .before .before .before .before .before .before .before .curve-row .ensures, c .before .before .before .before .before .before .before .before .before .before .before .curve-row2 .ensures, c .before .before .before .before .before .before .before .before .before .before .curve-row3 .ensures, c .before .before .before .before .before .before .before .before .before .curve-row4 .ensures, c .before .before .before .before .before .before .before .before .curve-row5 .ensures, c .before .before .before .before .before .before .before .curve-row6 .ensures))
-    (blank-row _ (c .before .before .before .before .before .before .is-blank .ensures) t0, (blank-row _ (c .before .before .before .before .before .is-blank2 .ensures) (and-second (c .before .before .before .before .before .before .is-blank .result) (c .before .before .before .before .before .is-blank2 .result) t1), (blank-row _ (c .before .before .before .before .is-blank3 .ensures) (and-second (c .before .before .before .before .before .before .is-blank .result && c .before .before .before .before .before .is-blank2 .result) (c .before .before .before .before .is-blank3 .result) t2), (blank-row _ (c .before .before .before .is-blank4 .ensures) (and-second ((c .before .before .before .before .before .before .is-blank .result && c .before .before .before .before .before .is-blank2 .result) && c .before .before .before .before .is-blank3 .result) (c .before .before .before .is-blank4 .result) t3), (blank-row _ (c .before .before .is-blank5 .ensures) (and-second (((c .before .before .before .before .before .before .is-blank .result && c .before .before .before .before .before .is-blank2 .result) && c .before .before .before .before .is-blank3 .result) && c .before .before .before .is-blank4 .result) (c .before .before .is-blank5 .result) t4), (blank-row _ (c .before .is-blank6 .ensures) (and-second ((((c .before .before .before .before .before .before .is-blank .result && c .before .before .before .before .before .is-blank2 .result) && c .before .before .before .before .is-blank3 .result) && c .before .before .before .is-blank4 .result) && c .before .before .is-blank5 .result) (c .before .is-blank6 .result) t5), tt))))))
+    (back8 .before .before .before .before .curve-row .result ∷ back8 .before .before .before .curve-row2 .result ∷ back8 .before .before .curve-row3 .result ∷ back8 .before .curve-row4 .result ∷ back4 .before .before .before .before .curve-row5 .result ∷ back4 .before .before .before .curve-row6 .result ∷ [])
+    (rw (back8 .before .before .before .before .curve-row .ensures, back8 .before .before .before .curve-row2 .ensures, back8 .before .before .curve-row3 .ensures, back8 .before .curve-row4 .ensures, back4 .before .before .before .before .curve-row5 .ensures, back4 .before .before .before .curve-row6 .ensures))
+    (blank-row _ (back4 .before .before .is-blank .ensures) t0, (blank-row _ (back4 .before .is-blank2 .ensures) (and-second (back4 .before .before .is-blank .result) (back4 .before .is-blank2 .result) t1), (blank-row _ (c .before .before .before .before .is-blank3 .ensures) (and-second (back4 .before .before .is-blank .result && back4 .before .is-blank2 .result) (c .before .before .before .before .is-blank3 .result) t2), (blank-row _ (c .before .before .before .is-blank4 .ensures) (and-second ((back4 .before .before .is-blank .result && back4 .before .is-blank2 .result) && c .before .before .before .before .is-blank3 .result) (c .before .before .before .is-blank4 .result) t3), (blank-row _ (c .before .before .is-blank5 .ensures) (and-second (((back4 .before .before .is-blank .result && back4 .before .is-blank2 .result) && c .before .before .before .before .is-blank3 .result) && c .before .before .before .is-blank4 .result) (c .before .before .is-blank5 .result) t4), (blank-row _ (c .before .is-blank6 .ensures) (and-second ((((back4 .before .before .is-blank .result && back4 .before .is-blank2 .result) && c .before .before .before .before .is-blank3 .result) && c .before .before .before .is-blank4 .result) && c .before .before .is-blank5 .result) (c .before .is-blank6 .result) t5), tt))))))
 
 sub-t17 : tie.Need-sub-t17
-sub-t17 c = on-a (c .before .before .before .before .before .before .before .before .before .before .before .before .before .before .before) .low
+sub-t17 c =
+    let back4 = c .before .before .before .before in
+    let back8 = back4 .before .before .before .before in
+    let back12 = back8 .before .before .before .before in
+    on-a (back12 .before .before .before) .low
 
 cast-t29 : tie.Need-cast-t29
-cast-t29 c = omega (arith, on-a (c .before .before .before .before .before .before .before .before .before .before .before .before .before .before .before) .fits)
+cast-t29 c =
+    let back4 = c .before .before .before .before in
+    let back8 = back4 .before .before .before .before in
+    let back12 = back8 .before .before .before .before in
+    omega (arith, on-a (back12 .before .before .before) .fits)
 
 add-t30 : tie.Need-add-t30
-add-t30 c = omega (arith, on-a (c .before .before .before .before .before .before .before .before .before .before .before .before .before .before .before) .fits)
+add-t30 c =
+    let back4 = c .before .before .before .before in
+    let back8 = back4 .before .before .before .before in
+    let back12 = back8 .before .before .before .before in
+    omega (arith, on-a (back12 .before .before .before) .fits)
 
 cast-t31 : tie.Need-cast-t31
-cast-t31 c = omega (arith, on-a (c .before .before .before .before .before .before .before .before .before .before .before .before .before .before .before) .fits)
+cast-t31 c =
+    let back4 = c .before .before .before .before in
+    let back8 = back4 .before .before .before .before in
+    let back12 = back8 .before .before .before .before in
+    omega (arith, on-a (back12 .before .before .before) .fits)
 
 sub-t32 : tie.Need-sub-t32
-sub-t32 c = on-b (c .before .before .before .before .before .before .before .before .before .before .before .before .before .before .before) .low
+sub-t32 c =
+    let back4 = c .before .before .before .before in
+    let back8 = back4 .before .before .before .before in
+    let back12 = back8 .before .before .before .before in
+    on-b (back12 .before .before .before) .low
 
 cast-t33 : tie.Need-cast-t33
-cast-t33 c = omega (arith, on-b (c .before .before .before .before .before .before .before .before .before .before .before .before .before .before .before) .fits)
+cast-t33 c =
+    let back4 = c .before .before .before .before in
+    let back8 = back4 .before .before .before .before in
+    let back12 = back8 .before .before .before .before in
+    omega (arith, on-b (back12 .before .before .before) .fits)
 
 add-t34 : tie.Need-add-t34
-add-t34 c = omega (arith, on-b (c .before .before .before .before .before .before .before .before .before .before .before .before .before .before .before) .fits)
+add-t34 c =
+    let back4 = c .before .before .before .before in
+    let back8 = back4 .before .before .before .before in
+    let back12 = back8 .before .before .before .before in
+    omega (arith, on-b (back12 .before .before .before) .fits)
 
 cast-t35 : tie.Need-cast-t35
-cast-t35 c = omega (arith, on-b (c .before .before .before .before .before .before .before .before .before .before .before .before .before .before .before) .fits)
+cast-t35 c =
+    let back4 = c .before .before .before .before in
+    let back8 = back4 .before .before .before .before in
+    let back12 = back8 .before .before .before .before in
+    omega (arith, on-b (back12 .before .before .before) .fits)
 
 sub-t36 : tie.Need-sub-t36
-sub-t36 c = on-c (c .before .before .before .before .before .before .before .before .before .before .before .before .before .before .before) .low
+sub-t36 c =
+    let back4 = c .before .before .before .before in
+    let back8 = back4 .before .before .before .before in
+    let back12 = back8 .before .before .before .before in
+    on-c (back12 .before .before .before) .low
 
 cast-t37 : tie.Need-cast-t37
-cast-t37 c = omega (arith, on-c (c .before .before .before .before .before .before .before .before .before .before .before .before .before .before .before) .fits)
+cast-t37 c =
+    let back4 = c .before .before .before .before in
+    let back8 = back4 .before .before .before .before in
+    let back12 = back8 .before .before .before .before in
+    omega (arith, on-c (back12 .before .before .before) .fits)
 
 add-t38 : tie.Need-add-t38
-add-t38 c = omega (arith, on-c (c .before .before .before .before .before .before .before .before .before .before .before .before .before .before .before) .fits)
+add-t38 c =
+    let back4 = c .before .before .before .before in
+    let back8 = back4 .before .before .before .before in
+    let back12 = back8 .before .before .before .before in
+    omega (arith, on-c (back12 .before .before .before) .fits)
 
 cast-t39 : tie.Need-cast-t39
-cast-t39 c = omega (arith, on-c (c .before .before .before .before .before .before .before .before .before .before .before .before .before .before .before) .fits)
+cast-t39 c =
+    let back4 = c .before .before .before .before in
+    let back8 = back4 .before .before .before .before in
+    let back12 = back8 .before .before .before .before in
+    omega (arith, on-c (back12 .before .before .before) .fits)
 
 join-alike-requires : tie.Need-join-alike-requires
 join-alike-requires c κs k h =
-    let s = c .before .before .before .before .before .before .before .before .before .before .before .before .before .before .before .before in
+    let s4 = c .before .before .before .before in
+    let s8 = s4 .before .before .before .before in
+    let s12 = s8 .before .before .before .before in
+    let s = s12 .before .before .before .before in
     let x = s .args in
     let na = on-a s in
     let nb = on-b s in
@@ -145,10 +213,13 @@ same-length c = search needs
 returns-2 : tie.Need-returns-2
 unfolding around
 returns-2 c =
-    let d = c .before .before .before .before .before .before .before .before .before .before .before in
-    let s = d .before .before .before .before .before .before .before .before in
+    let d4 = c .before .before .before .before in
+    let d8 = d4 .before .before .before .before in
+    let d = d8 .before .before .before in
+    let s4 = d .before .before .before .before in
+    let s = s4 .before .before .before .before in
     joined-around (extents-of s) _ [] [] tt _ (s .args .a ∷ s .args .b ∷ s .args .c ∷ []) (s .pre .2)
-    (rw (d .before .before .before .before .before .curve-row .ensures, d .before .before .before .before .curve-row2 .ensures, d .before .before .before .curve-row3 .ensures, d .before .before .curve-row4 .ensures, d .before .curve-row5 .ensures, d .curve-row6 .ensures))
+    (rw (s4 .before .curve-row .ensures, d .before .before .before .before .curve-row2 .ensures, d .before .before .before .curve-row3 .ensures, d .before .before .curve-row4 .ensures, d .before .curve-row5 .ensures, d .curve-row6 .ensures))
     (c .before .before .join-alike .ensures)
 
 pub join-curves-spec : {M : Type 1} → statement M

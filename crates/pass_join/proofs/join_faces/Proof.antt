@@ -51,7 +51,9 @@ face-row-requires-3 : tie.Need-face-row-requires-3
 face-row-requires-3 c κs = on-b (c .before .before .before .before) .down
 
 face-row-requires-4 : tie.Need-face-row-requires-4
-face-row-requires-4 c κs = on-b (c .before .before .before .before .before) .up
+face-row-requires-4 c κs =
+    let back4 = c .before .before .before .before in
+    on-b (back4 .before) .up
 
 is-blank-requires : tie.Need-is-blank-requires
 is-blank-requires c κs = search needs
@@ -68,31 +70,48 @@ is-blank-requires-4 c κs = search needs
 returns : tie.Need-returns
 unfolding around
 returns c =
-    let s = c .before .before .before .before .before .before .before .before .before .before .before in
+    let back4 = c .before .before .before .before in
+    let s4 = c .before .before .before .before in
+    let s8 = s4 .before .before .before .before in
+    let s = s8 .before .before .before in
     let t3 = c .if1 .taken in
     let t2 = and-first ((c .before .before .before .before .is-blank .result && c .before .before .before .is-blank2 .result) && c .before .before .is-blank3 .result) (c .before .is-blank4 .result) t3 in
     let t1 = and-first (c .before .before .before .before .is-blank .result && c .before .before .before .is-blank2 .result) (c .before .before .is-blank3 .result) t2 in
     let t0 = and-first (c .before .before .before .before .is-blank .result) (c .before .before .before .is-blank2 .result) t1 in
     idle-around (extents-of s) (s .args .map .now) (s .args .t) (s .args .a ∷ s .args .b ∷ []) (s .pre .2)
-    (c .before .before .before .before .before .before .before .before .face-row .result ∷ c .before .before .before .before .before .before .before .face-row2 .result ∷ c .before .before .before .before .before .before .face-row3 .result ∷ c .before .before .before .before .before .face-row4 .result ∷ [])
-    (rw (c .before .before .before .before .before .before .before .before .face-row .ensures, c .before .before .before .before .before .before .before .face-row2 .ensures, c .before .before .before .before .before .before .face-row3 .ensures, c .before .before .before .before .before .face-row4 .ensures))
+    (back4 .before .before .before .before .face-row .result ∷ back4 .before .before .before .face-row2 .result ∷ back4 .before .before .face-row3 .result ∷ back4 .before .face-row4 .result ∷ [])
+    (rw (back4 .before .before .before .before .face-row .ensures, back4 .before .before .before .face-row2 .ensures, back4 .before .before .face-row3 .ensures, back4 .before .face-row4 .ensures))
     (blank-row _ (c .before .before .before .before .is-blank .ensures) t0, (blank-row _ (c .before .before .before .is-blank2 .ensures) (and-second (c .before .before .before .before .is-blank .result) (c .before .before .before .is-blank2 .result) t1), (blank-row _ (c .before .before .is-blank3 .ensures) (and-second (c .before .before .before .before .is-blank .result && c .before .before .before .is-blank2 .result) (c .before .before .is-blank3 .result) t2), (blank-row _ (c .before .is-blank4 .ensures) (and-second ((c .before .before .before .before .is-blank .result && c .before .before .before .is-blank2 .result) && c .before .before .is-blank3 .result) (c .before .is-blank4 .result) t3), tt))))
 
 cast-t26 : tie.Need-cast-t26
-cast-t26 c = omega (arith, on-a (c .before .before .before .before .before .before .before .before .before .before .before) .fits)
+cast-t26 c =
+    let back4 = c .before .before .before .before in
+    let back8 = back4 .before .before .before .before in
+    omega (arith, on-a (back8 .before .before .before) .fits)
 
 cast-t27 : tie.Need-cast-t27
-cast-t27 c = omega (arith, on-a (c .before .before .before .before .before .before .before .before .before .before .before) .fits)
+cast-t27 c =
+    let back4 = c .before .before .before .before in
+    let back8 = back4 .before .before .before .before in
+    omega (arith, on-a (back8 .before .before .before) .fits)
 
 cast-t28 : tie.Need-cast-t28
-cast-t28 c = omega (arith, on-b (c .before .before .before .before .before .before .before .before .before .before .before) .fits)
+cast-t28 c =
+    let back4 = c .before .before .before .before in
+    let back8 = back4 .before .before .before .before in
+    omega (arith, on-b (back8 .before .before .before) .fits)
 
 cast-t29 : tie.Need-cast-t29
-cast-t29 c = omega (arith, on-b (c .before .before .before .before .before .before .before .before .before .before .before) .fits)
+cast-t29 c =
+    let back4 = c .before .before .before .before in
+    let back8 = back4 .before .before .before .before in
+    omega (arith, on-b (back8 .before .before .before) .fits)
 
 join-alike-requires : tie.Need-join-alike-requires
 join-alike-requires c κs k h =
-    let s = c .before .before .before .before .before .before .before .before .before .before .before .before in
+    let s4 = c .before .before .before .before in
+    let s8 = s4 .before .before .before .before in
+    let s = s8 .before .before .before .before in
     let x = s .args in
     let na = on-a s in
     let nb = on-b s in
@@ -104,8 +123,11 @@ same-length c = search needs
 returns-2 : tie.Need-returns-2
 unfolding around occupied
 returns-2 c =
-    let d = c .before .before .before .before .before .before .before .before .before in
-    let s = d .before .before .before .before .before .before in
+    let d4 = c .before .before .before .before in
+    let d8 = d4 .before .before .before .before in
+    let d = d8 .before in
+    let s4 = d .before .before .before .before in
+    let s = s4 .before .before in
     joined-around (extents-of s) _ (0 ∷ 0 ∷ []) (no-row ∷ no-row ∷ []) (refl, (refl, tt)) _ (s .args .a ∷ s .args .b ∷ []) (s .pre .2)
     (rw (d .before .before .before .face-row .ensures, d .before .before .face-row2 .ensures, d .before .face-row3 .ensures, d .face-row4 .ensures))
     (c .before .before .join-alike .ensures)

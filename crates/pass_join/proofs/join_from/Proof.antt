@@ -84,7 +84,8 @@ loop-again : tie.Need-loop-again Inv-loop μ-loop
 unfolding occupied
 loop-again c =
     let l = c .before .before .before .before .loop in
-    let d = c .before .before .before .before .before in
+    let d4 = c .before .before .before .before in
+    let d = d4 .before in
     let s = d .before .before .before in
     let a = s .args in
     let six = sixes s in
@@ -104,7 +105,8 @@ returns-2 : tie.Need-returns-2 Inv-loop μ-loop
 unfolding alikeTo
 returns-2 c =
     let l = c .before .loop in
-    let s = c .before .before .before .before .before in
+    let s4 = c .before .before .before .before in
+    let s = s4 .before in
     let six = sixes s in
     rw add-one at (left-none (rw (drop-of-length-le (s .args .t1) {i = l .k} (omega arith)) at (l .inv)))
 

@@ -74,25 +74,29 @@ last-stride-requires c κs = search needs
 
 mul-base : tie.Need-mul-base Inv-loop μ-loop
 mul-base c =
-    let s = c .before .before .before .before .before in
+    let s4 = c .before .before .before .before in
+    let s = s4 .before in
     omega (arith, cell-inside s 0 (omega arith), cells-high (s .pre .0 .sized))
 
 loop-holds : tie.Need-loop-holds Inv-loop μ-loop
 unfolding sides lineY lineZ
 loop-holds c =
-    let s = c .before .before .before .before .before in
+    let s4 = c .before .before .before .before in
+    let s = s4 .before in
     let f = c .before .before .first-x .ensures in
     (rw f (λ h. let p = first-passes _ _ _ h in omega arith), rw (f, ← cells-start (extents-of s) (s .args .map .now) (s .args .j) (s .args .l) (s .pre .1)) (left-all _ _))
 
 add-join-at : tie.Need-add-join-at Inv-loop μ-loop
 add-join-at c =
-    let s = c .before .before .before .before .before .before .before in
+    let s4 = c .before .before .before .before in
+    let s = s4 .before .before .before in
     omega (arith, cell-inside s (c .before .loop .x) (omega arith), cells-high (s .pre .0 .sized))
 
 join-at-requires : tie.Need-join-at-requires Inv-loop μ-loop
 unfolding sides stride lineY lineZ
 join-at-requires c κs =
-    let s = c .before .before .before .before .before .before .before .before in
+    let s4 = c .before .before .before .before in
+    let s = s4 .before .before .before .before in
     let l = c .before .before .loop in
     let i = l .inv .0 (c .before .loop-test .taken) in (
       trays-kept (s .pre .0) (l .inv .1),
@@ -111,8 +115,11 @@ loop-less c = search needs
 loop-again : tie.Need-loop-again Inv-loop μ-loop
 unfolding sides lineY lineZ
 loop-again c =
-    let s = c .before .before .before .before .before .before .before .before .before .before .before in
-    let l = c .before .before .before .before .before .loop in
+    let s4 = c .before .before .before .before in
+    let s8 = s4 .before .before .before .before in
+    let s = s8 .before .before .before in
+    let l4 = c .before .before .before .before in
+    let l = l4 .before .loop in
     let i = l .inv .0 (c .before .before .before .before .loop-test .taken) in
     (λ h. omega arith, left-fewer _ (rw (cells-next (extents-of s) (s .args .map .now) (s .args .j) (s .args .l) (s .pre .1) (l .x) (omega arith) (omega arith)) at (l .inv .1)) (c .before .before .join-at .ensures))
 
@@ -122,7 +129,8 @@ same-length c = search needs
 returns : tie.Need-returns Inv-loop μ-loop
 unfolding sides
 returns c =
-    let s = c .before .before .before .before .before .before .before in
+    let s4 = c .before .before .before .before in
+    let s = s4 .before .before .before in
     let l = c .before .loop in
     left-none (rw (cells-end (extents-of s) (s .args .map .now) (s .args .j) (s .args .l) (s .pre .1) (l .x) (c .loop-test .left)) at (l .inv .1))
 

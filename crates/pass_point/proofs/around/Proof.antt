@@ -79,17 +79,24 @@ shared-slice-read-t27 : tie.Need-shared-slice-read-t27
 shared-slice-read-t27 c = search needs
 
 add-t28 : tie.Need-add-t28
-add-t28 c = omega (arith, on-z (c .before .before .before .before .before) .high)
+add-t28 c =
+    let back4 = c .before .before .before .before in
+    omega (arith, on-z (back4 .before) .high)
 
 mul-t29 : tie.Need-mul-t29
-mul-t29 c = omega (arith, on-z (c .before .before .before .before .before) .high)
+mul-t29 c =
+    let back4 = c .before .before .before .before in
+    omega (arith, on-z (back4 .before) .high)
 
 shared-slice-read-t31 : tie.Need-shared-slice-read-t31
-shared-slice-read-t31 c = on-z (c .before .before .before .before .before .before) .high
+shared-slice-read-t31 c =
+    let back4 = c .before .before .before .before in
+    on-z (back4 .before .before) .high
 
 returns : tie.Need-returns
 returns c =
-    let st = c .before .before .before .before .before .before in
+    let st4 = c .before .before .before .before in
+    let st = st4 .before .before in
     point-around (triple (st .args .nx) (st .args .ny) (st .args .nz)) (st .args .p) (st .pre .level) (st .args .map .now)
 
 pub around-spec : {M : Type 1} → statement M

@@ -23,12 +23,14 @@ abbrev μ-loop : tie.MeasureT-loop
 μ-loop map nx ny nz l numbers from count w h start base n₀ x₀ n x = w - x
 
 -- the cell at x lies in the grid
-within : (c : tie.In-loop Inv-loop μ-loop) → let a = c .before .before .before .before .before .args in a .l * (2 * a .nx - 1) + c .before .loop .x < cells (triple (a .nx) (a .ny) (a .nz))
+within : (c : tie.In-loop Inv-loop μ-loop) → let s = c .before .before .before .before in let a = s .before .args in a .l * (2 * a .nx - 1) + c .before .loop .x < cells (triple (a .nx) (a .ny) (a .nz))
 unfolding sides
-within c = at-within _ _ _ (c .before .loop .inv .0) (c .loop-test .taken) (c .before .before .before .before .before .pre .2)
+within c =
+    let back4 = c .before .before .before .before in
+    at-within _ _ _ (c .before .loop .inv .0) (c .loop-test .taken) (back4 .before .pre .2)
 
 -- the count with the cell at x
-more : (c : tie.After-count-cell Inv-loop μ-loop) → let a = c .before .before .before .before .before .before .args in
+more : (c : tie.After-count-cell Inv-loop μ-loop) → let s = c .before .before .before .before in let a = s .before .before .args in
     let e = triple (a .nx) (a .ny) (a .nz) in
     c .before .before .loop .n + c .count-cell .result + length (foundAmong e (a .numbers .now) (a .from) (a .map .now) (ahead e (a .l) (c .before .before .loop .x + 2))) ≡ a .count + length (foundAmong e (a .numbers .now) (a .from) (a .map .now) (onLine e 0 (a .l)))
 unfolding sides
@@ -71,10 +73,14 @@ add-count-cell c = omega (arith, within c)
 
 count-cell-requires : tie.Need-count-cell-requires Inv-loop μ-loop
 unfolding sides
-count-cell-requires c κs = let p = c .before .before .before .before .before .pre in record { sized = p .0; size = p .1; within = within c; level = at-level _ _ _ (c .before .loop .inv .0) (c .loop-test .taken) }
+count-cell-requires c κs =
+    let p4 = c .before .before .before .before in
+    let p = p4 .before .pre in record { sized = p .0; size = p .1; within = within c; level = at-level _ _ _ (c .before .loop .inv .0) (c .loop-test .taken) }
 
 add-n : tie.Need-add-n Inv-loop μ-loop
-add-n c = omega (arith, more c, c .before .before .before .before .before .before .pre .3)
+add-n c =
+    let back4 = c .before .before .before .before in
+    omega (arith, more c, back4 .before .before .pre .3)
 
 add-x : tie.Need-add-x Inv-loop μ-loop
 add-x c = search needs

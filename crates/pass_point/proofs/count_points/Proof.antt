@@ -51,7 +51,9 @@ count-line-requires c κs =
 
 add-l : tie.Need-add-l Inv-loop μ-loop
 unfolding lineCount sides
-add-l c = omega (arith, lines-high (c .before .before .before .before .before .pre .0))
+add-l c =
+    let back4 = c .before .before .before .before in
+    omega (arith, lines-high (back4 .before .pre .0))
 
 loop-less : tie.Need-loop-less Inv-loop μ-loop
 loop-less c = search needs

@@ -45,8 +45,10 @@ final-number-requires-6 c κs = search needs
 returns : tie.Need-returns
 unfolding finalsIn
 returns c =
-    let a = c .before .before .before .before .before .before .before .args in
-    rw (c .before .before .before .before .before .final-number .ensures, c .before .before .before .before .final-number2 .ensures, c .before .before .before .final-number3 .ensures, c .before .before .final-number4 .ensures, c .before .final-number5 .ensures, c .final-number6 .ensures)
+    let back4 = c .before .before .before .before in
+    let a4 = c .before .before .before .before in
+    let a = a4 .before .before .before .args in
+    rw (back4 .before .final-number .ensures, c .before .before .before .before .final-number2 .ensures, c .before .before .before .final-number3 .ensures, c .before .before .final-number4 .ensures, c .before .final-number5 .ensures, c .final-number6 .ensures)
     (sym (ap (finalsIn (a .numbers .now) (a .from)) (six (a .t1) (search needs))))
 
 pub finals-spec : {M : Type 1} → statement M

@@ -23,13 +23,17 @@ mul-keys-2 : tie.Need-mul-keys-2
 mul-keys-2 c = search needs
 
 slice-write-keys : tie.Need-slice-write-keys
-slice-write-keys c = room-one _ _ _ _ _ _ _ _ _ (c .before .found-row .ensures) (c .if1 .left) (c .before .before .before .before .before .before .pre .4) .0
+slice-write-keys c =
+    let back4 = c .before .before .before .before in
+    room-one _ _ _ _ _ _ _ _ _ (c .before .found-row .ensures) (c .if1 .left) (back4 .before .before .pre .4) .0
 
 mul-put-row : tie.Need-mul-put-row
 mul-put-row c = search needs
 
 put-row-requires : tie.Need-put-row-requires
-put-row-requires c κs = room-one _ _ _ _ _ _ _ _ _ (c .before .before .found-row .ensures) (c .before .if1 .left) (c .before .before .before .before .before .before .before .pre .4) .1
+put-row-requires c κs =
+    let back4 = c .before .before .before .before in
+    room-one _ _ _ _ _ _ _ _ _ (c .before .before .found-row .ensures) (c .before .if1 .left) (back4 .before .before .before .pre .4) .1
 
 add-result : tie.Need-add-result
 add-result c = search needs

@@ -35,13 +35,16 @@ first-x-requires c κs = search needs
 embed-requires : tie.Need-embed-requires
 unfolding sides
 embed-requires c κs =
-    let p = c .before .before .before .before .before .before .before .pre in
+    let p4 = c .before .before .before .before in
+    let p = p4 .before .before .before .pre in
     (p .0 .whole, shift-in (p .0) _ (line-in _ _ (omega (arith, p .0 .sized)) (p .3)))
 
 store-cells-requires : tie.Need-store-cells-requires
 unfolding sides lineY lineZ
 store-cells-requires c κs =
-    let p = c .before .before .before .before .before .before .before .before .before .before .pre in (
+    let p4 = c .before .before .before .before in
+    let p8 = p4 .before .before .before .before in
+    let p = p8 .before .before .pre in (
       record { lies = p .0; size = p .1; below = omega arith; on = p .3; wide = refl; first = c .before .before .before .first-x .ensures; begins = c .before .before .embed .ensures },
       p .2,
       p .4,

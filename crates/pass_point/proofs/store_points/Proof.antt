@@ -35,7 +35,9 @@ sub-lines-2 c = search needs
 
 mul-lines-3 : tie.Need-mul-lines-3 Inv-loop μ-loop
 unfolding lineCount sides
-mul-lines-3 c = omega (arith, lines-high (c .before .before .before .before .before .before .pre .0 .sized))
+mul-lines-3 c =
+    let back4 = c .before .before .before .before in
+    omega (arith, lines-high (back4 .before .before .pre .0 .sized))
 
 loop-holds : tie.Need-loop-holds Inv-loop μ-loop
 loop-holds c = (omega arith, left-all _ _ _ _ _ _ _ _ _ _ _ refl)
@@ -43,13 +45,19 @@ loop-holds c = (omega arith, left-all _ _ _ _ _ _ _ _ _ _ _ refl)
 store-line-requires : tie.Need-store-line-requires Inv-loop μ-loop
 unfolding lineCount sides
 store-line-requires c κs =
-    let p = c .before .before .before .before .before .before .before .before .before .before .pre in
+    let p4 = c .before .before .before .before in
+    let p8 = p4 .before .before .before .before in
+    let p = p8 .before .before .pre in
     let i = c .before .before .before .loop .inv in
     (p .0, p .1, p .2, omega arith, left-room _ _ _ _ _ _ _ _ _ _ _ _ _ _ (i .1) _ _ (from-next _ _ _ (omega arith)) (all-room _ _ _ _ _ _ _ (p .3)))
 
 add-l : tie.Need-add-l Inv-loop μ-loop
 unfolding lineCount sides
-add-l c = omega (arith, lines-high (c .before .before .before .before .before .before .before .before .before .before .before .before .before .before .before .pre .0 .sized))
+add-l c =
+    let back4 = c .before .before .before .before in
+    let back8 = back4 .before .before .before .before in
+    let back12 = back8 .before .before .before .before in
+    omega (arith, lines-high (back12 .before .before .before .pre .0 .sized))
 
 loop-less : tie.Need-loop-less Inv-loop μ-loop
 loop-less c = search needs
@@ -57,7 +65,8 @@ loop-less c = search needs
 loop-again : tie.Need-loop-again Inv-loop μ-loop
 unfolding lineCount sides
 loop-again c =
-    let i = c .before .before .before .before .before .before .before .before .loop .inv in
+    let i4 = c .before .before .before .before in
+    let i = i4 .before .before .before .before .loop .inv in
     (omega arith, left-next _ _ _ _ _ _ _ _ _ _ _ _ _ _ (i .1) _ _ (from-next _ _ _ (omega arith)) _ _ _ (c .before .before .before .before .store-line .ensures))
 
 same-length : tie.Need-same-length Inv-loop μ-loop

@@ -48,7 +48,9 @@ loop-less : tie.Need-loop-less Inv-loop μ-loop
 loop-less c = search needs
 
 loop-again : tie.Need-loop-again Inv-loop μ-loop
-loop-again c = let g = c .before .before .before .loop .inv in let st = c .before .before .before .before .before .before .pre in (search needs, grow _ _ _ _ _ _ _ (g .1) (c .before .before .loop-test .taken) (st .1) (omega (arith, g .0, st .2)) _ _ (c .one-if .ensures) refl)
+loop-again c =
+    let g = c .before .before .before .loop .inv in let st4 = c .before .before .before .before in
+    let st = st4 .before .before .pre in (search needs, grow _ _ _ _ _ _ _ (g .1) (c .before .before .loop-test .taken) (st .1) (omega (arith, g .0, st .2)) _ _ (c .one-if .ensures) refl)
 
 same-length : tie.Need-same-length Inv-loop μ-loop
 same-length c = search needs

@@ -8,7 +8,9 @@ own-face-requires : tie.Need-own-face-requires
 own-face-requires c κs = search needs
 
 returns : tie.Need-returns
-returns c = let s = c .before .before .before .before .before .before .before .before .pre in (away-sums _ _ _ _ _ _ _ _ _ _ (c .before .own-face .ensures) (s .1) _ (c .if1 .taken), away-counts _ _ _ _ _ _ _ _ _ _ (c .before .own-face .ensures) (s .1) _ (c .if1 .taken))
+returns c =
+    let s4 = c .before .before .before .before in
+    let s = s4 .before .before .before .before .pre in (away-sums _ _ _ _ _ _ _ _ _ _ (c .before .own-face .ensures) (s .1) _ (c .if1 .taken), away-counts _ _ _ _ _ _ _ _ _ _ (c .before .own-face .ensures) (s .1) _ (c .if1 .taken))
 
 take-face-requires : tie.Need-take-face-requires
 take-face-requires c κs = search needs

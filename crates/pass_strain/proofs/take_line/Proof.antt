@@ -33,7 +33,9 @@ line-at-requires c κs = search needs
 list-shown-requires : tie.Need-list-shown-requires Inv-loop μ-loop
 unfolding sides
 list-shown-requires c κs =
-    let p = c .before .before .before .before .before .before .before .before .before .pre in
+    let p4 = c .before .before .before .before in
+    let p8 = p4 .before .before .before .before in
+    let p = p8 .before .pre in
     (omega (arith, line-room _ _ (p .0 .sized) (p .1), c .before .line-at .ensures .base, p .0 .whole), omega (arith, p .0 .sized), omega (arith, p .4))
 
 loop-holds : tie.Need-loop-holds Inv-loop μ-loop
@@ -51,32 +53,40 @@ slice-read-x c = search needs
 add-take-cell : tie.Need-add-take-cell Inv-loop μ-loop
 unfolding sides
 add-take-cell c =
-    let g = c .before .before .before .before .before in
+    let g4 = c .before .before .before .before in
+    let g = g4 .before in
     let k = g .before .before .before in
     let r = k .before .before in
-    let p = r .before .before .before .before .before .before .before .before .pre in
+    let p4 = r .before .before .before .before in
+    let p = p4 .before .before .before .before .pre in
     let x-in = listed-cell _ _ _ _ _ _ _ _ (p .1) _ (r .line-at .ensures) _ _ (k .list-shown .ensures) _ _ _ _ _ (g .loop .inv .3) (c .before .before .before .before .loop-test .taken) in
     omega (arith, bounds _ _ (p .0 .sized) (p .1), p .0 .sized, r .line-at .ensures .base, x-in .0)
 
 add-take-cell-2 : tie.Need-add-take-cell-2 Inv-loop μ-loop
 unfolding sides
 add-take-cell-2 c =
-    let g = c .before .before .before .before .before .before in
+    let back4 = c .before .before .before .before in
+    let g4 = c .before .before .before .before in
+    let g = g4 .before .before in
     let k = g .before .before .before in
     let r = k .before .before in
-    let p = r .before .before .before .before .before .before .before .before .pre in
-    let x-in = listed-cell _ _ _ _ _ _ _ _ (p .1) _ (r .line-at .ensures) _ _ (k .list-shown .ensures) _ _ _ _ _ (g .loop .inv .3) (c .before .before .before .before .before .loop-test .taken) in
+    let p4 = r .before .before .before .before in
+    let p = p4 .before .before .before .before .pre in
+    let x-in = listed-cell _ _ _ _ _ _ _ _ (p .1) _ (r .line-at .ensures) _ _ (k .list-shown .ensures) _ _ _ _ _ (g .loop .inv .3) (back4 .before .loop-test .taken) in
     omega (arith, bounds _ _ (p .0 .sized) (p .1), p .0 .sized, r .line-at .ensures .first, x-in .0)
 
 take-cell-requires : tie.Need-take-cell-requires Inv-loop μ-loop
 unfolding sides
 take-cell-requires c κs =
-    let g = c .before .before .before .before .before .before in
+    let g4 = c .before .before .before .before in
+    let g = g4 .before .before in
     let k = g .before .before .before in
     let r = k .before .before in
-    let p = r .before .before .before .before .before .before .before .before .pre in
+    let p4 = r .before .before .before .before in
+    let p = p4 .before .before .before .before .pre in
     let L = r .line-at .ensures in
-    let t = c .before .before .before .before .before .loop-test .taken in
+    let t4 = c .before .before .before .before in
+    let t = t4 .before .loop-test .taken in
     let x-in = listed-cell _ _ _ _ _ _ _ _ (p .1) _ L _ _ (k .list-shown .ensures) _ _ _ _ _ (g .loop .inv .3) t in
     (line-beside _ _ _ L _ (x-in .0) (p .1) (x-in .1) (x-in .2) _ _ _ (p .0), line-spot _ _ _ L _ (x-in .0) (p .1) (x-in .1) (x-in .2))
 
@@ -89,11 +99,16 @@ loop-less c = search needs
 loop-again : tie.Need-loop-again Inv-loop μ-loop
 unfolding sides
 loop-again c =
-    let g = c .before .before .before .before .before .before .before .before .before .before .before in
+    let g4 = c .before .before .before .before in
+    let g8 = g4 .before .before .before .before in
+    let g = g8 .before .before .before in
     let k = g .before .before .before in
     let r = k .before .before in
-    let p = r .before .before .before .before .before .before .before .before .pre in
-    let t = c .before .before .before .before .before .before .before .before .before .before .loop-test .taken in
+    let p4 = r .before .before .before .before in
+    let p = p4 .before .before .before .before .pre in
+    let t4 = c .before .before .before .before in
+    let t8 = t4 .before .before .before .before in
+    let t = t8 .before .before .loop-test .taken in
     let took = c .before .before .before .before .take-cell .ensures in
     (omega (arith, t), search needs, search needs, take-next _ _ _ _ _ _ _ _ (p .1) _ (r .line-at .ensures) _ _ (k .list-shown .ensures) _ _ _ _ _ (g .loop .inv .3) t _ _ (took .0) (took .1))
 
@@ -112,7 +127,8 @@ returns c =
     let g = c .before in
     let k = g .before .before .before in
     let r = k .before .before in
-    let p = r .before .before .before .before .before .before .before .before .pre in
+    let p4 = r .before .before .before .before in
+    let p = p4 .before .before .before .before .pre in
     taken-all _ _ _ _ _ _ _ _ (p .1) _ (r .line-at .ensures) _ _ (k .list-shown .ensures) _ _ _ _ _ (g .loop .inv .3) (omega arith) (g .loop .inv .0)
 
 pub take-line-spec : {M : Type 1} → statement M

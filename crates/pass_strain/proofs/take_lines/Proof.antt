@@ -37,7 +37,9 @@ sub-lines c = search needs
 
 mul-lines-2 : tie.Need-mul-lines-2 Inv-loop μ-loop
 unfolding lineCount sides
-mul-lines-2 c = omega (arith, lines-high (c .before .before .before .before .before .before .before .pre .0 .sized))
+mul-lines-2 c =
+    let back4 = c .before .before .before .before in
+    omega (arith, lines-high (back4 .before .before .before .pre .0 .sized))
 
 loop-holds : tie.Need-loop-holds Inv-loop μ-loop
 unfolding lineCount sides
@@ -47,20 +49,32 @@ take-line-requires : tie.Need-take-line-requires Inv-loop μ-loop
 unfolding lineCount sides
 take-line-requires c κs =
     let i = c .before .before .before .before .loop .inv in
-    let p = c .before .before .before .before .before .before .before .before .before .before .before .before .pre in
+    let p4 = c .before .before .before .before in
+    let p8 = p4 .before .before .before .before in
+    let p = p8 .before .before .before .before .pre in
     (p .0, omega (arith, c .before .before .before .loop-test .taken), i .4 .y, i .4 .z, omega (arith, i .3, p .1))
 
 next-spot-requires : tie.Need-next-spot-requires Inv-loop μ-loop
 unfolding lineCount sides
 next-spot-requires c κs =
-    let g = c .before .before .before .before .before .before .before .before .before .before .before in
+    let back4 = c .before .before .before .before in
+    let back8 = back4 .before .before .before .before in
+    let g4 = c .before .before .before .before in
+    let g8 = g4 .before .before .before .before in
+    let g = g8 .before .before .before in
     let i = g .loop .inv in
-    let p = g .before .before .before .before .before .before .before .before .pre in
-    (omega (arith, p .0 .sized), omega (arith, c .before .before .before .before .before .before .before .before .before .before .loop-test .taken, lines-high (p .0 .sized)), i .4 .y, i .4 .z)
+    let p4 = g .before .before .before .before in
+    let p = p4 .before .before .before .before .pre in
+    (omega (arith, p .0 .sized), omega (arith, back8 .before .before .loop-test .taken, lines-high (p .0 .sized)), i .4 .y, i .4 .z)
 
 add-l : tie.Need-add-l Inv-loop μ-loop
 unfolding lineCount sides
-add-l c = omega (arith, lines-high (c .before .before .before .before .before .before .before .before .before .before .before .before .before .before .before .before .before .before .before .before .pre .0 .sized), c .before .before .before .before .before .before .before .before .before .before .before .loop-test .taken)
+add-l c =
+    let back4 = c .before .before .before .before in
+    let back8 = back4 .before .before .before .before in
+    let back12 = back8 .before .before .before .before in
+    let back16 = back12 .before .before .before .before in
+    omega (arith, lines-high (back16 .before .before .before .before .pre .0 .sized), back8 .before .before .before .loop-test .taken)
 
 loop-less : tie.Need-loop-less Inv-loop μ-loop
 loop-less c = search needs
@@ -68,9 +82,14 @@ loop-less c = search needs
 loop-again : tie.Need-loop-again Inv-loop μ-loop
 unfolding lineCount sides
 loop-again c =
-    let i = c .before .before .before .before .before .before .before .before .before .before .before .before .loop .inv in
-    let t = c .before .before .before .before .before .before .before .before .before .before .before .loop-test .taken in
-    let took = c .before .before .before .before .before .before .before .take-line .ensures in
+    let i4 = c .before .before .before .before in
+    let i8 = i4 .before .before .before .before in
+    let i = i8 .before .before .before .before .loop .inv in
+    let t4 = c .before .before .before .before in
+    let t8 = t4 .before .before .before .before in
+    let t = t8 .before .before .before .loop-test .taken in
+    let took4 = c .before .before .before .before in
+    let took = took4 .before .before .before .take-line .ensures in
     (omega (arith, t), search needs, search needs, search needs, c .next-spot .ensures, gone-next _ _ _ _ _ _ _ _ (i .5) _ _ (omega (arith, t)) (took .0) (took .1))
 
 same-length : tie.Need-same-length Inv-loop μ-loop

@@ -21,9 +21,11 @@ abbrev μ-loop : tie.MeasureT-loop
 μ-loop map nx ny nz l q filled width start base x₀ x = width - x
 
 -- the cell at x lies in the grid
-inside : (c : tie.In-loop Inv-loop μ-loop) → let a = c .before .before .before .before .before .args in a .l * (2 * a .nx - 1) + c .before .loop .x < cells (triple (a .nx) (a .ny) (a .nz))
+inside : (c : tie.In-loop Inv-loop μ-loop) → let s = c .before .before .before .before in let a = s .before .args in a .l * (2 * a .nx - 1) + c .before .loop .x < cells (triple (a .nx) (a .ny) (a .nz))
 unfolding sides
-inside c = let st = c .before .before .before .before .before in line-inside _ _ _ (omega (arith, st .pre .0)) (st .pre .2)
+inside c =
+    let st4 = c .before .before .before .before in
+    let st = st4 .before in line-inside _ _ _ (omega (arith, st .pre .0)) (st .pre .2)
 
 returns : tie.Need-returns Inv-loop μ-loop
 returns c = search and-off
@@ -49,16 +51,21 @@ add-if2 : tie.Need-add-if2 Inv-loop μ-loop
 add-if2 c = omega (arith, inside c)
 
 mul-if2 : tie.Need-mul-if2 Inv-loop μ-loop
-mul-if2 c = omega (arith, inside c, cells-high (c .before .before .before .before .before .pre .0))
+mul-if2 c =
+    let back4 = c .before .before .before .before in
+    omega (arith, inside c, cells-high (back4 .before .pre .0))
 
 shared-slice-read-if2 : tie.Need-shared-slice-read-if2 Inv-loop μ-loop
-shared-slice-read-if2 c = omega (arith, inside (c .before), c .before .before .before .before .before .before .pre .1)
+shared-slice-read-if2 c =
+    let back4 = c .before .before .before .before in
+    omega (arith, inside (c .before), back4 .before .before .pre .1)
 
 returns-2 : tie.Need-returns-2 Inv-loop μ-loop
 unfolding sides onLine
 returns-2 c =
     let i = c .before .before .before .loop .inv in
-    let st = c .before .before .before .before .before .before .before in
+    let st4 = c .before .before .before .before in
+    let st = st4 .before .before .before in
     let h = st .pre .0 in
     and-none (st .args .filled) _ (i .1 ∙ full-here _ (tests _ _ _ _ (omega arith) (st .pre .3)) _ (omega (arith, h)) (i .0 (omega (arith, h))) (c .if2 .taken))
 
@@ -72,14 +79,16 @@ loop-again : tie.Need-loop-again Inv-loop μ-loop
 unfolding sides
 loop-again c =
     let i = c .before .before .before .loop .inv in
-    let st = c .before .before .before .before .before .before .before in
+    let st4 = c .before .before .before .before in
+    let st = st4 .before .before .before in
     let h = st .pre .0 in
     (passes-next _ _ _ _ (i .0), i .1 ∙ full-next _ (tests _ _ _ _ (omega arith) (st .pre .3)) _ (omega (arith, h)) (i .0 (omega (arith, h))) (c .if2 .left))
 
 returns-3 : tie.Need-returns-3 Inv-loop μ-loop
 unfolding sides onLine
 returns-3 c =
-    let st = c .before .before .before .before .before in
+    let st4 = c .before .before .before .before in
+    let st = st4 .before in
     and-all (st .args .filled) _ (c .before .before .before .if1 .left) (c .before .loop .inv .1 ∙ full-end _ (tests _ _ _ _ (omega arith) (st .pre .3)) _ (omega arith))
 
 pub full-on-spec : {M : Type 1} → statement M

@@ -52,7 +52,9 @@ mul-larger : tie.Need-mul-larger Inv-loop μ-loop
 mul-larger c = omega (arith, inside c, cells-high (c .before .before .before .before .pre .0))
 
 shared-slice-read-larger : tie.Need-shared-slice-read-larger Inv-loop μ-loop
-shared-slice-read-larger c = omega (arith, inside (c .before), c .before .before .before .before .before .pre .1)
+shared-slice-read-larger c =
+    let back4 = c .before .before .before .before in
+    omega (arith, inside (c .before), back4 .before .pre .1)
 
 larger-requires : tie.Need-larger-requires Inv-loop μ-loop
 larger-requires c κs = search needs
@@ -67,7 +69,8 @@ loop-again : tie.Need-loop-again Inv-loop μ-loop
 unfolding sides
 loop-again c =
     let i = c .before .before .before .loop .inv in
-    let st = c .before .before .before .before .before .before in
+    let st4 = c .before .before .before .before in
+    let st = st4 .before .before in
     (passes-next _ _ _ _ (i .0), most-next _ (tests _ _ _ _ (omega arith) (st .pre .4)) _ _ _ (omega arith) (i .0 (omega arith)) (c .larger .ensures) ∙ i .1)
 
 returns : tie.Need-returns Inv-loop μ-loop

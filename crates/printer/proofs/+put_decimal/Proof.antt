@@ -78,7 +78,9 @@ put-decimal-returns-2 : (t : ℕ) → put-decimal-lts.Need-returns-2 (
   put-decimal-below t,
   put-decimal.Post,
 ) (put-decimal-at t) put-decimal.Post
-put-decimal-returns-2 t c = rw (decimal-high _ (c .before .before .before .before .before .before .before .before .if1 .left) (omega arith)) (sunk-then _ _ _ _ _ (c .before .before .before .before .before .before .put-decimal .ensures) (c .before .before .put-digit2 .ensures))
+put-decimal-returns-2 t c =
+    let c-back4 = c .before .before .before .before in
+    rw (decimal-high _ (c-back4 .before .before .before .before .if1 .left) (omega arith)) (sunk-then _ _ _ _ _ (c-back4 .before .before .put-decimal .ensures) (c .before .before .put-digit2 .ensures))
 
 pub +put-decimal-spec : {M : Type 1} → statement M
 +put-decimal-spec = close μ-put-decimal λ t. put-decimal-lts.spec (

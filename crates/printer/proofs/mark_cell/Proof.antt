@@ -28,7 +28,9 @@ returns-3 : tie.Need-returns-3
 returns-3 c = search marks-beyond
 
 cast-firsts : tie.Need-cast-firsts
-cast-firsts c = omega (arith, cells-high (c .before .before .before .before .before .before .before .before .pre .0 .sized))
+cast-firsts c =
+    let back4 = c .before .before .before .before in
+    omega (arith, cells-high (back4 .before .before .before .before .pre .0 .sized))
 
 sub-firsts : tie.Need-sub-firsts
 sub-firsts c = search needs

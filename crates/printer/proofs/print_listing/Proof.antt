@@ -19,7 +19,9 @@ same-length-2 : tie.Need-same-length-2
 same-length-2 c = search needs
 
 returns : tie.Need-returns
-returns c = print-listed _ _ _ _ _ _ (c .before .before .before .before .before .before .before .before .has-listing .ensures) _ _ _ (c .before .before .before .before .before .before .before .if1 .taken) (c .before .before .before .before .put-listing .ensures .1) (sunk-whole _ _ _ _ (c .before .before .before .before .put-listing .ensures .0))
+returns c =
+    let back4 = c .before .before .before .before in
+    print-listed _ _ _ _ _ _ (back4 .before .before .before .before .has-listing .ensures) _ _ _ (back4 .before .before .before .if1 .taken) (c .before .before .before .before .put-listing .ensures .1) (sunk-whole _ _ _ _ (c .before .before .before .before .put-listing .ensures .0))
 
 returns-2 : tie.Need-returns-2
 returns-2 c = search print-none

@@ -17,7 +17,9 @@ same-length : tie.Need-same-length
 same-length c = search needs
 
 returns : tie.Need-returns
-returns c = refusal-put _ _ _ _ _ (c .before .before .before .before .before .before .put-count .ensures) (c .before .before .put .ensures)
+returns c =
+    let back4 = c .before .before .before .before in
+    refusal-put _ _ _ _ _ (back4 .before .before .put-count .ensures) (c .before .before .put .ensures)
 
 pub print-refusal-spec : {M : Type 1} → statement M
 print-refusal-spec =

@@ -18,7 +18,11 @@ put-spaced-requires : tie.Need-put-spaced-requires
 put-spaced-requires c κs = search needs
 
 put-place-requires : tie.Need-put-place-requires
-put-place-requires c κs = (c .before .before .before .before .before .before .before .before .before .before .before .before .before .pre .0 .sized, rw (c .before .before .before .before .before .before .before .before .before .before .before .before .before .pre .1) (first-inside _ _ _ (c .before .before .before .before .before .before .before .before .before .before .before .before .before .pre .0 .sized)))
+put-place-requires c κs =
+    let back4 = c .before .before .before .before in
+    let back8 = back4 .before .before .before .before in
+    let back12 = back8 .before .before .before .before in
+    (back12 .before .pre .0 .sized, rw (back12 .before .pre .1) (first-inside _ _ _ (back12 .before .pre .0 .sized)))
 
 mul-put-row : tie.Need-mul-put-row
 mul-put-row c = search needs
@@ -36,7 +40,13 @@ same-length : tie.Need-same-length
 same-length c = search needs
 
 returns : tie.Need-returns
-returns c = line-put _ _ _ _ _ _ _ _ _ _ _ _ _ (c .before .before .before .before .before .before .before .before .before .before .before .before .before .before .before .before .before .before .before .before .before .before .before .before .pre .1) (c .before .before .before .before .before .before .before .before .before .before .before .before .before .before .before .before .before .before .before .before .before .row-at .ensures) (c .before .before .before .before .before .before .before .before .before .before .before .before .before .before .before .before .before .before .before .before .letter-of .ensures) (c .before .before .before .before .before .before .before .before .before .before .before .before .before .before .before .before .before .before .put .ensures) (c .before .before .before .before .before .before .before .before .before .before .before .before .before .before .put-spaced .ensures) (c .before .before .before .before .before .before .before .before .before .before .put-place .ensures) (c .before .before .before .before .before .before .put-row .ensures) (c .before .before .put2 .ensures)
+returns c =
+    let back4 = c .before .before .before .before in
+    let back8 = back4 .before .before .before .before in
+    let back12 = back8 .before .before .before .before in
+    let back16 = back12 .before .before .before .before in
+    let back20 = back16 .before .before .before .before in
+    line-put _ _ _ _ _ _ _ _ _ _ _ _ _ (back20 .before .before .before .before .pre .1) (back20 .before .row-at .ensures) (back16 .before .before .before .before .letter-of .ensures) (back16 .before .before .put .ensures) (back12 .before .before .put-spaced .ensures) (back8 .before .before .put-place .ensures) (back4 .before .before .put-row .ensures) (c .before .before .put2 .ensures)
 
 pub put-line-spec : {M : Type 1} → statement M
 put-line-spec =

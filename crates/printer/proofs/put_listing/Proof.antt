@@ -15,23 +15,56 @@ put-heading-requires : tie.Need-put-heading-requires
 put-heading-requires c κs = search needs
 
 put-order-requires : tie.Need-put-order-requires
-put-order-requires c κs = let p = c .before .before .before .before .before .before .before .before .before .before .before .before .before .pre in (record { sized = p .sized; whole = p .whole; below = omega arith }, c .before .before .before .before .before .before .before .before .clear .ensures ∙ ap zeros (p .room), p .counts _ (omega arith))
+put-order-requires c κs =
+    let back4 = c .before .before .before .before in
+    let p4 = c .before .before .before .before in
+    let p8 = p4 .before .before .before .before in
+    let p12 = p8 .before .before .before .before in
+    let p = p12 .before .pre in (record { sized = p .sized; whole = p .whole; below = omega arith }, back4 .before .before .before .before .clear .ensures ∙ ap zeros (p .room), p .counts _ (omega arith))
 
 put-order-requires-2 : tie.Need-put-order-requires-2
-put-order-requires-2 c κs = let p = c .before .before .before .before .before .before .before .before .before .before .before .before .before .before .before .before .before .before .before .before .pre in (record { sized = p .sized; whole = p .whole; below = omega arith }, c .before .before .before .before .before .before .put-order .ensures .1, p .counts _ (omega arith))
+put-order-requires-2 c κs =
+    let back4 = c .before .before .before .before in
+    let p4 = c .before .before .before .before in
+    let p8 = p4 .before .before .before .before in
+    let p12 = p8 .before .before .before .before in
+    let p16 = p12 .before .before .before .before in
+    let p = p16 .before .before .before .before .pre in (record { sized = p .sized; whole = p .whole; below = omega arith }, back4 .before .before .put-order .ensures .1, p .counts _ (omega arith))
 
 put-order-requires-3 : tie.Need-put-order-requires-3
-put-order-requires-3 c κs = let p = c .before .before .before .before .before .before .before .before .before .before .before .before .before .before .before .before .before .before .before .before .before .before .before .before .before .before .before .pre in (record { sized = p .sized; whole = p .whole; below = omega arith }, c .before .before .before .before .before .before .put-order2 .ensures .1, p .counts _ (omega arith))
+put-order-requires-3 c κs =
+    let back4 = c .before .before .before .before in
+    let p4 = c .before .before .before .before in
+    let p8 = p4 .before .before .before .before in
+    let p12 = p8 .before .before .before .before in
+    let p16 = p12 .before .before .before .before in
+    let p20 = p16 .before .before .before .before in
+    let p24 = p20 .before .before .before .before in
+    let p = p24 .before .before .before .pre in (record { sized = p .sized; whole = p .whole; below = omega arith }, back4 .before .before .put-order2 .ensures .1, p .counts _ (omega arith))
 
 same-length : tie.Need-same-length
 same-length c = search needs
 
 same-length-2 : tie.Need-same-length-2
 unfolding zeros
-same-length-2 c = ap length (c .before .before .before .before .put-order3 .ensures .1) ∙ length-replicate _ _ ∙ sym (c .before .before .before .before .before .before .before .before .before .before .before .before .before .before .before .before .before .before .before .before .before .before .before .before .before .before .before .before .before .before .before .before .pre .room)
+same-length-2 c =
+    let back4 = c .before .before .before .before in
+    let back8 = back4 .before .before .before .before in
+    let back12 = back8 .before .before .before .before in
+    let back16 = back12 .before .before .before .before in
+    let back20 = back16 .before .before .before .before in
+    let back24 = back20 .before .before .before .before in
+    let back28 = back24 .before .before .before .before in
+    ap length (c .before .before .before .before .put-order3 .ensures .1) ∙ length-replicate _ _ ∙ sym (back28 .before .before .before .before .pre .room)
 
 returns : tie.Need-returns
-returns c = (listing-put _ _ _ _ _ _ _ (c .before .before .before .before .before .before .before .before .before .before .before .before .before .before .before .before .before .before .before .before .before .before .before .put-heading .ensures) (c .before .before .before .before .before .before .before .before .before .before .before .before .before .before .before .before .before .before .put-order .ensures .0) (c .before .before .before .before .before .before .before .before .before .before .before .put-order2 .ensures .0) (c .before .before .before .before .put-order3 .ensures .0), c .before .before .before .before .put-order3 .ensures .1)
+returns c =
+    let back4 = c .before .before .before .before in
+    let back8 = back4 .before .before .before .before in
+    let back12 = back8 .before .before .before .before in
+    let back16 = back12 .before .before .before .before in
+    let back20 = back16 .before .before .before .before in
+    (listing-put _ _ _ _ _ _ _ (back20 .before .before .before .put-heading .ensures) (back16 .before .before .put-order .ensures .0) (back8 .before .before .before .put-order2 .ensures .0) (c .before .before .before .before .put-order3 .ensures .0), c .before .before .before .before .put-order3 .ensures .1)
 
 pub put-listing-spec : {M : Type 1} → statement M
 put-listing-spec =

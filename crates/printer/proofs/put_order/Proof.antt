@@ -25,7 +25,11 @@ same-length-2 : tie.Need-same-length-2
 same-length-2 c = search needs
 
 returns : tie.Need-returns
-returns c = (order-put _ _ _ _ _ _ (c .before .before .before .before .before .before .before .before .before .before .before .before .before .count-of .ensures) (c .before .before .before .before .before .before .put-lines .ensures), c .before .before .clear .ensures ∙ ap zeros (c .before .before .before .before .before .before .before .before .before .before .before .mark-firsts .ensures .room))
+returns c =
+    let back4 = c .before .before .before .before in
+    let back8 = back4 .before .before .before .before in
+    let back12 = back8 .before .before .before .before in
+    (order-put _ _ _ _ _ _ (back12 .before .count-of .ensures) (back4 .before .before .put-lines .ensures), c .before .before .clear .ensures ∙ ap zeros (back8 .before .before .before .mark-firsts .ensures .room))
 
 pub put-order-spec : {M : Type 1} → statement M
 put-order-spec =

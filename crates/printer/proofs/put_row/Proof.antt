@@ -37,7 +37,9 @@ loop-less : tie.Need-loop-less Inv-loop μ-loop
 loop-less c = search needs
 
 loop-again : tie.Need-loop-again Inv-loop μ-loop
-loop-again c = (search needs, search needs, row-next _ _ (c .before .before .before .before .before .before .before .args .t3) (c .before .before .before .before .before .loop .i) (c .before .before .before .before .before .loop .inv .2) _ (c .before .before .put-spaced .ensures) (omega (arith, c .before .before .before .before .before .before .before .good .1 .1 .0 .1 .0 .1)))
+loop-again c =
+    let back4 = c .before .before .before .before in
+    (search needs, search needs, row-next _ _ (back4 .before .before .before .args .t3) (back4 .before .loop .i) (back4 .before .loop .inv .2) _ (c .before .before .put-spaced .ensures) (omega (arith, back4 .before .before .before .good .1 .1 .0 .1 .0 .1)))
 
 same-length : tie.Need-same-length Inv-loop μ-loop
 same-length c = search needs

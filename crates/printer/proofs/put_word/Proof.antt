@@ -31,7 +31,9 @@ loop-less : tie.Need-loop-less Inv-loop μ-loop
 loop-less c = search needs
 
 loop-again : tie.Need-loop-again Inv-loop μ-loop
-loop-again c = (search needs, search needs, word-next _ _ _ _ (c .before .before .before .before .before .before .loop .inv .2) _ (c .before .before .put .ensures) (c .before .before .before .before .before .loop-test .taken))
+loop-again c =
+    let back4 = c .before .before .before .before in
+    (search needs, search needs, word-next _ _ _ _ (back4 .before .before .loop .inv .2) _ (c .before .before .put .ensures) (back4 .before .loop-test .taken))
 
 same-length : tie.Need-same-length Inv-loop μ-loop
 same-length c = search needs

@@ -56,15 +56,21 @@ array-borrow-prefix-map c = omega (arith, cells-high (c .before .before .before 
 
 slice-aggregate-list-2 : tie.Need-slice-aggregate-list-2
 unfolding cells volume sides
-slice-aggregate-list-2 c = simp length-take (omega (arith, cells-high (c .before .before .before .before .before .pre .0)))
+slice-aggregate-list-2 c =
+    let back4 = c .before .before .before .before in
+    simp length-take (omega (arith, cells-high (back4 .before .pre .0)))
 
 array-borrow-prefix-work : tie.Need-array-borrow-prefix-work
 unfolding cells volume sides
-array-borrow-prefix-work c = omega (arith, cells-high (c .before .before .before .before .before .pre .0))
+array-borrow-prefix-work c =
+    let back4 = c .before .before .before .before in
+    omega (arith, cells-high (back4 .before .pre .0))
 
 slice-aggregate-list-3 : tie.Need-slice-aggregate-list-3
 unfolding cells volume sides
-slice-aggregate-list-3 c = simp length-take (omega (arith, cells-high (c .before .before .before .before .before .before .pre .0)))
+slice-aggregate-list-3 c =
+    let back4 = c .before .before .before .before in
+    simp length-take (omega (arith, cells-high (back4 .before .before .pre .0)))
 
 list-requires : tie.Need-list-requires
 list-requires c κs = search needs

@@ -24,7 +24,9 @@ enum-known-task c = search needs
 
 -- The tray has its places after the last chunk.
 room : (f : tie.After-finish) → length (f .finish .last .1 .0) ≡ 512
-room f = finished-length _ _ _ (f .finish .ensures) ∙ f .before .before .before .before .before .read-all .kept .0
+room f =
+    let back4 = f .before .before .before .before in
+    finished-length _ _ _ (f .finish .ensures) ∙ back4 .before .read-all .kept .0
 
 slice-aggregate-list-codes : tie.Need-slice-aggregate-list-codes
 slice-aggregate-list-codes c = sym (room (c .before .before .before .before))

@@ -13,7 +13,9 @@ slice-reshare-prefix-write : tie.Need-slice-reshare-prefix-write
 slice-reshare-prefix-write c = omega (arith, printed-within _ _ _ _ _ _ (c .before .before .before .before .print-listing .ensures), c .before .before .before .before .print-listing .kept .1 .1 .1 .1 .1 .1 .0)
 
 slice-aggregate-write : tie.Need-slice-aggregate-write
-slice-aggregate-write c = simp length-take (omega (arith, printed-within _ _ _ _ _ _ (c .before .before .before .before .before .print-listing .ensures), c .before .before .before .before .before .print-listing .kept .1 .1 .1 .1 .1 .1 .0))
+slice-aggregate-write c =
+    let back4 = c .before .before .before .before in
+    simp length-take (omega (arith, printed-within _ _ _ _ _ _ (back4 .before .print-listing .ensures), back4 .before .print-listing .kept .1 .1 .1 .1 .1 .1 .0))
 
 write-requires : tie.Need-write-requires
 write-requires c κs = search needs

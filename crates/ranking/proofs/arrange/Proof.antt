@@ -28,16 +28,23 @@ slice-relend-prefix-sort : tie.Need-slice-relend-prefix-sort
 slice-relend-prefix-sort c = search needs
 
 slice-aggregate-sort : tie.Need-slice-aggregate-sort
-slice-aggregate-sort c = let s = c .before .before .before .before .before .before in sym (length-take-le (s .args .h) (s .args .classes .now) (omega arith))
+slice-aggregate-sort c =
+    let s4 = c .before .before .before .before in
+    let s = s4 .before .before in sym (length-take-le (s .args .h) (s .args .classes .now) (omega arith))
 
 sort-requires : tie.Need-sort-requires
-sort-requires c κs = let s = c .before .before .before .before .before .before in
+sort-requires c κs =
+    let s4 = c .before .before .before .before in
+    let s = s4 .before .before in
     rw (part-lent (s .args .spare .now) (s .args .n) (s .args .h))
     (s .pre .1, length-take-le (s .args .h) (s .args .classes .now) (omega arith) ∙ sym (length-part (s .args .spare .now) (s .args .n) (s .args .h) (omega arith)))
 
 store-classes-requires : tie.Need-store-classes-requires
-store-classes-requires c κs = let q = c .before .before .before .before .before in
-    let s = q .before .before .before .before .before .before .before in omega (arith, length-front (s .args .classes .now) (q .sort .last .1 .0) (s .args .h) (q .sort .kept .1 .0), s .pre .0 .1)
+store-classes-requires c κs =
+    let q4 = c .before .before .before .before in
+    let q = q4 .before in
+    let s4 = q .before .before .before .before in
+    let s = s4 .before .before .before in omega (arith, length-front (s .args .classes .now) (q .sort .last .1 .0) (s .args .h) (q .sort .kept .1 .0), s .pre .0 .1)
 
 same-length : tie.Need-same-length
 same-length c = search needs
@@ -46,9 +53,12 @@ same-length-2 : tie.Need-same-length-2
 same-length-2 c = search needs
 
 returns : tie.Need-returns
-returns c = let a = c .before .before in
-    let q = a .before .before .before .before .before .before in
-    let s = q .before .before .before .before .before .before .before in
+returns c =
+    let a = c .before .before in
+    let q4 = a .before .before .before .before in
+    let q = q4 .before .before in
+    let s4 = q .before .before .before .before in
+    let s = s4 .before .before .before in
     ordered-of _ _ _ _ _ _ (q .sort .last .1 .0) _ _ (s .pre .0 .0) (s .pre .0 .1) (s .pre .0 .2) (q .sort .ensures) (q .sort .kept .1 .0) (a .store-classes .ensures)
 
 pub arrange-spec : {M : Type 1} → statement M

@@ -20,7 +20,9 @@ mul-result : tie.Need-mul-result
 mul-result c = search needs
 
 shared-slice-read-result : tie.Need-shared-slice-read-result
-shared-slice-read-result c = let s = c .before .before .before .before .before in omega (arith, parent-low (s .args .links .now) (s .args .x), c .before .before .parent .ensures, s .pre .0)
+shared-slice-read-result c =
+    let s4 = c .before .before .before .before in
+    let s = s4 .before in omega (arith, parent-low (s .args .links .now) (s .args .x), c .before .before .parent .ensures, s .pre .0)
 
 returns-2 : tie.Need-returns-2
 returns-2 c = search class-up

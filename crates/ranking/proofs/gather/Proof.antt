@@ -11,13 +11,18 @@ store-classes-requires : tie.Need-store-classes-requires
 store-classes-requires c κs = search needs
 
 find-firsts-requires : tie.Need-find-firsts-requires
-find-firsts-requires c κs = let a = c .before .before .before .before in
-    let s = a .before .before .before .before .before .before in (root-classes _ _ _ _ (s .pre .1) (a .store-classes .ensures), (omega arith, omega arith))
+find-firsts-requires c κs =
+    let a = c .before .before .before .before in
+    let s4 = a .before .before .before .before in
+    let s = s4 .before .before in (root-classes _ _ _ _ (s .pre .1) (a .store-classes .ensures), (omega arith, omega arith))
 
 list-firsts-requires : tie.Need-list-firsts-requires
-list-firsts-requires c κs = let f = c .before .before .before .before in
-    let a = f .before .before .before .before .before in
-    let s = a .before .before .before .before .before .before in (root-classes _ _ _ _ (s .pre .1) (a .store-classes .ensures), omega (arith, f .find-firsts .ensures .1, s .pre .2))
+list-firsts-requires c κs =
+    let f = c .before .before .before .before in
+    let a4 = f .before .before .before .before in
+    let a = a4 .before in
+    let s4 = a .before .before .before .before in
+    let s = s4 .before .before in (root-classes _ _ _ _ (s .pre .1) (a .store-classes .ensures), omega (arith, f .find-firsts .ensures .1, s .pre .2))
 
 same-length : tie.Need-same-length
 same-length c = search needs
@@ -26,10 +31,14 @@ same-length-2 : tie.Need-same-length-2
 same-length-2 c = search needs
 
 returns : tie.Need-returns
-returns c = let l = c .before .before in
-    let f = l .before .before .before .before .before in
-    let a = f .before .before .before .before .before in
-    let s = a .before .before .before .before .before .before in
+returns c =
+    let l = c .before .before in
+    let f4 = l .before .before .before .before in
+    let f = f4 .before in
+    let a4 = f .before .before .before .before in
+    let a = a4 .before in
+    let s4 = a .before .before .before .before in
+    let s = s4 .before .before in
     found-of _ _ _ _ _ _ _ _ _ (s .pre .1) (s .pre .2) (a .store-classes .ensures) (f .find-firsts .ensures .0) (f .find-firsts .ensures .1) (l .list-firsts .ensures)
 
 pub gather-spec : {M : Type 1} → statement M

@@ -10,25 +10,35 @@ use Rattle.ranking.proofs.rank_kind.Statement.{statement}
 use Rattle.ranking.proofs.rank_kind.Tie as tie
 
 abbrev start : tie.After-gather → tie.Start
-start g = g .before .before .before .before .before .before .before .before
+start g =
+    let back4 = g .before .before .before .before in
+    back4 .before .before .before .before
 
 abbrev gathered : tie.After-arrange → tie.After-gather
-gathered a = a .before .before .before .before .before .before .before
+gathered a =
+    let back4 = a .before .before .before .before in
+    back4 .before .before .before
 
 abbrev arranged : tie.After-place-firsts → tie.After-arrange
-arranged p = p .before .before .before .before .before .before .before .before
+arranged p =
+    let back4 = p .before .before .before .before in
+    back4 .before .before .before .before
 
 gather-requires : tie.Need-gather-requires
 gather-requires c κs = search needs
 
 arrange-requires : tie.Need-arrange-requires
-arrange-requires c κs = let g = c .before .before .before .before .before .before in
+arrange-requires c κs =
+    let g4 = c .before .before .before .before in
+    let g = g4 .before .before in
     let s = start g in
     let G = g .gather .ensures in
     ((G .few, omega (arith, written-long _ _ _ _ (G .classes), s .pre .1), omega (arith, G .long, s .pre .3)), found-listed (s .pre .1) (s .pre .0) (s .pre .3) G (omega arith))
 
 place-firsts-requires : tie.Need-place-firsts-requires
-place-firsts-requires c κs = let a = c .before .before .before .before .before .before .before in
+place-firsts-requires c κs =
+    let a4 = c .before .before .before .before in
+    let a = a4 .before .before .before in
     let g = gathered a in
     let s = start g in
     let G = g .gather .ensures in
@@ -36,7 +46,9 @@ place-firsts-requires c κs = let a = c .before .before .before .before .before 
     ((G .few, s .pre .2, omega (arith, A .long, G .long, s .pre .3)), (root-classes _ _ _ _ (omega (arith, written-long _ _ _ _ (G .classes), s .pre .1)) (A .classes), different-of (s .pre .1) (s .pre .0) (s .pre .3) G A))
 
 renumber-requires : tie.Need-renumber-requires
-renumber-requires c κs = let p = c .before .before .before .before .before .before in
+renumber-requires c κs =
+    let p4 = c .before .before .before .before in
+    let p = p4 .before .before in
     let a = arranged p in
     let g = gathered a in
     let s = start g in
@@ -54,8 +66,10 @@ same-length-3 : tie.Need-same-length-3
 same-length-3 c = search needs
 
 returns : tie.Need-returns
-returns c = let d = c .before .before in
-    let p = d .before .before .before .before .before .before .before in
+returns c =
+    let d = c .before .before in
+    let p4 = d .before .before .before .before in
+    let p = p4 .before .before .before in
     let a = arranged p in
     let g = gathered a in
     let s = start g in

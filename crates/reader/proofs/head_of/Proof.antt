@@ -24,7 +24,8 @@ two-requires-6 c κs = search needs
 
 returns : tie.Need-returns
 returns c =
-    head-is _ _ _ _ _ _ _ (c .before .before .before .before .before .two .ensures) (c .before .before .before .before .two2 .ensures) (c .before .before .before .two3 .ensures) (c .before .before .two4 .ensures) (c .before .two5 .ensures) (c .two6 .ensures)
+    let back4 = c .before .before .before .before in
+    head-is _ _ _ _ _ _ _ (back4 .before .two .ensures) (c .before .before .before .before .two2 .ensures) (c .before .before .before .two3 .ensures) (c .before .before .two4 .ensures) (c .before .two5 .ensures) (c .two6 .ensures)
 
 pub head-of-spec : {M : Type 1} → statement M
 head-of-spec =

@@ -51,14 +51,20 @@ spare-set-requires c κs = mapped (c .before .before)
 
 returns-3 : tie.Need-returns-3
 unfolding bitmapLength
-returns-3 c = or-here _ _ _ (c .before .spare-set .ensures) (c .if3 .taken) ∙ sym (damaged-rest _ _ (c .before .before .before .before .before .cell-count .ensures) (c .before .before .before .standing-bits .ensures) (c .before .before .if2 .left))
+returns-3 c =
+    let back4 = c .before .before .before .before in
+    or-here _ _ _ (c .before .spare-set .ensures) (c .if3 .taken) ∙ sym (damaged-rest _ _ (back4 .before .cell-count .ensures) (c .before .before .before .standing-bits .ensures) (c .before .before .if2 .left))
 
 voxel-clear-requires : tie.Need-voxel-clear-requires
-voxel-clear-requires c κs = (c .before .before .before .before .before .before .before .pre, rw (c .before .before .before .before .before .cell-count .ensures) at (mapped (c .before .before .before .before)))
+voxel-clear-requires c κs =
+    let back4 = c .before .before .before .before in
+    (back4 .before .before .before .pre, rw (back4 .before .cell-count .ensures) at (mapped (c .before .before .before .before)))
 
 returns-4 : tie.Need-returns-4
 unfolding bitmapLength
-returns-4 c = or-next _ _ _ (c .before .before .before .spare-set .ensures) (c .before .before .if3 .left) (or-here _ _ _ (c .before .voxel-clear .ensures) (c .if4 .taken)) ∙ sym (damaged-rest _ _ (c .before .before .before .before .before .before .before .cell-count .ensures) (c .before .before .before .before .before .standing-bits .ensures) (c .before .before .before .before .if2 .left))
+returns-4 c =
+    let back4 = c .before .before .before .before in
+    or-next _ _ _ (c .before .before .before .spare-set .ensures) (c .before .before .if3 .left) (or-here _ _ _ (c .before .voxel-clear .ensures) (c .if4 .taken)) ∙ sym (damaged-rest _ _ (back4 .before .before .before .cell-count .ensures) (back4 .before .standing-bits .ensures) (c .before .before .before .before .if2 .left))
 
 zero-listed-requires : tie.Need-zero-listed-requires
 zero-listed-requires c κs = omega arith
@@ -66,7 +72,8 @@ zero-listed-requires c κs = omega arith
 returns-5 : tie.Need-returns-5
 unfolding bitmapLength
 returns-5 c =
-    or-next _ _ _ (c .before .before .before .before .spare-set .ensures) (c .before .before .before .if3 .left) (or-next _ _ _ (c .before .before .voxel-clear .ensures) (c .before .if4 .left) (c .zero-listed .ensures)) ∙ sym (damaged-rest _ _ (c .before .before .before .before .before .before .before .before .cell-count .ensures) (c .before .before .before .before .before .before .standing-bits .ensures) (c .before .before .before .before .before .if2 .left))
+    let back4 = c .before .before .before .before in
+    or-next _ _ _ (c .before .before .before .before .spare-set .ensures) (c .before .before .before .if3 .left) (or-next _ _ _ (c .before .before .voxel-clear .ensures) (c .before .if4 .left) (c .zero-listed .ensures)) ∙ sym (damaged-rest _ _ (back4 .before .before .before .before .cell-count .ensures) (back4 .before .before .standing-bits .ensures) (back4 .before .if2 .left))
 
 pub is-damaged-spec : {M : Type 1} → statement M
 is-damaged-spec =

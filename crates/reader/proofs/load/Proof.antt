@@ -28,7 +28,8 @@ loop-holds c = (omega arith, refl, read-none _ _ _)
 
 load-byte-requires : tie.Need-load-byte-requires Inv-loop μ-loop
 load-byte-requires c κs =
-    let st = c .before .before .before .before .before in
+    let st4 = c .before .before .before .before in
+    let st = st4 .before in
     let l = c .before .before .loop in
     rw (l .inv .1) (st .pre .0, st .pre .1, omega arith, omega arith, omega arith, l .inv .2)
 
@@ -40,13 +41,15 @@ loop-less c = search needs
 
 loop-again : tie.Need-loop-again Inv-loop μ-loop
 loop-again c =
-    let l = c .before .before .before .before .before .loop in
+    let l4 = c .before .before .before .before in
+    let l = l4 .before .loop in
     let e : 8 * (l .i + 1) ≡ 8 * l .i + 8 = omega arith in
     (omega arith, omega (arith, l .inv .1), rw (e, ← l .inv .1) (c .before .before .load-byte .ensures))
 
 load-byte-requires-2 : tie.Need-load-byte-requires-2 Inv-loop μ-loop
 load-byte-requires-2 c κs =
-    let st = c .before .before .before .before .before .before in
+    let st4 = c .before .before .before .before in
+    let st = st4 .before .before in
     let l = c .before .before .before .loop in
     let e : l .i ≡ length (st .args .map .now) / 8 = omega arith in
     rw (l .inv .1) (st .pre .0, st .pre .1, omega arith, omega arith, omega arith, rw e at (l .inv .2))
@@ -56,7 +59,8 @@ same-length c = search needs
 
 returns : tie.Need-returns Inv-loop μ-loop
 returns c =
-    let l = c .before .before .before .before .before .before .loop in
+    let l4 = c .before .before .before .before in
+    let l = l4 .before .before .loop in
     read-all _ _ _ (rw (l .inv .1) at (c .before .before .load-byte2 .ensures)) (omega arith) (omega (arith, l .inv .1))
 
 same-length-2 : tie.Need-same-length-2 Inv-loop μ-loop

@@ -38,16 +38,21 @@ shr-b : tie.Need-shr-b Inv-loop μ-loop
 shr-b c = search needs
 
 -- the cell of the bit, and its bit
-inside-map : (c : tie.In-loop Inv-loop μ-loop) → 8 * c .before .before .before .before .before .args .i + c .before .loop .k < length (c .before .before .before .before .before .args .map .now)
-inside-map c = omega (arith, c .before .before .before .before .before .pre .4)
+inside-map : (c : tie.In-loop Inv-loop μ-loop) → let s = c .before .before .before .before in let a = s .before .args in 8 * a .i + c .before .loop .k < length (a .map .now)
+inside-map c =
+    let back4 = c .before .before .before .before in
+    omega (arith, back4 .before .pre .4)
 
 bit-is : (c : tie.In-loop Inv-loop μ-loop)
-    → getD (c .before .before .before .before .before .args .bytes .now) (12 + c .before .before .before .before .before .args .i) 0 / 2 ^ c .before .loop .k % 2 ≡ bitAt (c .before .before .before .before .before .args .bytes .now) (8 * c .before .before .before .before .before .args .i + c .before .loop .k)
-bit-is c = sym (bit-at-byte _ _ _ (omega (arith, c .loop-test .taken, c .before .before .before .before .before .pre .3)))
+    → let s = c .before .before .before .before in let a = s .before .args in getD (a .bytes .now) (12 + a .i) 0 / 2 ^ c .before .loop .k % 2 ≡ bitAt (a .bytes .now) (8 * a .i + c .before .loop .k)
+bit-is c =
+    let back4 = c .before .before .before .before in
+    sym (bit-at-byte _ _ _ (omega (arith, c .loop-test .taken, back4 .before .pre .3)))
 
 number-at-requires : tie.Need-number-at-requires Inv-loop μ-loop
 number-at-requires c κs =
-    let st = c .before .before .before .before .before in (
+    let st4 = c .before .before .before .before in
+    let st = st4 .before in (
       omega arith,
       omega (arith, st .pre .0 .bits),
       λ e. rw (c .before .loop .inv .2 .place) (listed-room _ _ _ (st .pre .1) (inside-map c) (sym (bit-is c) ∙ e)),
@@ -74,7 +79,8 @@ mul-next c = search needs
 add-next : tie.Need-add-next Inv-loop μ-loop
 unfolding bitmapLength
 add-next c =
-    let st = c .before .before .before .before .before .before in
+    let st4 = c .before .before .before .before in
+    let st = st4 .before .before in
     let l = c .before .before .loop in
     omega (arith, inside-map (c .before), standing-bound (st .args .bytes .now) (8 * st .args .i + l .k), st .pre .0 .few, l .inv .2 .place)
 
@@ -86,7 +92,8 @@ loop-less c = search needs
 
 loop-again : tie.Need-loop-again Inv-loop μ-loop
 loop-again c =
-    let st = c .before .before .before .before .before .before in
+    let st4 = c .before .before .before .before in
+    let st = st4 .before .before in
     let l = c .before .before .loop in
     let e : 8 * st .args .i + (l .k + 1) ≡ 8 * st .args .i + l .k + 1 = omega arith in (
       omega arith,
@@ -99,8 +106,9 @@ same-length c = search needs
 
 returns : tie.Need-returns Inv-loop μ-loop
 returns c =
+    let back4 = c .before .before .before .before in
     let l = c .before .loop in
-    let e : l .k ≡ c .before .before .before .before .before .args .count = omega arith in
+    let e : l .k ≡ back4 .before .args .count = omega arith in
     rw e at (l .inv .2)
 
 pub load-byte-spec : {M : Type 1} → statement M

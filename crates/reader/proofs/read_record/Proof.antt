@@ -17,13 +17,17 @@ load-requires c κs =
     (mapped-of R, R .whole)
 
 head-of-requires : tie.Need-head-of-requires
-head-of-requires c κs = readable _ _ (sym (c .before .before .before .before .before .refusal .ensures) ∙ c .before .before .before .before .if1 .left) .has-head
+head-of-requires c κs =
+    let back4 = c .before .before .before .before in
+    readable _ _ (sym (back4 .before .refusal .ensures) ∙ c .before .before .before .before .if1 .left) .has-head
 
 same-length : tie.Need-same-length
 same-length c = search needs
 
 returns-2 : tie.Need-returns-2
-returns-2 c = read-accepted _ _ _ (c .before .before .before .before .before .before .refusal .ensures) (c .before .before .before .before .before .if1 .left) _ _ (c .head-of .ensures) (c .before .before .before .load .ensures)
+returns-2 c =
+    let back4 = c .before .before .before .before in
+    read-accepted _ _ _ (back4 .before .before .refusal .ensures) (back4 .before .if1 .left) _ _ (c .head-of .ensures) (c .before .before .before .load .ensures)
 
 pub read-record-spec : {M : Type 1} → statement M
 read-record-spec =

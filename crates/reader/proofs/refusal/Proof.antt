@@ -40,15 +40,20 @@ cell-count-requires c κs = sized-at _ _ (placed (c .before .before .before))
 
 returns-3 : tie.Need-returns-3
 returns-3 c =
-    refusal-tray _ _ (c .before .before .before .before .before .before .before .before .if1 .left) (c .before .before .before .before .before .before .before .head-of .ensures) (placed (c .before .before .before .before .before)) (λ e. c .if3 .taken (e ∙ sym (c .before .cell-count .ensures)))
+    let back4 = c .before .before .before .before in
+    refusal-tray _ _ (back4 .before .before .before .before .if1 .left) (back4 .before .before .before .head-of .ensures) (placed (back4 .before)) (λ e. c .if3 .taken (e ∙ sym (c .before .cell-count .ensures)))
 
 is-damaged-requires : tie.Need-is-damaged-requires
-is-damaged-requires c κs = sized-at _ _ (placed (c .before .before .before .before .before))
+is-damaged-requires c κs =
+    let back4 = c .before .before .before .before in
+    sized-at _ _ (placed (back4 .before))
 
 -- what is left of the tests
-last-refusal : (c : tie.After-is-damaged) → let a = c .before .before .before .before .before .before .before .before .before .before .before .args in refusalOf (a .bytes .now) (a .tray) ≡ cond (c .is-damaged .result) 11 0
+last-refusal : (c : tie.After-is-damaged) → let s = c .before .before .before .before in let r = s .before .before .before .before in let a = r .before .before .before .args in refusalOf (a .bytes .now) (a .tray) ≡ cond (c .is-damaged .result) 11 0
 last-refusal c =
-    refusal-last _ _ (c .before .before .before .before .before .before .before .before .before .if1 .left) (c .before .before .before .before .before .before .before .before .head-of .ensures) (placed (c .before .before .before .before .before .before))
+    let back4 = c .before .before .before .before in
+    let back8 = back4 .before .before .before .before in
+    refusal-last _ _ (back8 .before .if1 .left) (back4 .before .before .before .before .head-of .ensures) (placed (back4 .before .before))
     (c .before .if3 .left ∙ c .before .before .cell-count .ensures)
     ∙ rw (c .is-damaged .ensures)
 

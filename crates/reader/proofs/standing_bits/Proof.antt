@@ -38,7 +38,8 @@ cast-count c = omega (arith, bit c)
 
 add-count : tie.Need-add-count Inv-loop μ-loop
 add-count c =
-    let st = c .before .before .before .before .before in
+    let st4 = c .before .before .before .before in
+    let st = st4 .before in
     omega (arith, bit c, standing-bound (st .args .bytes .now) (c .before .before .loop .c), st .pre .few)
 
 add-c : tie.Need-add-c Inv-loop μ-loop
@@ -49,7 +50,8 @@ loop-less c = search needs
 
 loop-again : tie.Need-loop-again Inv-loop μ-loop
 loop-again c =
-    let r = c .before .before .before .before .before .args .bytes .now in
+    let r4 = c .before .before .before .before in
+    let r = r4 .before .args .bytes .now in
     let l = c .before .before .loop in
     (omega arith, omega (arith, c .bit-at .ensures, standing-more r (l .c)))
 

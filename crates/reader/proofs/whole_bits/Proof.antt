@@ -32,13 +32,14 @@ ones-requires c κs = search needs
 
 -- the bits of the byte are counted
 counted : (c : tie.After-ones Inv-loop μ-loop)
-    → c .before .before .before .loop .count + c .ones .result ≡ standing (c .before .before .before .before .before .args .bytes .now) (8 * (c .before .before .before .loop .i + 1))
+    → let s = c .before .before .before in s .loop .count + c .ones .result ≡ standing (s .before .before .args .bytes .now) (8 * (s .loop .i + 1))
 unfolding bitCount
 counted c = let l = c .before .before .before .loop in rw (l .inv .1, c .ones .ensures) (sym (standing-byte _ (l .i) _ refl))
 
 add-count : tie.Need-add-count Inv-loop μ-loop
 add-count c =
-    let st = c .before .before .before .before .before in
+    let st4 = c .before .before .before .before in
+    let st = st4 .before in
     omega (arith, counted c, standing-bound (st .args .bytes .now) (8 * (c .before .before .before .loop .i + 1)), st .pre .few)
 
 add-i : tie.Need-add-i Inv-loop μ-loop

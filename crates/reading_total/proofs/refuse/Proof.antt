@@ -34,8 +34,10 @@ returns-4 c = search refuse-6
 stand-requires : tie.Need-stand-requires
 stand-requires c κs =
     let numbered = c .before .before .before in
-    let first = numbered .before .before .before .before .before in
-    let a = first .before .before .before .before .before .before .before .args in
+    let first4 = numbered .before .before .before .before in
+    let first = first4 .before in
+    let a4 = first .before .before .before .before in
+    let a = a4 .before .before .before .args in
     refuse-ready (a .job) _ _ _ _ (first .opened .ensures) (numbered .before .before .before .before .if1 .left) _ _ (numbered .has-number .ensures) (c .before .before .if3 .left)
     _ _ _ _ _ (c .before .total-trays .ensures) (c .if4 .left)
 

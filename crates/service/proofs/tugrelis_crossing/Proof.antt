@@ -42,8 +42,15 @@ same-length-9 c = search needs
 
 returns : tie.Need-returns
 returns c t =
-    step-exported _ _ _ _ _ _ _ _ _ _ _ _ (c .before .before .before .before .before .before .before .before .before .before .before .before .before .before .before .before .before .before .before .before .before .before .before .before .before .before .before .before .before .before .before .job-in .ensures)
-    (c .before .before .before .before .before .before .before .before .before .before .before .before .before .before .before .before .before .before .before .before .before .crossing .ensures t) (c .keep .ensures)
+    let back4 = c .before .before .before .before in
+    let back8 = back4 .before .before .before .before in
+    let back12 = back8 .before .before .before .before in
+    let back16 = back12 .before .before .before .before in
+    let back20 = back16 .before .before .before .before in
+    let back24 = back20 .before .before .before .before in
+    let back28 = back24 .before .before .before .before in
+    step-exported _ _ _ _ _ _ _ _ _ _ _ _ (back28 .before .before .before .job-in .ensures)
+    (back20 .before .crossing .ensures t) (c .keep .ensures)
 
 pub tugrelis-crossing-spec : {M : Type 1} → statement M
 tugrelis-crossing-spec =

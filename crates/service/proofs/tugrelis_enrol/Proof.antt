@@ -39,8 +39,14 @@ same-length-8 c = search needs
 
 returns : tie.Need-returns
 returns c t =
-    step-exported _ _ _ _ _ _ _ _ _ _ _ _ (c .before .before .before .before .before .before .before .before .before .before .before .before .before .before .before .before .before .before .before .before .before .before .before .before .before .before .before .before .job-in .ensures)
-    (c .before .before .before .before .before .before .before .before .before .before .before .before .before .before .before .before .before .before .before .enrol .ensures t) (c .keep .ensures)
+    let back4 = c .before .before .before .before in
+    let back8 = back4 .before .before .before .before in
+    let back12 = back8 .before .before .before .before in
+    let back16 = back12 .before .before .before .before in
+    let back20 = back16 .before .before .before .before in
+    let back24 = back20 .before .before .before .before in
+    step-exported _ _ _ _ _ _ _ _ _ _ _ _ (back24 .before .before .before .before .job-in .ensures)
+    (back16 .before .before .before .enrol .ensures t) (c .keep .ensures)
 
 pub tugrelis-enrol-spec : {M : Type 1} → statement M
 tugrelis-enrol-spec =

@@ -23,7 +23,9 @@ same-length-4 c = search needs
 
 returns : tie.Need-returns
 returns c =
-    let a = c .before .before .before .before .before .before .before .before .before .before .before in
+    let a4 = c .before .before .before .before in
+    let a8 = a4 .before .before .before .before in
+    let a = a8 .before .before .before in
     record { job = a .open .result .joining .job; opening = a .open .ensures; stored = c .keep .ensures }
 
 pub tugrelis-open-spec : {M : Type 1} → statement M

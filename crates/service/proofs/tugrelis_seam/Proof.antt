@@ -24,8 +24,11 @@ same-length-3 c = search needs
 
 returns : tie.Need-returns
 returns c t =
-    step-exported _ _ _ _ _ _ _ _ _ _ _ _ (c .before .before .before .before .before .before .before .before .before .before .before .before .before .job-in .ensures)
-    (c .before .before .before .before .before .before .before .before .before .seam .ensures t) (c .keep .ensures)
+    let back4 = c .before .before .before .before in
+    let back8 = back4 .before .before .before .before in
+    let back12 = back8 .before .before .before .before in
+    step-exported _ _ _ _ _ _ _ _ _ _ _ _ (back12 .before .job-in .ensures)
+    (back8 .before .seam .ensures t) (c .keep .ensures)
 
 pub tugrelis-seam-spec : {M : Type 1} → statement M
 tugrelis-seam-spec =

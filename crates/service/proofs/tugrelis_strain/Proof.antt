@@ -21,7 +21,8 @@ same-length-3 c = search needs
 
 returns : tie.Need-returns
 returns c =
-    let called = c .before .before .before .before .before .before in
+    let called4 = c .before .before .before .before in
+    let called = called4 .before .before in
     strain-exported _ _ _ _ _ _ _ _ _ _ _ _ _ _ _ (called .before .before .before .before .job-in .ensures) (called .strain .ensures .1)
 
 pub tugrelis-strain-spec : {M : Type 1} → statement M

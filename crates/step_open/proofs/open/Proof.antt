@@ -33,8 +33,10 @@ same-length-4 c = search needs
 
 returns-2 : tie.Need-returns-2
 returns-2 c =
-    let a = c .before .before .before .before .before .before .before .before in
-    let d = a .before .before .before .before .before in
+    let a4 = c .before .before .before .before in
+    let a = a4 .before .before .before .before in
+    let d4 = a .before .before .before .before in
+    let d = d4 .before in
     open-accepted _ _ _ _ _ _ _ _ _ _ _ _ _ (d .before .before .fresh .ensures) (d .before .refusal .ensures) (d .if1 .left) (a .accept .result) _ _ (a .accept .ensures)
 
 pub open-spec : {M : Type 1} → statement M

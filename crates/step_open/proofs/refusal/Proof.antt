@@ -41,14 +41,16 @@ tables-fit-requires c κs = few-blocks _ _ (c .before .before .good-cut .ensures
 returns-3 : tie.Need-returns-3
 unfolding refusalOf
 returns-3 c =
-    cond-next _ _ _ _ _ (c .before .before .before .before .before .before .off-size .ensures) (c .before .before .before .before .before .if1 .left)
+    let back4 = c .before .before .before .before in
+    cond-next _ _ _ _ _ (back4 .before .before .off-size .ensures) (back4 .before .if1 .left)
     (cond-not-next _ _ _ _ _ (c .before .before .before .before .good-cut .ensures) (c .before .before .before .if2 .left)
     (cond-not-here _ _ _ _ _ (fitting-of _ _ _ _ _ _ _ (c .before .before .block-count .ensures _ _ _) (c .before .tables-fit .ensures)) (c .if3 .taken) refl))
 
 returns-4 : tie.Need-returns-4
 unfolding refusalOf
 returns-4 c =
-    cond-next _ _ _ _ _ (c .before .before .before .before .before .before .off-size .ensures) (c .before .before .before .before .before .if1 .left)
+    let back4 = c .before .before .before .before in
+    cond-next _ _ _ _ _ (back4 .before .before .off-size .ensures) (back4 .before .if1 .left)
     (cond-not-next _ _ _ _ _ (c .before .before .before .before .good-cut .ensures) (c .before .before .before .if2 .left)
     (cond-not-next _ _ _ _ _ (fitting-of _ _ _ _ _ _ _ (c .before .before .block-count .ensures _ _ _) (c .before .tables-fit .ensures)) (c .if3 .left) refl))
 

@@ -23,7 +23,8 @@ map-stands-requires-2 c κs = search needs
 
 returns-3 : tie.Need-returns-3
 returns-3 c =
-    λ cx cy cz. stand-two _ _ _ _ _ _ _ _ _ _ _ _ (c .before .before .before .before .before .tallies-fit .ensures cx cy cz) (c .before .before .before .before .if1 .left) _
+    let back4 = c .before .before .before .before in
+    λ cx cy cz. stand-two _ _ _ _ _ _ _ _ _ _ _ _ (back4 .before .tallies-fit .ensures cx cy cz) (c .before .before .before .before .if1 .left) _
     (c .before .before .before .map-stands .ensures) (c .before .before .if2 .left) _ (c .before .map-stands2 .ensures) (c .if3 .taken)
 
 links-stand-requires : tie.Need-links-stand-requires
@@ -31,8 +32,9 @@ links-stand-requires c κs = search needs
 
 returns-4 : tie.Need-returns-4
 returns-4 c =
-    λ cx cy cz. stand-three _ _ _ _ _ _ _ _ _ _ _ _ (c .before .before .before .before .before .before .before .tallies-fit .ensures cx cy cz) (c .before .before .before .before .before .before .if1 .left) _
-    (c .before .before .before .before .before .map-stands .ensures) (c .before .before .before .before .if2 .left) _ (c .before .before .before .map-stands2 .ensures) (c .before .before .if3 .left) _
+    let back4 = c .before .before .before .before in
+    λ cx cy cz. stand-three _ _ _ _ _ _ _ _ _ _ _ _ (back4 .before .before .before .tallies-fit .ensures cx cy cz) (back4 .before .before .if1 .left) _
+    (back4 .before .map-stands .ensures) (c .before .before .before .before .if2 .left) _ (c .before .before .before .map-stands2 .ensures) (c .before .before .if3 .left) _
     (c .before .links-stand .ensures) (c .if4 .taken)
 
 links-stand-requires-2 : tie.Need-links-stand-requires-2
@@ -40,8 +42,9 @@ links-stand-requires-2 c κs = search needs
 
 returns-5 : tie.Need-returns-5
 returns-5 c =
-    λ cx cy cz. stand-all _ _ _ _ _ _ _ _ _ _ _ _ (c .before .before .before .before .before .before .before .before .tallies-fit .ensures cx cy cz) (c .before .before .before .before .before .before .before .if1 .left) _
-    (c .before .before .before .before .before .before .map-stands .ensures) (c .before .before .before .before .before .if2 .left) _ (c .before .before .before .before .map-stands2 .ensures) (c .before .before .before .if3 .left) _
+    let back4 = c .before .before .before .before in
+    λ cx cy cz. stand-all _ _ _ _ _ _ _ _ _ _ _ _ (back4 .before .before .before .before .tallies-fit .ensures cx cy cz) (back4 .before .before .before .if1 .left) _
+    (back4 .before .before .map-stands .ensures) (back4 .before .if2 .left) _ (c .before .before .before .before .map-stands2 .ensures) (c .before .before .before .if3 .left) _
     (c .before .before .links-stand .ensures) (c .before .if4 .left) _ (c .links-stand2 .ensures)
 
 pub maps-stand-spec : {M : Type 1} → statement M

@@ -33,9 +33,11 @@ same-length-6 c = search needs
 
 returns-2 : tie.Need-returns-2
 returns-2 c =
-    seam-accepted _ _ _ _ _ _ _ _ _ _ _ _ _ (c .before .before .before .before .before .before .before .before .before .before .before .refusal .ensures)
-    (c .before .before .before .before .before .before .before .before .before .before .if1 .left)
-    (c .before .before .before .before .before .before .accept .result) _ (c .before .before .before .before .before .before .accept .ensures)
+    let back4 = c .before .before .before .before in
+    let back8 = back4 .before .before .before .before in
+    seam-accepted _ _ _ _ _ _ _ _ _ _ _ _ _ (back8 .before .before .before .refusal .ensures)
+    (back8 .before .before .if1 .left)
+    (back4 .before .before .accept .result) _ (back4 .before .before .accept .ensures)
 
 pub seam-spec : {M : Type 1} → statement M
 seam-spec =

@@ -46,7 +46,10 @@ returns-2 c =
     let back4 = c .before .before .before .before in
     let called = back4 .before .before in
     let judged = called .before .before .before .before in
-    strain-accepted (judged .before .before .before .before .before .before .before .before .before .before .before .before .before .before .before .before .args .job) _ _ _ _ _ _ _ _ _ _ _ _ _ (judged .before .judge-readings .ensures) (judged .if1 .left) _ (called .accept .ensures)
+    let judged4 = judged .before .before .before .before in
+    let judged8 = judged4 .before .before .before .before in
+    let judged12 = judged8 .before .before .before .before in
+    strain-accepted (judged12 .before .before .before .before .args .job) _ _ _ _ _ _ _ _ _ _ _ _ _ (judged .before .judge-readings .ensures) (judged .if1 .left) _ (called .accept .ensures)
 
 pub strain-spec : {M : Type 1} → statement M
 strain-spec =

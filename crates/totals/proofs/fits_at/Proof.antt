@@ -17,10 +17,14 @@ is-strain-requires : tie.Need-is-strain-requires
 is-strain-requires c κs = search needs
 
 returns : tie.Need-returns
-returns c = strain-fits _ _ _ _ (c .before .before .before .before .before .before .pre .0) (c .before .is-strain .ensures) (c .if1 .taken)
+returns c =
+    let back4 = c .before .before .before .before in
+    strain-fits _ _ _ _ (back4 .before .before .pre .0) (c .before .is-strain .ensures) (c .if1 .taken)
 
 returns-2 : tie.Need-returns-2
-returns-2 c = other-fits _ _ _ _ (c .before .before .before .before .before .before .pre .0) (c .before .is-strain .ensures) (c .if1 .left)
+returns-2 c =
+    let back4 = c .before .before .before .before in
+    other-fits _ _ _ _ (back4 .before .before .pre .0) (c .before .is-strain .ensures) (c .if1 .left)
 
 pub fits-at-spec : {M : Type 1} → statement M
 fits-at-spec =

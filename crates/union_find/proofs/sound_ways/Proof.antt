@@ -44,7 +44,8 @@ returns c =
 
 add-steps : tie.Need-add-steps Inv-loop μ-loop
 add-steps c =
-    let l = c .before .before .before .before .before .loop in
+    let l4 = c .before .before .before .before in
+    let l = l4 .before .loop in
     let w = c .before .before .before .walk in
     omega (arith, l .inv .1, turn-low _ _ _ (l .i) (l .steps) (l .inv .2) (l .inv .3) (omega arith) _ _ (w .ensures) (not-false _ (c .before .if1 .left)))
 
@@ -56,8 +57,10 @@ all-sound-requires c κs = search needs
 
 returns-2 : tie.Need-returns-2 Inv-loop μ-loop
 returns-2 c =
-    let l = c .before .before .before .before .before .before .before .loop in
-    let w = c .before .before .before .before .before .walk in
+    let l4 = c .before .before .before .before in
+    let l = l4 .before .before .before .loop in
+    let w4 = c .before .before .before .before in
+    let w = w4 .before .walk in
     let n = not-false _ (c .before .before .before .if1 .left) in
     ways-long _ _ _ (l .i + 1) (l .steps + w .result .steps)
     (turn-sound _ _ _ (l .i) (l .steps) (l .inv .2) (l .inv .3) (omega arith) _ _ (w .ensures) n) (turn-steps _ _ _ (l .i) (l .steps) (l .inv .2) (l .inv .3) (omega arith) _ _ (w .ensures) n)
@@ -71,7 +74,8 @@ loop-less c = search needs
 
 loop-again : tie.Need-loop-again Inv-loop μ-loop
 loop-again c =
-    let l = c .before .before .before .before .before .before .loop in
+    let l4 = c .before .before .before .before in
+    let l = l4 .before .before .loop in
     let w = c .before .before .before .before .walk in
     let n = not-false (w .result .sound) (c .before .before .if1 .left) in (
       omega arith,

@@ -68,7 +68,9 @@ mul-if1 : tie.Need-mul-if1 Inv-loop μ-loop
 mul-if1 c = omega (arith, inside c, cells-high (c .before .before .before .before .pre .0))
 
 shared-slice-read-if1 : tie.Need-shared-slice-read-if1 Inv-loop μ-loop
-shared-slice-read-if1 c = omega (arith, inside (c .before), c .before .before .before .before .before .pre .1)
+shared-slice-read-if1 c =
+    let back4 = c .before .before .before .before in
+    omega (arith, inside (c .before), back4 .before .pre .1)
 
 returns : tie.Need-returns Inv-loop μ-loop
 unfolding sides lineY lineZ

@@ -31,7 +31,9 @@ pack-requires-8 c κs = search needs
 
 returns : tie.Need-returns
 unfolding byteOf packed
-returns c = rw (c .pack8 .ensures .0, c .before .pack7 .ensures .0, c .before .before .pack6 .ensures .0, c .before .before .before .pack5 .ensures .0, c .before .before .before .before .pack4 .ensures .0, c .before .before .before .before .before .pack3 .ensures .0, c .before .before .before .before .before .before .pack2 .ensures .0, c .before .before .before .before .before .before .before .pack .ensures .0)
+returns c =
+    let back4 = c .before .before .before .before in
+    rw (c .pack8 .ensures .0, c .before .pack7 .ensures .0, c .before .before .pack6 .ensures .0, c .before .before .before .pack5 .ensures .0, c .before .before .before .before .pack4 .ensures .0, back4 .before .pack3 .ensures .0, back4 .before .before .pack2 .ensures .0, back4 .before .before .before .pack .ensures .0)
 
 pub eight-spec : {M : Type 1} → statement M
 eight-spec =

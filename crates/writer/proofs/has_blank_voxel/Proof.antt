@@ -55,7 +55,9 @@ returns c =
 
 add-l : tie.Need-add-l Inv-loop μ-loop
 unfolding lineCount sides
-add-l c = omega (arith, lines-high (c .before .before .before .before .before .pre .0), c .before .before .loop-test .taken)
+add-l c =
+    let back4 = c .before .before .before .before in
+    omega (arith, lines-high (back4 .before .pre .0), c .before .before .loop-test .taken)
 
 loop-less : tie.Need-loop-less Inv-loop μ-loop
 loop-less c = search needs

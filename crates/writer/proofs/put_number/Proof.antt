@@ -26,7 +26,8 @@ same-length c = search needs
 
 returns-2 : tie.Need-returns-2
 returns-2 c =
-    let a = c .before .before .before .before .before .before .args in
+    let a4 = c .before .before .before .before in
+    let a = a4 .before .before .args in
     let e = listed-one _ (c .before .before .before .before .if1 .left) in
     (omega (arith, ap length e ∙ length-bytes 4 _), c .before .before .put-four .ensures ∙ ap (λ (l : List ℕ). laid (a .at) l (a .tray .now)) (sym e))
 

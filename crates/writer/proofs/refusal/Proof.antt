@@ -59,11 +59,15 @@ has-blank-voxel-requires c κs = (sized-at _ _ (sym (c .before .before .before .
 
 returns-4 : tie.Need-returns-4
 unfolding cells volume sides
-returns-4 c = stray-label-given _ _ _ _ (sym (c .before .before .before .before .before .before .off-place .ensures) ∙ c .before .before .before .before .before .if1 .left) (c .before .before .before .before .if2 .left) _ (c .before .before .before .record-length .ensures) (c .before .before .if3 .left) (sym (c .before .has-blank-voxel .ensures) ∙ c .if4 .taken)
+returns-4 c =
+    let back4 = c .before .before .before .before in
+    stray-label-given _ _ _ _ (sym (back4 .before .before .off-place .ensures) ∙ back4 .before .if1 .left) (c .before .before .before .before .if2 .left) _ (c .before .before .before .record-length .ensures) (c .before .before .if3 .left) (sym (c .before .has-blank-voxel .ensures) ∙ c .if4 .taken)
 
 returns-5 : tie.Need-returns-5
 unfolding cells volume sides
-returns-5 c = none-given _ _ _ _ (sym (c .before .before .before .before .before .before .off-place .ensures) ∙ c .before .before .before .before .before .if1 .left) (c .before .before .before .before .if2 .left) _ (c .before .before .before .record-length .ensures) (c .before .before .if3 .left) (sym (c .before .has-blank-voxel .ensures) ∙ c .if4 .left)
+returns-5 c =
+    let back4 = c .before .before .before .before in
+    none-given _ _ _ _ (sym (back4 .before .before .off-place .ensures) ∙ back4 .before .if1 .left) (c .before .before .before .before .if2 .left) _ (c .before .before .before .record-length .ensures) (c .before .before .if3 .left) (sym (c .before .has-blank-voxel .ensures) ∙ c .if4 .left)
 
 pub refusal-spec : {M : Type 1} → statement M
 refusal-spec =

@@ -79,7 +79,10 @@ eight-requires : tie.Need-eight-requires
 eight-requires c κs = search needs
 
 returns : tie.Need-returns
-returns c = c .eight .ensures ∙ ap byteOf (sym (take-eight _ _ (c .before .before .before .before .before .before .before .before .before .before .pre)))
+returns c =
+    let back4 = c .before .before .before .before in
+    let back8 = back4 .before .before .before .before in
+    c .eight .ensures ∙ ap byteOf (sym (take-eight _ _ (back8 .before .before .pre)))
 
 pub whole-byte-spec : {M : Type 1} → statement M
 whole-byte-spec =

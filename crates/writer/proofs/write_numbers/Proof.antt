@@ -22,7 +22,9 @@ shared-slice-read-put-number : tie.Need-shared-slice-read-put-number Inv-loop μ
 shared-slice-read-put-number c = search needs
 
 put-number-requires : tie.Need-put-number-requires Inv-loop μ-loop
-put-number-requires c κs = unlisted-fits _ _ _ (c .before .before .before .before .before .before .pre) (c .before .before .before .loop .inv) (c .before .before .loop-test .taken)
+put-number-requires c κs =
+    let back4 = c .before .before .before .before in
+    unlisted-fits _ _ _ (back4 .before .before .pre) (c .before .before .before .loop .inv) (c .before .before .loop-test .taken)
 
 add-i : tie.Need-add-i Inv-loop μ-loop
 add-i c = search needs
@@ -32,8 +34,11 @@ loop-less c = search needs
 
 loop-again : tie.Need-loop-again Inv-loop μ-loop
 loop-again c =
-    let st = c .before .before .before .before .before .before .before .before .before in
-    unlisted-next _ _ _ (st .pre) (c .before .before .before .before .before .before .loop .inv) _ _ (c .before .before .before .before .before .loop-test .taken) (c .before .before .put-number .ensures .0) (c .before .before .put-number .ensures .1)
+    let back4 = c .before .before .before .before in
+    let st4 = c .before .before .before .before in
+    let st8 = st4 .before .before .before .before in
+    let st = st8 .before in
+    unlisted-next _ _ _ (st .pre) (back4 .before .before .loop .inv) _ _ (back4 .before .loop-test .taken) (c .before .before .put-number .ensures .0) (c .before .before .put-number .ensures .1)
 
 same-length : tie.Need-same-length Inv-loop μ-loop
 same-length c = search needs

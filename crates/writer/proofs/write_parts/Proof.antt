@@ -21,14 +21,21 @@ add-write-numbers-2 c = search needs
 
 write-numbers-requires : tie.Need-write-numbers-requires
 unfolding bitmapLength
-write-numbers-requires c κs = omega (arith, c .before .before .before .before .before .before .before .before .before .before .before .pre .fits, c .before .before .tray2 .given, c .before .before .before .before .before .before .tray .given)
+write-numbers-requires c κs =
+    let back4 = c .before .before .before .before in
+    let back8 = back4 .before .before .before .before in
+    omega (arith, back8 .before .before .before .pre .fits, c .before .before .tray2 .given, back4 .before .before .tray .given)
 
 same-length : tie.Need-same-length
 same-length c = search needs
 
 returns : tie.Need-returns
 unfolding bitmapLength
-returns c = pieces _ _ _ _ _ _ _ _ _ (c .before .before .before .before .before .before .before .before .before .before .before .before .before .before .pre) (c .before .before .before .before .before .before .before .before .before .before .write-head .ensures) (c .before .before .before .before .before .before .write-bits .ensures) refl (c .before .before .write-numbers .ensures)
+returns c =
+    let back4 = c .before .before .before .before in
+    let back8 = back4 .before .before .before .before in
+    let back12 = back8 .before .before .before .before in
+    pieces _ _ _ _ _ _ _ _ _ (back12 .before .before .pre) (back8 .before .before .write-head .ensures) (back4 .before .before .write-bits .ensures) refl (c .before .before .write-numbers .ensures)
 
 pub write-parts-spec : {M : Type 1} → statement M
 write-parts-spec =

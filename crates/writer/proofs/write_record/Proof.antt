@@ -18,7 +18,9 @@ same-length : tie.Need-same-length
 same-length c = search needs
 
 returns-2 : tie.Need-returns-2
-returns-2 c = write-accepted _ _ _ _ _ _ _ (c .before .before .before .before .before .refusal .ensures) (c .before .before .before .before .if1 .left) (c .before .before .write-parts .ensures)
+returns-2 c =
+    let back4 = c .before .before .before .before in
+    write-accepted _ _ _ _ _ _ _ (back4 .before .refusal .ensures) (c .before .before .before .before .if1 .left) (c .before .before .write-parts .ensures)
 
 pub write-record-spec : {M : Type 1} → statement M
 write-record-spec =

@@ -33,7 +33,17 @@ same-length-8 : tie.Need-same-length-8
 same-length-8 c = search needs
 
 returns : tie.Need-returns
-returns c = λ t. called-step (enrolled {j = c .before .before .before .before .before .before .before .before .before .before .before .before .before .before .before .before .before .before .before .before .before .before .before .before .before .before .before .before .before .before .before .before .before .before .before .before .before .before .args .self .job} {j′ = c .before .before .before .before .before .before .before .before .before .before .before .before .before .before .before .before .before .enrol .result .job} (c .before .before .before .before .before .before .before .before .before .before .before .before .before .before .before .before .before .enrol .ensures))
+returns c =
+    let back4 = c .before .before .before .before in
+    let back8 = back4 .before .before .before .before in
+    let back12 = back8 .before .before .before .before in
+    let back16 = back12 .before .before .before .before in
+    let back20 = back16 .before .before .before .before in
+    let back24 = back20 .before .before .before .before in
+    let back28 = back24 .before .before .before .before in
+    let back32 = back28 .before .before .before .before in
+    let back36 = back32 .before .before .before .before in
+    λ t. called-step (enrolled {j = back36 .before .before .args .self .job} {j′ = back16 .before .enrol .result .job} (back16 .before .enrol .ensures))
 
 pub enrol-spec : {M : Type 1} → statement M
 enrol-spec = tie.close (tie.spec enrol-requires same-length same-length-2 same-length-3 same-length-4 same-length-5 same-length-6 same-length-7 same-length-8 returns)

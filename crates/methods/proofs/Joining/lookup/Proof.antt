@@ -9,7 +9,10 @@ lookup-requires : tie.Need-lookup-requires
 lookup-requires c κs = search needs
 
 returns : tie.Need-returns
-returns c = λ t. called-step (looked {j = c .before .before .before .before .before .before .before .before .before .before .args .self .job} (c .lookup .ensures))
+returns c =
+    let back4 = c .before .before .before .before in
+    let back8 = back4 .before .before .before .before in
+    λ t. called-step (looked {j = back8 .before .before .args .self .job} (c .lookup .ensures))
 
 pub lookup-spec : {M : Type 1} → statement M
 lookup-spec = tie.close (tie.spec lookup-requires returns)

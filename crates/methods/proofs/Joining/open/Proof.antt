@@ -22,7 +22,9 @@ same-length-4 c = search needs
 
 returns : tie.Need-returns
 returns c =
-    let a = c .before .before .before .before .before .before .before .before .before in
+    let a4 = c .before .before .before .before in
+    let a8 = a4 .before .before .before .before in
+    let a = a8 .before in
     opened-opening (opened {j = a .open .result .job} (a .open .ensures))
 
 pub open-spec : {M : Type 1} → statement M

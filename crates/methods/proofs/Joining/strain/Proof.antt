@@ -17,7 +17,9 @@ same-length-3 : tie.Need-same-length-3
 same-length-3 c = search needs
 
 returns : tie.Need-returns
-returns c = let called = c .before .before .before .before .before .before in (refl, called .strain .ensures)
+returns c =
+    let called4 = c .before .before .before .before in
+    let called = called4 .before .before in (refl, called .strain .ensures)
 
 pub strain-spec : {M : Type 1} → statement M
 strain-spec = tie.close (tie.spec strain-requires same-length same-length-2 same-length-3 returns)
