@@ -1,4 +1,4 @@
-"""Checks that no source gives a symbol of the kit's libraries a meaning of its own.
+"""Checks that no source gives a symbol of the kit's libraries a meaning of its own, and that proofs name their places.
 
 The libraries are read from the kit: every module of those that definitions and proofs cite (LIBRARIES). The kit's
 others are the program logic behind the generated proofs; no source imports from them but proofs by hand (LOGIC).
@@ -8,6 +8,8 @@ fields and constructors are left out, since they stand with their type.
 No function and no type of a crate has the name of a symbol, exported or not, and no import is given such a name. The
 symbols of the modules in CORE, which definitions cite bare, may not be fields, constructors or locals either.
 Names that the kit's form of a proof file asks for (the answer to a need, the proved statement) are not the author's.
+
+A place on the way of a proof that is more than four steps back has a name: no chain of `.before` is longer than four.
 """
 import glob
 import json
@@ -25,6 +27,7 @@ EXPORT = re.compile(r'\s*(?:unfoldable |abbrev )?pub (?:unfoldable |abbrev )?(?!
 IMPORT = re.compile(r'^' + WORDS + r'use ([^\s{;]+?)\.\{([^}]*)\}', re.M)
 TYPE = re.compile(r'\s*' + WORDS + r'(data|record) ([^\s:({]+)')
 NAMES = re.compile(r'\s*' + WORDS + r'(let )?((?:[^\s:({})=λ.→]+ )+): ')
+CHAIN = re.compile(r'(?:\s\.before){5}')
 ASKED = re.compile(r'\s*(?:pub )?\S+ : (?:tie\.|\{M : Type 1\} → statement M)')
 
 
@@ -101,6 +104,7 @@ def main():
         with open(path, encoding='utf-8') as f:
             text = re.sub(r'(--|//).*$', '', f.read(), flags=re.M)
         faults = list(imported(text, homes)) + (list(defined(path, homes)) if path.endswith('.antt') else [])
+        faults += ['a chain of .before is longer than four: name a place on the way by let'] if CHAIN.search(text) else []
         for fault in faults:
             print(f'{path}: {fault}')
         found += len(faults)

@@ -80,8 +80,7 @@ loop-again : tie.Need-loop-again Inv-loop μ-loop
 unfolding lineCount sides
 loop-again c =
     let back4 = c .before .before .before .before in
-    let d4 = c .before .before .before .before in
-    let d = d4 .before .before .before .before in
+    let d = back4 .before .before .before .before in
     let s = begin d in
     let l = d .loop in
     rest-fewer (λ f. lineEdges (edges s f) (extents-of s) (s .args .j - 1) (l .l))

@@ -130,8 +130,7 @@ loop-again : tie.Need-loop-again Inv-loop μ-loop
 unfolding sides lineY lineZ
 loop-again c =
     let back4 = c .before .before .before .before in
-    let d4 = c .before .before .before .before in
-    let d = d4 .before .before .before .before in
+    let d = back4 .before .before .before .before in
     let s = begin d in
     let l = d .loop in
     let i = l .inv .0 (back4 .before .before .before .loop-test .taken) in (

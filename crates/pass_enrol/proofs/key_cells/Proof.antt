@@ -65,8 +65,7 @@ loop-again : tie.Need-loop-again Inv-loop μ-loop
 loop-again c =
     let st4 = c .before .before .before .before in
     let st = st4 .before .before .before .before in
-    let i4 = c .before .before .before .before in
-    let i = i4 .before .loop .inv in
+    let i = st4 .before .loop .inv in
     (omega arith, omega arith, omega arith, omega arith, cells-next (st .pre .0) _ _ _ _ _ _ (omega arith) (i .0) (i .1) (i .2) (i .4) (c .before .before .key-cell .ensures))
 
 same-length : tie.Need-same-length Inv-loop μ-loop

@@ -54,8 +54,7 @@ put-row-requires : tie.Need-put-row-requires Inv-loop μ-loop
 put-row-requires c κs =
     let a4 = c .before .before .before .before in
     let a = a4 .before .before .before .before .args in
-    let p4 = c .before .before .before .before in
-    let p = p4 .before .before .before .before .pre in
+    let p = a4 .before .before .before .before .pre in
     let l = c .before .before .before .before .loop in (
       omega (arith, row-room (6 - 2 * a .j) (a .from) (a .count) (l .i) (omega arith), p .4, l .inv .1),
       omega arith,
@@ -73,11 +72,8 @@ loop-again c =
     let a4 = c .before .before .before .before in
     let a8 = a4 .before .before .before .before in
     let a = a8 .before .before .before .args in
-    let p4 = c .before .before .before .before in
-    let p8 = p4 .before .before .before .before in
-    let p = p8 .before .before .before .pre in
-    let i4 = c .before .before .before .before in
-    let i = i4 .before .before .before .loop .inv in
+    let p = a8 .before .before .before .pre in
+    let i = a4 .before .before .before .loop .inv in
     let r = number-row (p .0) _ _ _ (p .2) _ (p .3 .at _ (omega arith)) _ (c .before .before .before .before .row-for .ensures) in
     (omega arith, omega arith, rows-next _ _ _ (λ x k. rowIn (sizeOf (a .block)) (a .shift) (a .map .now) (a .j) (suc x) k) _ _ _ _ (i .2) (c .before .before .put-row .ensures) (row-entry _ _ _ _ _ _ r))
 

@@ -38,8 +38,7 @@ loop-again : tie.Need-loop-again Inv-loop μ-loop
 loop-again c =
     let l4 = c .before .before .before .before in
     let l = l4 .before .loop in
-    let s4 = c .before .before .before .before in
-    let s = s4 .before .before .before in
+    let s = l4 .before .before .before in
     let six = sixes s in
     left-fewer _ (rw (pairs-next (s .args .at) (s .args .rows) (l .i) (omega arith) (omega arith)) at (l .inv)) (c .before .before .join-from .ensures)
 

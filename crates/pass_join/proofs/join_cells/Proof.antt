@@ -67,8 +67,7 @@ unfolding lineCount sides
 loop-again c =
     let s4 = c .before .before .before .before in
     let s = s4 .before .before .before .before in
-    let l4 = c .before .before .before .before in
-    let l = l4 .before .loop in
+    let l = s4 .before .loop in
     left-fewer _ (rw (lines-next (extents-of s) (s .args .map .now) (s .args .j) (l .l) (c .before .before .before .before .loop-test .taken)) at (l .inv)) (c .before .before .join-line .ensures)
 
 same-length : tie.Need-same-length Inv-loop μ-loop

@@ -96,9 +96,7 @@ unfolding around
 returns c =
     let back4 = c .before .before .before .before in
     let back8 = back4 .before .before .before .before in
-    let s4 = c .before .before .before .before in
-    let s8 = s4 .before .before .before .before in
-    let s12 = s8 .before .before .before .before in
+    let s12 = back8 .before .before .before .before in
     let s = s12 .before .before .before in
     let t5 = c .if1 .taken in
     let t4 = and-first ((((back4 .before .before .is-blank .result && back4 .before .is-blank2 .result) && c .before .before .before .before .is-blank3 .result) && c .before .before .before .is-blank4 .result) && c .before .before .is-blank5 .result) (c .before .is-blank6 .result) t5 in

@@ -71,8 +71,7 @@ returns : tie.Need-returns
 unfolding around
 returns c =
     let back4 = c .before .before .before .before in
-    let s4 = c .before .before .before .before in
-    let s8 = s4 .before .before .before .before in
+    let s8 = back4 .before .before .before .before in
     let s = s8 .before .before .before in
     let t3 = c .if1 .taken in
     let t2 = and-first ((c .before .before .before .before .is-blank .result && c .before .before .before .is-blank2 .result) && c .before .before .is-blank3 .result) (c .before .is-blank4 .result) t3 in

@@ -118,8 +118,7 @@ loop-again c =
     let s4 = c .before .before .before .before in
     let s8 = s4 .before .before .before .before in
     let s = s8 .before .before .before in
-    let l4 = c .before .before .before .before in
-    let l = l4 .before .loop in
+    let l = s4 .before .loop in
     let i = l .inv .0 (c .before .before .before .before .loop-test .taken) in
     (λ h. omega arith, left-fewer _ (rw (cells-next (extents-of s) (s .args .map .now) (s .args .j) (s .args .l) (s .pre .1) (l .x) (omega arith) (omega arith)) at (l .inv .1)) (c .before .before .join-at .ensures))
 

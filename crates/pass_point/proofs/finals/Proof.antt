@@ -46,8 +46,7 @@ returns : tie.Need-returns
 unfolding finalsIn
 returns c =
     let back4 = c .before .before .before .before in
-    let a4 = c .before .before .before .before in
-    let a = a4 .before .before .before .args in
+    let a = back4 .before .before .before .args in
     rw (back4 .before .final-number .ensures, c .before .before .before .before .final-number2 .ensures, c .before .before .before .final-number3 .ensures, c .before .before .final-number4 .ensures, c .before .final-number5 .ensures, c .final-number6 .ensures)
     (sym (ap (finalsIn (a .numbers .now) (a .from)) (six (a .t1) (search needs))))
 

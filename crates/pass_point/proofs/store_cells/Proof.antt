@@ -37,8 +37,7 @@ add-store-cell-2 c =
 store-cell-requires : tie.Need-store-cell-requires Inv-loop μ-loop
 store-cell-requires c κs =
     let back4 = c .before .before .before .before in
-    let p4 = c .before .before .before .before in
-    let p = p4 .before .before .before .before .pre in
+    let p = back4 .before .before .before .before .pre in
     let i = c .before .before .before .loop .inv in
     let k : c .before .before .before .loop .x < back4 .before .before .before .before .args .w = omega arith in
     let h = along-here (p .0) _ (i .0) k in
@@ -60,8 +59,7 @@ loop-again c =
     let p8 = p4 .before .before .before .before in
     let p12 = p8 .before .before .before .before in
     let p = p12 .before .pre in
-    let i4 = c .before .before .before .before in
-    let i = i4 .before .before .before .before .loop .inv in
+    let i = p4 .before .before .before .before .loop .inv in
     (at-next _ _ _ (i .0), left-next _ _ _ _ _ _ _ _ _ _ _ _ _ _ (i .1) _ _ (along-next (p .0) _ (i .0) (omega arith)) _ _ _ (c .before .before .before .before .store-cell .ensures))
 
 same-length : tie.Need-same-length Inv-loop μ-loop

@@ -66,8 +66,7 @@ add-take-cell-2 : tie.Need-add-take-cell-2 Inv-loop μ-loop
 unfolding sides
 add-take-cell-2 c =
     let back4 = c .before .before .before .before in
-    let g4 = c .before .before .before .before in
-    let g = g4 .before .before in
+    let g = back4 .before .before in
     let k = g .before .before .before in
     let r = k .before .before in
     let p4 = r .before .before .before .before in
@@ -85,8 +84,7 @@ take-cell-requires c κs =
     let p4 = r .before .before .before .before in
     let p = p4 .before .before .before .before .pre in
     let L = r .line-at .ensures in
-    let t4 = c .before .before .before .before in
-    let t = t4 .before .loop-test .taken in
+    let t = g4 .before .loop-test .taken in
     let x-in = listed-cell _ _ _ _ _ _ _ _ (p .1) _ L _ _ (k .list-shown .ensures) _ _ _ _ _ (g .loop .inv .3) t in
     (line-beside _ _ _ L _ (x-in .0) (p .1) (x-in .1) (x-in .2) _ _ _ (p .0), line-spot _ _ _ L _ (x-in .0) (p .1) (x-in .1) (x-in .2))
 
@@ -106,9 +104,7 @@ loop-again c =
     let r = k .before .before in
     let p4 = r .before .before .before .before in
     let p = p4 .before .before .before .before .pre in
-    let t4 = c .before .before .before .before in
-    let t8 = t4 .before .before .before .before in
-    let t = t8 .before .before .loop-test .taken in
+    let t = g8 .before .before .loop-test .taken in
     let took = c .before .before .before .before .take-cell .ensures in
     (omega (arith, t), search needs, search needs, take-next _ _ _ _ _ _ _ _ (p .1) _ (r .line-at .ensures) _ _ (k .list-shown .ensures) _ _ _ _ _ (g .loop .inv .3) t _ _ (took .0) (took .1))
 

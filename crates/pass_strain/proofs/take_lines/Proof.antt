@@ -59,9 +59,7 @@ unfolding lineCount sides
 next-spot-requires c κs =
     let back4 = c .before .before .before .before in
     let back8 = back4 .before .before .before .before in
-    let g4 = c .before .before .before .before in
-    let g8 = g4 .before .before .before .before in
-    let g = g8 .before .before .before in
+    let g = back8 .before .before .before in
     let i = g .loop .inv in
     let p4 = g .before .before .before .before in
     let p = p4 .before .before .before .before .pre in
@@ -85,11 +83,8 @@ loop-again c =
     let i4 = c .before .before .before .before in
     let i8 = i4 .before .before .before .before in
     let i = i8 .before .before .before .before .loop .inv in
-    let t4 = c .before .before .before .before in
-    let t8 = t4 .before .before .before .before in
-    let t = t8 .before .before .before .loop-test .taken in
-    let took4 = c .before .before .before .before in
-    let took = took4 .before .before .before .take-line .ensures in
+    let t = i8 .before .before .before .loop-test .taken in
+    let took = i4 .before .before .before .take-line .ensures in
     (omega (arith, t), search needs, search needs, search needs, c .next-spot .ensures, gone-next _ _ _ _ _ _ _ _ (i .5) _ _ (omega (arith, t)) (took .0) (took .1))
 
 same-length : tie.Need-same-length Inv-loop μ-loop

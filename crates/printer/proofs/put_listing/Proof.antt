@@ -17,16 +17,14 @@ put-heading-requires c κs = search needs
 put-order-requires : tie.Need-put-order-requires
 put-order-requires c κs =
     let back4 = c .before .before .before .before in
-    let p4 = c .before .before .before .before in
-    let p8 = p4 .before .before .before .before in
+    let p8 = back4 .before .before .before .before in
     let p12 = p8 .before .before .before .before in
     let p = p12 .before .pre in (record { sized = p .sized; whole = p .whole; below = omega arith }, back4 .before .before .before .before .clear .ensures ∙ ap zeros (p .room), p .counts _ (omega arith))
 
 put-order-requires-2 : tie.Need-put-order-requires-2
 put-order-requires-2 c κs =
     let back4 = c .before .before .before .before in
-    let p4 = c .before .before .before .before in
-    let p8 = p4 .before .before .before .before in
+    let p8 = back4 .before .before .before .before in
     let p12 = p8 .before .before .before .before in
     let p16 = p12 .before .before .before .before in
     let p = p16 .before .before .before .before .pre in (record { sized = p .sized; whole = p .whole; below = omega arith }, back4 .before .before .put-order .ensures .1, p .counts _ (omega arith))
@@ -34,8 +32,7 @@ put-order-requires-2 c κs =
 put-order-requires-3 : tie.Need-put-order-requires-3
 put-order-requires-3 c κs =
     let back4 = c .before .before .before .before in
-    let p4 = c .before .before .before .before in
-    let p8 = p4 .before .before .before .before in
+    let p8 = back4 .before .before .before .before in
     let p12 = p8 .before .before .before .before in
     let p16 = p12 .before .before .before .before in
     let p20 = p16 .before .before .before .before in

@@ -48,14 +48,10 @@ entry-of-requires-2 c κs = search needs
 maps-stand-requires : tie.Need-maps-stand-requires
 maps-stand-requires c κs =
     let back4 = c .before .before .before .before in
-    let p4 = c .before .before .before .before in
-    let p8 = p4 .before .before .before .before in
+    let p8 = back4 .before .before .before .before in
     let p12 = p8 .before .before .before .before in
     let p = p12 .before .before .before .pre .0 in
-    let q4 = c .before .before .before .before in
-    let q8 = q4 .before .before .before .before in
-    let q12 = q8 .before .before .before .before in
-    let q = q12 .before .before .before .pre .1 in (
+    let q = p12 .before .before .before .pre .1 in (
       (
         lower-sized _ _ _ (p .0) (p .1) _ (back4 .before .before .block-at .ensures _ _ _),
         lower-length _ _ _ _ _ _ _
@@ -84,8 +80,7 @@ returns-2 c =
 differ-requires : tie.Need-differ-requires
 differ-requires c κs =
     let back4 = c .before .before .before .before in
-    let p4 = c .before .before .before .before in
-    let p8 = p4 .before .before .before .before in
+    let p8 = back4 .before .before .before .before in
     let p12 = p8 .before .before .before .before in
     let p16 = p12 .before .before .before .before in
     let p = p16 .before .pre .0 in (
@@ -99,9 +94,7 @@ unfolding laterRefusal
 returns-3 c =
     let back4 = c .before .before .before .before in
     let back8 = back4 .before .before .before .before in
-    let p4 = c .before .before .before .before in
-    let p8 = p4 .before .before .before .before in
-    let p12 = p8 .before .before .before .before in
+    let p12 = back8 .before .before .before .before in
     let p16 = p12 .before .before .before .before in
     let p = p16 .before .before .before .pre .0 in
     cond-not-next _ _ _ _ _ (trays-told _ _ _ _ _
@@ -122,9 +115,7 @@ unfolding laterRefusal
 returns-4 c =
     let back4 = c .before .before .before .before in
     let back8 = back4 .before .before .before .before in
-    let p4 = c .before .before .before .before in
-    let p8 = p4 .before .before .before .before in
-    let p12 = p8 .before .before .before .before in
+    let p12 = back8 .before .before .before .before in
     let p16 = p12 .before .before .before .before in
     let p = p16 .before .before .before .pre .0 in
     cond-not-next _ _ _ _ _ (trays-told _ _ _ _ _

@@ -59,8 +59,7 @@ returns-2 : tie.Need-returns-2 Inv-loop μ-loop
 returns-2 c =
     let l4 = c .before .before .before .before in
     let l = l4 .before .before .before .loop in
-    let w4 = c .before .before .before .before in
-    let w = w4 .before .walk in
+    let w = l4 .before .walk in
     let n = not-false _ (c .before .before .before .if1 .left) in
     ways-long _ _ _ (l .i + 1) (l .steps + w .result .steps)
     (turn-sound _ _ _ (l .i) (l .steps) (l .inv .2) (l .inv .3) (omega arith) _ _ (w .ensures) n) (turn-steps _ _ _ (l .i) (l .steps) (l .inv .2) (l .inv .3) (omega arith) _ _ (w .ensures) n)

@@ -35,8 +35,7 @@ loop-less c = search needs
 loop-again : tie.Need-loop-again Inv-loop μ-loop
 loop-again c =
     let back4 = c .before .before .before .before in
-    let st4 = c .before .before .before .before in
-    let st8 = st4 .before .before .before .before in
+    let st8 = back4 .before .before .before .before in
     let st = st8 .before in
     unlisted-next _ _ _ (st .pre) (back4 .before .before .loop .inv) _ _ (back4 .before .loop-test .taken) (c .before .before .put-number .ensures .0) (c .before .before .put-number .ensures .1)
 
