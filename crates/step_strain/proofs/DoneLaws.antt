@@ -30,7 +30,7 @@ use Rattle.strain_calls.specs.Adding.{blockAdds}
 use Rattle.strain_calls.specs.Calls.{strain, strainAnswer, noTotals}
 use Rattle.strain_calls.specs.Declines.{strainRefusal}
 use Rattle.strain_calls.specs.Entries.{StrainStep, withReadings, anyTablesWith}
-use Rattle.judge_strain.proofs.TestLaws.{whole-of}
+use Rattle.judge_strain.proofs.TestLaws.{whole-of, refusal-is}
 
 -- ---- what is added
 
