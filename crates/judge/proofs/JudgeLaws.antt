@@ -22,7 +22,7 @@ use Rattle.joiner.specs.Job as joiner
 use Rattle.joiner.specs.Stages.{nextAfter}
 use Rattle.joiner.specs.Calls.{Call, enrol, join, cross, point, look, reading, Answer, answer, stageOf, placed, repeated, mapsFit, layersDiffer, full, overfull}
 use Rattle.joiner.specs.Declines.{adds, counted, cutFor, declines, filled, lentTo, linksStand, mapStands, numberStands, refusal, standing, standsFor, stray, talliesFit, waysStand}
-use Rattle.joiner.specs.Entries.{Done, CallStep, Ticked}
+use Rattle.joiner.specs.Entries.{Done, CallStep, Ticked, allTrays}
 use Rattle.joiner.proofs.Passed.{tally-fits}
 use Rattle.blocks.specs.Blocks.{anyExtents, cutOf, sizeOf, Tells}
 use Rattle.blocks.specs.declared.Block.{Block}
@@ -270,6 +270,11 @@ lent-is o t (cross b m) = refl
 lent-is o t (point b m) = refl
 lent-is o t (look b m c) = refl
 lent-is o t (reading κ n) = refl
+
+-- .. and all of them, for the opening.
+pub all-is : (o : Told) (t : Tables) → allTrays o t ≡ lentBy CallName.Open (blocks (o .cutting)) (o .entries) (lengthsOf t)
+unfolding allTrays blockTrays linkTrays foundTrays numberTrays firstTrays listedTrays kindTrays
+all-is o t = refl
 
 -- .. and its stage.
 pub stage-is : (c : Call) → stageOf c ≡ stageFor (nameOf c)

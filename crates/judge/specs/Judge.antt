@@ -85,8 +85,9 @@ nameOf (point b m) = CallName.Points
 nameOf (look b m c) = CallName.Lookup
 nameOf (reading κ n) = CallName.Row
 
--- The stage that a call belongs to: the joiner's `stageOf`.
+-- The stage that a call belongs to: the joiner's `stageOf`. An opening leaves the first one.
 abbrev pub stageFor : CallName → joiner.Stage
+stageFor CallName.Open = joiner.Enrol
 stageFor CallName.Enrol = joiner.Enrol
 stageFor CallName.Seam = joiner.Seam
 stageFor CallName.Crossing = joiner.Crossing
@@ -94,22 +95,25 @@ stageFor CallName.Points = joiner.Points
 stageFor CallName.Lookup = joiner.Closed
 stageFor CallName.Row = joiner.Closed
 
+-- All tables of a kind, by their lengths.
+abbrev pub kindLent : Kind → (Kind → ℕ) → Lengths → List Tray
+kindLent Face n z = kindLengths 2 (n Face) (z .keys .faces) (z .rows .faces) (z .numbers .faces) (z .firsts .faces) (z .listed .faces)
+kindLent Curve n z = kindLengths 4 (n Curve) (z .keys .curves) (z .rows .curves) (z .numbers .curves) (z .firsts .curves) (z .listed .curves)
+kindLent Point n z = kindLengths 6 (n Point) (z .keys .points) (z .rows .points) (z .numbers .points) (z .firsts .points) (z .listed .points)
+
 -- The tables that a call is lent, by their lengths, of a job of so many blocks and entries: the joiner's `lentTo`.
 abbrev pub lentBy : CallName → ℕ → (Kind → ℕ) → Lengths → List Tray
+lentBy CallName.Open count n z =
+    blockLengths count (z .ticks) (z .blocks) ++
+    linkLengths (n Face) (n Curve) (z .links .faces) (z .links .curves) ++ kindLent Face n z ++ kindLent Curve n z ++ kindLent Point n z
 lentBy CallName.Enrol count n z =
     blockLengths count (z .ticks) (z .blocks) ++
     linkLengths (n Face) (n Curve) (z .links .faces) (z .links .curves) ++
     foundLengths 2 (n Face) (z .keys .faces) (z .rows .faces) ++ foundLengths 4 (n Curve) (z .keys .curves) (z .rows .curves)
 lentBy CallName.Seam count n z = blockLengths count (z .ticks) (z .blocks) ++ linkLengths (n Face) (n Curve) (z .links .faces) (z .links .curves)
 lentBy CallName.Crossing count n z =
-    blockLengths count (z .ticks) (z .blocks) ++
-    linkLengths (n Face) (n Curve) (z .links .faces) (z .links .curves) ++
-    kindLengths 2 (n Face) (z .keys .faces) (z .rows .faces) (z .numbers .faces) (z .firsts .faces) (z .listed .faces) ++
-    kindLengths 4 (n Curve) (z .keys .curves) (z .rows .curves) (z .numbers .curves) (z .firsts .curves) (z .listed .curves)
-lentBy CallName.Points count n z =
-    blockLengths count (z .ticks) (z .blocks) ++
-    tray (z .numbers .curves) (n Curve) ∷
-    kindLengths 6 (n Point) (z .keys .points) (z .rows .points) (z .numbers .points) (z .firsts .points) (z .listed .points)
+    blockLengths count (z .ticks) (z .blocks) ++ linkLengths (n Face) (n Curve) (z .links .faces) (z .links .curves) ++ kindLent Face n z ++ kindLent Curve n z
+lentBy CallName.Points count n z = blockLengths count (z .ticks) (z .blocks) ++ tray (z .numbers .curves) (n Curve) ∷ kindLent Point n z
 lentBy CallName.Lookup count n z =
     blockLengths count (z .ticks) (z .blocks) ++ tray (z .numbers .faces) (n Face) ∷ tray (z .numbers .curves) (n Curve) ∷ tray (z .firsts .points) (n Point) ∷ []
 lentBy CallName.Row count n z = tray (z .listed .faces) (2 * n Face) ∷ tray (z .listed .curves) (4 * n Curve) ∷ tray (z .listed .points) (6 * n Point) ∷ []

@@ -37,10 +37,10 @@ ghost use Rattle.cells.specs.Extents.{Sized};
 ghost use Rattle.cells.specs.Grid.{cells};
 ghost use Rattle.cutting.specs.Cutting.{intervals};
 ghost use Rattle.blocks.specs.Blocks.{sizeOf};
-ghost use Rattle.joiner.specs.Job.{lengthsFit};
+ghost use Rattle.joiner.specs.Job.{Face, Curve, Point, lengthsFit};
 ghost use Rattle.job.specs.Jobs.{anyCuts, stageOf, jobOf};
 ghost use Rattle.judge.specs.declared.CallName.{CallName};
-ghost use Rattle.judge.specs.Judge.{entriesOf, lentBy, stageFor, fitsIn, mapJudged, lengthsJudged, judgedOf, openedOf, reachedOf, entryOf, standsBy, mapStandsIn, linksStandIn, numberStandsIn, Advanced};
+ghost use Rattle.judge.specs.Judge.{entriesOf, kindLent, lentBy, stageFor, fitsIn, mapJudged, lengthsJudged, judgedOf, openedOf, reachedOf, entryOf, standsBy, mapStandsIn, linksStandIn, numberStandsIn, Advanced};
 
 // What the block table tells of a block: its largest numbers, and the places of its first face and first curve.
 pub struct Entry {
@@ -53,6 +53,7 @@ pub struct Entry {
 
 // The calls of a job by name.
 pub enum CallName {
+    Open,
     Enrol,
     Seam,
     Crossing,
@@ -136,6 +137,51 @@ fn both(a: bool, b: bool) -> bool
     false
 }
 
+// Whether all tables of one kind have the stated lengths: those of faces.
+fn faces_fit(job: Job, z: Lengths) -> bool
+    ensures { λ r. ⌜ r ≡ lengthsFit (kindLent Face (entriesOf job) z) ⌝ }
+{
+    kind_trays(
+        2,
+        job.face_entries,
+        z.keys.faces,
+        z.rows.faces,
+        z.numbers.faces,
+        z.firsts.faces,
+        z.listed.faces,
+    )
+}
+
+// .. of curves.
+fn curves_fit(job: Job, z: Lengths) -> bool
+    ensures { λ r. ⌜ r ≡ lengthsFit (kindLent Curve (entriesOf job) z) ⌝ }
+{
+    kind_trays(
+        4,
+        job.curve_entries,
+        z.keys.curves,
+        z.rows.curves,
+        z.numbers.curves,
+        z.firsts.curves,
+        z.listed.curves,
+    )
+}
+
+// .. of points.
+fn points_fit(job: Job, z: Lengths) -> bool
+    ensures { λ r. ⌜ r ≡ lengthsFit (kindLent Point (entriesOf job) z) ⌝ }
+{
+    kind_trays(
+        6,
+        job.point_entries,
+        z.keys.points,
+        z.rows.points,
+        z.numbers.points,
+        z.firsts.points,
+        z.listed.points,
+    )
+}
+
 // Whether the tables that a call is lent have the stated lengths: those of a seam.
 fn seam_lent(count: usize, job: Job, z: Lengths) -> bool
     requires { ⌜ count ≤ 16384 ⌝ }
@@ -173,26 +219,7 @@ fn crossing_lent(count: usize, job: Job, z: Lengths) -> bool
 {
     both(
         seam_lent(count, job, z),
-        both(
-            kind_trays(
-                2,
-                job.face_entries,
-                z.keys.faces,
-                z.rows.faces,
-                z.numbers.faces,
-                z.firsts.faces,
-                z.listed.faces,
-            ),
-            kind_trays(
-                4,
-                job.curve_entries,
-                z.keys.curves,
-                z.rows.curves,
-                z.numbers.curves,
-                z.firsts.curves,
-                z.listed.curves,
-            ),
-        ),
+        both(faces_fit(job, z), curves_fit(job, z)),
     )
 }
 
@@ -205,15 +232,7 @@ fn points_lent(count: usize, job: Job, z: Lengths) -> bool
         block_trays(count, z.ticks, z.blocks),
         both(
             entry_tray(job.curve_entries, z.numbers.curves),
-            kind_trays(
-                6,
-                job.point_entries,
-                z.keys.points,
-                z.rows.points,
-                z.numbers.points,
-                z.firsts.points,
-                z.listed.points,
-            ),
+            points_fit(job, z),
         ),
     )
 }
@@ -248,12 +267,21 @@ fn row_lent(count: usize, job: Job, z: Lengths) -> bool
     )
 }
 
+// .. of an opening, which is lent all.
+fn open_lent(count: usize, job: Job, z: Lengths) -> bool
+    requires { ⌜ count ≤ 16384 ⌝ }
+    ensures { λ r. ⌜ r ≡ lengthsFit (lentBy CallName.Open count (entriesOf job) z) ⌝ }
+{
+    both(crossing_lent(count, job, z), points_fit(job, z))
+}
+
 // .. of any call, of a job of so many blocks. Not an entry.
 pub fn lent_fits(call: CallName, count: usize, job: Job, z: Lengths) -> bool
     requires { ⌜ count ≤ 16384 ⌝ }
     ensures { λ r. ⌜ r ≡ lengthsFit (lentBy call count (entriesOf job) z) ⌝ }
 {
     match call {
+        CallName::Open => open_lent(count, job, z),
         CallName::Enrol => enrol_lent(count, job, z),
         CallName::Seam => seam_lent(count, job, z),
         CallName::Crossing => crossing_lent(count, job, z),
@@ -372,6 +400,7 @@ fn stage_of(call: CallName) -> Stage
     ensures { λ r. ⌜ stageOf r ≡ stageFor call ⌝ }
 {
     match call {
+        CallName::Open => Stage::Enrol,
         CallName::Enrol => Stage::Enrol,
         CallName::Seam => Stage::Seam,
         CallName::Crossing => Stage::Crossing,

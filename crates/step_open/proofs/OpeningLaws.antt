@@ -1,8 +1,8 @@
 -- The ways of the functions that open a job, over plain lists and numbers.
 -- Assumes nothing.
 use mathlib.Core.Path.{_≡_, refl, sym, ap, _∙_}
-use mathlib.Core.Bool.{Bool, false, not, _&&_, and-assoc}
-use mathlib.Core.List.{List, _++_, map}
+use mathlib.Core.Bool.{Bool, false, not, _&&_}
+use mathlib.Core.List.{List, map}
 use Prim.Native.Nat.{ℕ, _*_, _≤_}
 use lib.ListN.{length}
 use lib.Ieee.{Float}
@@ -10,77 +10,32 @@ use borrow.Author.Tests.{not-false}
 use Rattle.lists.specs.Lists.{zeros}
 use Rattle.refusals.specs.Refusals.{number, table, first, givenBy, standsIn}
 use Rattle.cutting.specs.Cutting.{Cutting, intervals, blocks, goodCut}
-use Rattle.joiner.specs.Job.{Face, Curve, Point, Told, Tables, lengthsFit, blockTrays, linkTrays, foundTrays, numberTrays, firstTrays, listedTrays, kindTrays}
+use Rattle.joiner.specs.Job.{Kind, Told, Tables, lengthsFit}
 use Rattle.joiner.specs.Entries.{allTrays}
 use Rattle.strains.specs.Units.{plusZero}
 use Rattle.blocks.proofs.BlockLaws.{good-few}
 use Rattle.blocks.proofs.CodeLaws.{blocks-are}
 use Rattle.job.specs.declared.Job.{Job}
 use Rattle.job.specs.Jobs.{toldBy, toldOf, freshJob, stateOf, NoJob}
-use Rattle.job.proofs.JobLaws.{fits-append, fresh-of}
+use Rattle.job.proofs.JobLaws.{fresh-of}
+use Rattle.judge.specs.declared.Lengths.{Lengths}
+use Rattle.judge.specs.Judge.{lengthsOf}
+use Rattle.judge.proofs.JudgeLaws.{all-is}
 use Rattle.strain_calls.specs.Tables.{TotalTables, totalTables, totalTrays, zeroed}
 use Rattle.strain_calls.specs.Declines.{openingDeclines, openingRefusal}
 use Rattle.strain_calls.specs.Entries.{TotalsOpening}
 use Rattle.strain_calls.proofs.OpeningLaws.{opening-fits}
 use Rattle.step_open.specs.declared.Opened.{Opened}
-use Rattle.step_open.specs.declared.Sizes.{Sizes}
-use Rattle.step_open.specs.Inner.{kindsFit, tablesFit, refusalOf, accepted}
+use Rattle.step_open.specs.Inner.{tablesFit, refusalOf, accepted}
 
 -- ---- the tests by lengths are the joiner's
 
-abbrev pub sizesOf : Tables → TotalTables → Sizes
-sizesOf t w =
-    record {
-      ticks = length (t .ticks);
-      blocks = length (t .blocks);
-      «face_links» = length (t .links Face);
-      «curve_links» = length (t .links Curve);
-      «face_keys» = length (t .keys Face);
-      «curve_keys» = length (t .keys Curve);
-      «point_keys» = length (t .keys Point);
-      «face_rows» = length (t .rows Face);
-      «curve_rows» = length (t .rows Curve);
-      «point_rows» = length (t .rows Point);
-      «face_numbers» = length (t .numbers Face);
-      «curve_numbers» = length (t .numbers Curve);
-      «point_numbers» = length (t .numbers Point);
-      «face_firsts» = length (t .firsts Face);
-      «curve_firsts» = length (t .firsts Curve);
-      «point_firsts» = length (t .firsts Point);
-      «face_listed» = length (t .listed Face);
-      «curve_listed» = length (t .listed Curve);
-      «point_listed» = length (t .listed Point);
-      came = length (w .came);
-      «face_sums» = length (w .sums);
-      «face_counts» = length (w .counts);
-    }
-
--- a test more behind two, on either side of the brackets
-and-last : (p q r s : Bool) → ((p && (q && r)) && s) ≡ (p && (q && (r && s)))
-and-last p q r s = and-assoc p (q && r) s ∙ ap (λ (b : Bool). p && b) (and-assoc q r s)
-
 module _ (o : Told) (t : Tables) (w : TotalTables) where
-  abbrev kinds-fit : Bool
-  kinds-fit = kindsFit (o .entries Face) (o .entries Curve) (o .entries Point) (sizesOf t w)
+  fitting-is : (lengthsFit (allTrays o t) && lengthsFit (totalTrays o w)) ≡ tablesFit (blocks (o .cutting)) (o .entries) (lengthsOf t) (length (w .came)) (length (w .sums)) (length (w .counts))
+  unfolding totalTrays tablesFit
+  fitting-is = rw (all-is o t)
 
-  joiner-fitting : lengthsFit (allTrays o t) ≡ (lengthsFit (blockTrays o t) && (lengthsFit (linkTrays o t) && kinds-fit))
-  unfolding allTrays blockTrays linkTrays kindTrays foundTrays numberTrays firstTrays listedTrays kindsFit
-  joiner-fitting =
-      let faces = kindTrays o t Face in
-      let curves = kindTrays o t Curve in
-      let points = kindTrays o t Point in
-      fits-append (blockTrays o t) (linkTrays o t ++ faces ++ curves ++ points) ∙
-      ap (λ (b : Bool). lengthsFit (blockTrays o t) && b)
-      (fits-append (linkTrays o t) (faces ++ curves ++ points) ∙
-      ap (λ (b : Bool). lengthsFit (linkTrays o t) && b) (fits-append faces (curves ++ points) ∙ ap (λ (b : Bool). lengthsFit faces && b) (fits-append curves points)))
-
-  fitting-is : (lengthsFit (allTrays o t) && lengthsFit (totalTrays o w)) ≡ tablesFit (blocks (o .cutting)) (o .entries Face) (o .entries Curve) (o .entries Point) (sizesOf t w)
-  unfolding blockTrays linkTrays totalTrays tablesFit
-  fitting-is =
-      ap (λ (b : Bool). b && lengthsFit (totalTrays o w)) joiner-fitting ∙
-      and-last (lengthsFit (blockTrays o t)) (lengthsFit (linkTrays o t)) kinds-fit (lengthsFit (totalTrays o w))
-
-  pub refusal-is : openingRefusal o t w ≡ refusalOf o (sizesOf t w)
+  pub refusal-is : openingRefusal o t w ≡ refusalOf o (lengthsOf t) (length (w .came)) (length (w .sums)) (length (w .counts))
   unfolding openingRefusal openingDeclines givenBy first table number standsIn refusalOf
   refusal-is = rw fitting-is
 
@@ -95,9 +50,9 @@ module _ (k : Cutting) (s : Bool) (f : s ≡ goodCut k) (q : not s ≡ false) wh
   few-blocks b e = rw (e, blocks-are k) few
 
 -- what `tables_fit` answers, told the number of blocks
-pub fitting-of : (k : Cutting) (faces curves points : ℕ) (z : Sizes) (u : Bool) (b : ℕ) → b ≡ blocks k → u ≡ tablesFit b faces curves points z
-    → u ≡ tablesFit (blocks k) faces curves points z
-fitting-of k faces curves points z u b e h = rw (← e) h
+pub fitting-of : (k : Cutting) (n : Kind → ℕ) (z : Lengths) (came sums counts : ℕ) (u : Bool) (b : ℕ) → b ≡ blocks k → u ≡ tablesFit b n z came sums counts
+    → u ≡ tablesFit (blocks k) n z came sums counts
+fitting-of k n z came sums counts u b e h = rw (← e) h
 
 -- ---- the ways of `open`
 
@@ -123,7 +78,7 @@ all-cleared came sums counts came′ sums′ counts′ e f g = rw (e, f, g)
 
 module _ (nx ny nz : ℕ) (cx cy cz : List ℕ) (faces curves points : ℕ) (t : Tables) (w : TotalTables) (j : Job) (n : ℕ)
     (e : j ≡ freshJob nx ny nz faces curves points)
-    (h : n ≡ refusalOf (toldOf j cx cy cz) (sizesOf t w)) where
+    (h : n ≡ refusalOf (toldOf j cx cy cz) (lengthsOf t) (length (w .came)) (length (w .sums)) (length (w .counts))) where
   refusal-told : n ≡ openingRefusal (toldBy nx ny nz cx cy cz faces curves points) t w
   refusal-told = rw (refusal-is (toldBy nx ny nz cx cy cz faces curves points) t w) (rw e at h)
 

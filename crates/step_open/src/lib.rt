@@ -3,12 +3,13 @@ use blocks::block_count;
 use blocks::good_cut;
 use extents::off_size;
 use job::Job;
-use job::block_trays;
 use job::empty;
 use job::fresh;
-use job::kind_trays;
-use job::link_trays;
 use job::total_trays;
+use judge::CallName;
+use judge::KindLengths;
+use judge::Lengths;
+use judge::lent_fits;
 use refusals::BAD_CUT;
 use refusals::OFF_SIZE;
 use refusals::WRONG_TRAY;
@@ -20,9 +21,10 @@ ghost use Prim.Native.Nat.{_≤_};
 ghost use lib.ListN.{length};
 ghost use Rattle.lists.specs.Lists.{zeros};
 ghost use Rattle.job.specs.Jobs.{toldBy, toldOf, tablesOf, stateOf, NoJob};
+ghost use Rattle.judge.specs.Judge.{entriesOf};
 ghost use Rattle.strain_calls.specs.Tables.{totalTables, zeroed};
 ghost use Rattle.strain_calls.specs.Entries.{TotalsOpening};
-ghost use Rattle.step_open.specs.Inner.{kindsFit, tablesFit, refusalOf, accepted};
+ghost use Rattle.step_open.specs.Inner.{tablesFit, refusalOf, accepted};
 
 // What an opening answers: the number of its refusal, 0 for none, and the job.
 pub struct Opened {
@@ -30,100 +32,36 @@ pub struct Opened {
     pub job: Job,
 }
 
-// The lengths of the tables.
-struct Sizes {
-    ticks: usize,
+// Whether every table has the stated length, those of the readings too.
+fn tables_fit(
     blocks: usize,
-    face_links: usize,
-    curve_links: usize,
-    face_keys: usize,
-    curve_keys: usize,
-    point_keys: usize,
-    face_rows: usize,
-    curve_rows: usize,
-    point_rows: usize,
-    face_numbers: usize,
-    curve_numbers: usize,
-    point_numbers: usize,
-    face_firsts: usize,
-    curve_firsts: usize,
-    point_firsts: usize,
-    face_listed: usize,
-    curve_listed: usize,
-    point_listed: usize,
+    job: Job,
+    lengths: Lengths,
     came: usize,
-    face_sums: usize,
-    face_counts: usize,
-}
-
-// Whether the tables of each kind have the lengths that their entries state.
-fn kinds_fit(job: Job, sizes: Sizes) -> bool
-    ensures { λ r. ⌜ r ≡ kindsFit (job .«face_entries») (job .«curve_entries») (job .«point_entries») sizes ⌝ }
-{
-    if !kind_trays(
-        2,
-        job.face_entries,
-        sizes.face_keys,
-        sizes.face_rows,
-        sizes.face_numbers,
-        sizes.face_firsts,
-        sizes.face_listed,
-    ) {
-        return false;
-    }
-    if !kind_trays(
-        4,
-        job.curve_entries,
-        sizes.curve_keys,
-        sizes.curve_rows,
-        sizes.curve_numbers,
-        sizes.curve_firsts,
-        sizes.curve_listed,
-    ) {
-        return false;
-    }
-    kind_trays(
-        6,
-        job.point_entries,
-        sizes.point_keys,
-        sizes.point_rows,
-        sizes.point_numbers,
-        sizes.point_firsts,
-        sizes.point_listed,
-    )
-}
-
-// Whether every table has the stated length.
-fn tables_fit(blocks: usize, job: Job, sizes: Sizes) -> bool
+    sums: usize,
+    counts: usize,
+) -> bool
     requires { ⌜ blocks ≤ 16384 ⌝ }
-    ensures { λ r. ⌜ r ≡ tablesFit blocks (job .«face_entries») (job .«curve_entries») (job .«point_entries») sizes ⌝ }
+    ensures { λ r. ⌜ r ≡ tablesFit blocks (entriesOf job) lengths came sums counts ⌝ }
 {
-    if !block_trays(blocks, sizes.ticks, sizes.blocks) {
+    if !lent_fits(CallName::Open, blocks, job, lengths) {
         return false;
     }
-    if !link_trays(
-        job.face_entries,
-        job.curve_entries,
-        sizes.face_links,
-        sizes.curve_links,
-    ) {
-        return false;
-    }
-    if !kinds_fit(job, sizes) {
-        return false;
-    }
-    total_trays(
-        blocks,
-        job.face_entries,
-        sizes.came,
-        sizes.face_sums,
-        sizes.face_counts,
-    )
+    total_trays(blocks, job.face_entries, came, sums, counts)
 }
 
 // The number of the refusal of an opening that would make this job, the lowest that applies, and 0 for none.
-fn refusal(job: Job, cx: &[u32], cy: &[u32], cz: &[u32], sizes: Sizes) -> u32
-    ensures { λ r. ⌜ r ≡ refusalOf (toldOf job (now (cx .entry)) (now (cy .entry)) (now (cz .entry))) sizes ⌝ }
+fn refusal(
+    job: Job,
+    cx: &[u32],
+    cy: &[u32],
+    cz: &[u32],
+    lengths: Lengths,
+    came: usize,
+    sums: usize,
+    counts: usize,
+) -> u32
+    ensures { λ r. ⌜ r ≡ refusalOf (toldOf job (now (cx .entry)) (now (cy .entry)) (now (cz .entry))) lengths came sums counts ⌝ }
 {
     if off_size(1024, job.nx as usize, job.ny as usize, job.nz as usize) {
         return OFF_SIZE;
@@ -132,7 +70,7 @@ fn refusal(job: Job, cx: &[u32], cy: &[u32], cz: &[u32], sizes: Sizes) -> u32
         return BAD_CUT;
     }
     let blocks = block_count(cx, cy, cz);
-    if !tables_fit(blocks, job, sizes) {
+    if !tables_fit(blocks, job, lengths, came, sums, counts) {
         return WRONG_TRAY;
     }
     0
@@ -220,32 +158,51 @@ pub fn open(
         (now («face_listed» .entry)) (now («curve_listed» .entry)) (now («point_listed» .entry))))
         (totalTables (now (came .exit)) (now («face_sums» .exit)) (now («face_counts» .exit))) ⌝ }
 {
-    let sizes = Sizes {
+    let lengths = Lengths {
         ticks: ticks.len(),
         blocks: blocks.len(),
-        face_links: face_links.len(),
-        curve_links: curve_links.len(),
-        face_keys: face_keys.len(),
-        curve_keys: curve_keys.len(),
-        point_keys: point_keys.len(),
-        face_rows: face_rows.len(),
-        curve_rows: curve_rows.len(),
-        point_rows: point_rows.len(),
-        face_numbers: face_numbers.len(),
-        curve_numbers: curve_numbers.len(),
-        point_numbers: point_numbers.len(),
-        face_firsts: face_firsts.len(),
-        curve_firsts: curve_firsts.len(),
-        point_firsts: point_firsts.len(),
-        face_listed: face_listed.len(),
-        curve_listed: curve_listed.len(),
-        point_listed: point_listed.len(),
-        came: came.len(),
-        face_sums: face_sums.len(),
-        face_counts: face_counts.len(),
+        links: KindLengths {
+            faces: face_links.len(),
+            curves: curve_links.len(),
+            points: 0,
+        },
+        keys: KindLengths {
+            faces: face_keys.len(),
+            curves: curve_keys.len(),
+            points: point_keys.len(),
+        },
+        rows: KindLengths {
+            faces: face_rows.len(),
+            curves: curve_rows.len(),
+            points: point_rows.len(),
+        },
+        numbers: KindLengths {
+            faces: face_numbers.len(),
+            curves: curve_numbers.len(),
+            points: point_numbers.len(),
+        },
+        firsts: KindLengths {
+            faces: face_firsts.len(),
+            curves: curve_firsts.len(),
+            points: point_firsts.len(),
+        },
+        listed: KindLengths {
+            faces: face_listed.len(),
+            curves: curve_listed.len(),
+            points: point_listed.len(),
+        },
     };
     let job = fresh(nx, ny, nz, face_entries, curve_entries, point_entries);
-    let number = refusal(job, cx, cy, cz, sizes);
+    let number = refusal(
+        job,
+        cx,
+        cy,
+        cz,
+        lengths,
+        came.len(),
+        face_sums.len(),
+        face_counts.len(),
+    );
     if number != 0 {
         return refuse(number);
     }

@@ -11,8 +11,8 @@ block-trays-requires c κs = search needs
 entry-tray-requires : tie.Need-entry-tray-requires
 entry-tray-requires c κs = search needs
 
-kind-trays-requires : tie.Need-kind-trays-requires
-kind-trays-requires c κs = search needs
+points-fit-requires : tie.Need-points-fit-requires
+points-fit-requires c κs = search needs
 
 both-requires : tie.Need-both-requires
 both-requires c κs = search needs
@@ -21,7 +21,7 @@ both-requires-2 : tie.Need-both-requires-2
 both-requires-2 c κs = search needs
 
 returns : tie.Need-returns
-returns c = fits-join _ _ _ _ _ (c .both2 .ensures) (c .before .before .before .before .block-trays .ensures) (fits-join _ _ _ _ _ (c .before .both .ensures) (c .before .before .before .entry-tray .ensures) (c .before .before .kind-trays .ensures))
+returns c = fits-join _ _ _ _ _ (c .both2 .ensures) (c .before .before .before .before .block-trays .ensures) (fits-join _ _ _ _ _ (c .before .both .ensures) (c .before .before .before .entry-tray .ensures) (c .before .before .points-fit .ensures))
 
 pub points-lent-spec : {M : Type 1} → statement M
 points-lent-spec =
@@ -29,7 +29,7 @@ points-lent-spec =
     (tie.spec
     block-trays-requires
     entry-tray-requires
-    kind-trays-requires
+    points-fit-requires
     both-requires
     both-requires-2
     returns)

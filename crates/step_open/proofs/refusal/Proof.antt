@@ -44,7 +44,7 @@ returns-3 c =
     let back4 = c .before .before .before .before in
     cond-next _ _ _ _ _ (back4 .before .before .off-size .ensures) (back4 .before .if1 .left)
     (cond-not-next _ _ _ _ _ (c .before .before .before .before .good-cut .ensures) (c .before .before .before .if2 .left)
-    (cond-not-here _ _ _ _ _ (fitting-of _ _ _ _ _ _ _ (c .before .before .block-count .ensures _ _ _) (c .before .tables-fit .ensures)) (c .if3 .taken) refl))
+    (cond-not-here _ _ _ _ _ (fitting-of _ _ _ _ _ _ _ _ (c .before .before .block-count .ensures _ _ _) (c .before .tables-fit .ensures)) (c .if3 .taken) refl))
 
 returns-4 : tie.Need-returns-4
 unfolding refusalOf
@@ -52,7 +52,7 @@ returns-4 c =
     let back4 = c .before .before .before .before in
     cond-next _ _ _ _ _ (back4 .before .before .off-size .ensures) (back4 .before .if1 .left)
     (cond-not-next _ _ _ _ _ (c .before .before .before .before .good-cut .ensures) (c .before .before .before .if2 .left)
-    (cond-not-next _ _ _ _ _ (fitting-of _ _ _ _ _ _ _ (c .before .before .block-count .ensures _ _ _) (c .before .tables-fit .ensures)) (c .if3 .left) refl))
+    (cond-not-next _ _ _ _ _ (fitting-of _ _ _ _ _ _ _ _ (c .before .before .block-count .ensures _ _ _) (c .before .tables-fit .ensures)) (c .if3 .left) refl))
 
 pub refusal-spec : {M : Type 1} → statement M
 refusal-spec =

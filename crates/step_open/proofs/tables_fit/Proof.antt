@@ -1,47 +1,26 @@
 -- `step_open::tables_fit` meets its contract.
 use borrow.Author.Needs.{needs}
-use Rattle.job.proofs.JobLaws.{and-here, and-next}
 use Rattle.step_open.specs.Inner.{tablesFit}
+use Rattle.job.proofs.JobLaws.{and-here, and-next}
 use Rattle.step_open.proofs.tables_fit.Statement.{statement}
 use Rattle.step_open.proofs.tables_fit.Tie as tie
+use Rattle.step_open.proofs.tables_fit.Lts as lts
 
-block-trays-requires : tie.Need-block-trays-requires
-block-trays-requires c κs = search needs
+lent-fits-requires : tie.Need-lent-fits-requires
+lent-fits-requires c κs = search needs
 
 returns : tie.Need-returns
 unfolding tablesFit
-returns c = search (and-here, and-next) depth 10
-
-link-trays-requires : tie.Need-link-trays-requires
-link-trays-requires c κs = search needs
-
-returns-2 : tie.Need-returns-2
-unfolding tablesFit
-returns-2 c = search (and-here, and-next) depth 10
-
-kinds-fit-requires : tie.Need-kinds-fit-requires
-kinds-fit-requires c κs = search needs
-
-returns-3 : tie.Need-returns-3
-unfolding tablesFit
-returns-3 c = search (and-here, and-next) depth 10
+returns c =
+    search (and-here, and-next) depth 10
 
 total-trays-requires : tie.Need-total-trays-requires
 total-trays-requires c κs = search needs
 
-returns-4 : tie.Need-returns-4
+returns-2 : tie.Need-returns-2
 unfolding tablesFit
-returns-4 c = search and-next depth 10
+returns-2 c =
+    search and-next depth 10
 
 pub tables-fit-spec : {M : Type 1} → statement M
-tables-fit-spec =
-    tie.close
-    (tie.spec
-    block-trays-requires
-    returns
-    link-trays-requires
-    returns-2
-    kinds-fit-requires
-    returns-3
-    total-trays-requires
-    returns-4)
+tables-fit-spec = tie.close (tie.spec lent-fits-requires returns total-trays-requires returns-2)
