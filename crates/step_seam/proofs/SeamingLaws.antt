@@ -40,8 +40,9 @@ module _ (low high : Block) (axis : ℕ) (m n : List ℕ) (s : Shared) (S : Shar
       e ∙ seam-differs k (z .good) b c (z .is-seam) axis (s .columns) (s .rows) (z .number) m (s .lower) n (s .upper)
       (rw (z .tells-low .size) at (S .last)) (rw (z .tells-high .size) at (S .first)) (rw (z .tells-low .size) at (S .wide)) (rw (z .tells-low .size) at (S .deep))
 
--- ---- the ladder of refusals
+-- ---- what is required
 
+-- the blocks of a seam
 module _ (k : Cutting) (b c : ℕ) (good : goodCut k ≡ true) (is-seam : seam k b c ≡ true) where
   pub lower-sized : (low : Block) → Tells k b low → Sized 64 (sizeOf low)
   lower-sized = block-sized k good b (seam-listed k b c is-seam .0)
@@ -49,8 +50,7 @@ module _ (k : Cutting) (b c : ℕ) (good : goodCut k ≡ true) (is-seam : seam k
   pub upper-sized : (high : Block) → Tells k c high → Sized 64 (sizeOf high)
   upper-sized = block-sized k good c (seam-listed k b c is-seam .1)
 
--- ---- the lengths
-
+-- maps of the stated lengths
 module _ (count : ℕ) (e f : Triple) (entries : Kind → ℕ) (z : Lengths) (lower upper : ℕ) (u : Bool) (h : u ≡ fitsBoth count e f entries z lower upper) (v : u ≡ true) where
   fit-both : (fitsIn CallName.Seam count e entries z lower && eqb upper (cells f)) ≡ true
   unfolding fitsBoth
@@ -63,13 +63,12 @@ module _ (count : ℕ) (e f : Triple) (entries : Kind → ℕ) (z : Lengths) (lo
   pub upper-cells : upper ≡ cells f
   upper-cells = eqb-true upper (cells f) (and-second (fitsIn CallName.Seam count e entries z lower) (eqb upper (cells f)) fit-both)
 
+-- the judge has passed the lengths
 pub judged-fits : (j : Job) (e : Triple) (d : Entry) (u : Bool) (m : List ℕ) (x : ℕ) → anyCuts (λ cx cy cz. x ≡ mapJudged (jobOf j cx cy cz) e d u m) → x ≡ 0 → u ≡ true
 unfolding mapJudged
 judged-fits j e d u m x l z =
     let stands : ℕ = cond (not (talliesFit (jobOf j [] [] []) && mapStandsIn e d (j .«face_entries») (j .«curve_entries») m)) 8 0 in
     six-none u (or-none (cond (not u) 6 0) stands (sym (or-six u stands) ∙ sym (l [] [] []) ∙ z) .0)
-
--- ---- what `rest` requires
 
 -- r is what the first tests tell, t whether the blocks are a seam
 pub seam-passed : (j : Job) (cx cy cz : List ℕ) (b c r : ℕ) → r ≡ openedOf (jobOf j cx cy cz) Seam → r ≡ 0 → (t : Bool) → anyExtents cx cy cz (λ k. t ≡ seam k b c) → not t ≡ false

@@ -20,8 +20,7 @@ block-count-requires c κs =
 
 trays-fit-requires : tie.Need-trays-fit-requires
 trays-fit-requires c κs =
-    let told = c in
-    let at0 = told .before .before .before .before in
+    let at0 = c .before .before .before .before in
     let at1 = at0 .before .before .before .before in
     let p = at1 .before .before .before .before .pre in
     (count-few _ (p .0) _ (c .block-count .ensures _ _ _), lower-sized _ _ _ (p .0) (p .1) _ (c .before .before .block-at .ensures _ _ _), upper-sized _ _ _ (p .0) (p .1) _ (c .before .block-at2 .ensures _ _ _))
