@@ -21,8 +21,8 @@ use mathlib.Core.List.{List, [], _∷_}
 use Rattle.closure.specs.Joined.{edge}
 use Rattle.cells.specs.Box.{triple}
 use Rattle.joiner.specs.Job.{Closed}
-use Rattle.model.specs.Jobs.{told}
-use Rattle.samples.specs.Answers.{Sample, Job}
+use Rattle.theory_model.specs.Jobs.{told}
+use Rattle.theory_samples.specs.Answers.{Sample, Job}
 ";
 
 /// A list as the theory writes it.
@@ -143,6 +143,6 @@ pub fn printed(seed: u64) -> String {
 
 #[test]
 fn the_theory() {
-    let file = concat!(env!("CARGO_MANIFEST_DIR"), "/../crates/samples/specs/Samples.antt");
+    let file = concat!(env!("CARGO_MANIFEST_DIR"), "/../crates/theory_samples/specs/Samples.antt");
     assert_eq!(std::fs::read_to_string(file).unwrap(), printed(1));
 }

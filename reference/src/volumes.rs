@@ -161,6 +161,6 @@ fn trial() -> String {
 
 #[test]
 fn the_test_program() {
-    let file = concat!(env!("CARGO_MANIFEST_DIR"), "/../crates/volumes_test/stdout");
+    let file = concat!(env!("CARGO_MANIFEST_DIR"), "/../crates/program_volumes/stdout");
     assert_eq!(std::fs::read_to_string(file).unwrap(), trial());
 }

@@ -1,26 +1,24 @@
 -- The tests by lengths are the joiner's, and what an accepted seam step leaves is what the joiner asks for.
 -- Assumes nothing.
-use mathlib.Core.Path.{_≡_, refl, sym, ap, _∙_, subst}
-use mathlib.Core.Bool.{Bool, true, false, not, cond, _&&_}
+use mathlib.Core.Path.{_≡_, refl, ap}
+use mathlib.Core.Bool.{true}
 use mathlib.Core.List.{List, []}
 use Prim.Native.Nat.{ℕ, _+_, _-_, _*_, _≤_, _<_}
 use native.Mathlib.Nat.{le-refl}
 use native.Mathlib.Omega.{arith}
-use lib.ListN.{length, set}
-use borrow.Author.Tests.{le-ltb}
-use Rattle.lists.proofs.Cases.{by-test, and-first, and-second}
-use Rattle.refusals.specs.Refusals.{number, table, first, givenBy, standsIn}
+use lib.ListN.{length}
+use Rattle.lists.proofs.Cases.{and-first, and-second}
+use Rattle.refusals.specs.Refusals.{first}
 use Rattle.closure.specs.Joined.{joins}
 use Rattle.union_find.specs.Links.{root, Rooted}
-use Rattle.cells.specs.Box.{Triple}
 use Rattle.cells.specs.Extents.{Sized}
 use Rattle.labels.specs.Components.{largest}
 use Rattle.labels.proofs.CountLaws.{largest-bound}
 use Rattle.cutting.specs.Cutting.{Cutting, intervals, blocks, blockExtents}
-use Rattle.joiner.specs.Job.{Kind, Face, Curve, Point, State, orderOf, countOf, fromOf, lengthsFit, blockTrays, linkTrays, ticked}
-use Rattle.joiner.specs.Stages.{seamAxis, seamStep, nextAfter}
-use Rattle.joiner.specs.Calls.{join, answer, layersDiffer, mapsFit, full, overfull}
-use Rattle.joiner.specs.Declines.{adds, counted, declines, lentTo, mapStands, refusal, standing, standsFor, stray, talliesFit}
+use Rattle.joiner.specs.Job.{Kind, Face, Curve, Point, State, orderOf, fromOf, blockTrays, linkTrays}
+use Rattle.joiner.specs.Stages.{seamAxis, seamStep}
+use Rattle.joiner.specs.Calls.{join, answer}
+use Rattle.joiner.specs.Declines.{adds, lentTo, mapStands, refusal}
 use Rattle.joiner.specs.Entries.{SeamDone, CallStep, Merged, AtSeam}
 use Rattle.joiner.proofs.Shared.{seam-listed}
 use Rattle.joiner.proofs.SeamSteps.{axis-bound}
@@ -30,15 +28,14 @@ use Rattle.pass_seam.proofs.SeamWalks.{seam-joined}
 use Rattle.blocks.specs.Blocks.{Tells, sizeOf}
 use Rattle.blocks.specs.declared.Block.{Block}
 use Rattle.job.specs.declared.Job.{Job}
-use Rattle.job.specs.Jobs.{byKind, toldOf, jobOf, stateOf}
-use Rattle.job.proofs.JobLaws.{fits-append}
-use Rattle.stages.specs.Ticks.{tickedIn}
+use Rattle.job.specs.Jobs.{byKind, toldOf, stateOf}
 use Rattle.judge.specs.declared.Entry.{Entry}
-use Rattle.judge.specs.Judge.{entryOf, placedOf, lateOf, Advanced}
-use Rattle.judge.proofs.JudgeLaws.{refusal-opened, late-none, few-of, block-sized, stands-is, links-is, ticked-by, numbered-kept, step-refused, step-accepted}
+use Rattle.judge.specs.Judge.{entryOf, Advanced}
+use Rattle.judge.proofs.JudgeLaws.{few-of, ticked-by, numbered-kept, step-refused, step-accepted}
 use Rattle.step_seam.specs.declared.Joined.{Joined}
 use Rattle.step_seam.specs.declared.Shared.{Shared}
-use Rattle.step_seam.specs.Inner.{lent, sizesOf, mapsFitIn, traysFit, standIn, laterRefusal, refusalOf, Ready, SharedBy, Linked}
+use Rattle.step_seam.specs.Inner.{lent, SharedBy, Linked}
+use Rattle.step_seam.proofs.SeamingLaws.{lower-sized, upper-sized}
 
 module _ (j : Job) (cx cy cz ticks blocks′ faces curves : List ℕ) (b c : ℕ) (m n : List ℕ) where
   abbrev pub k : Cutting
@@ -47,46 +44,26 @@ module _ (j : Job) (cx cy cz ticks blocks′ faces curves : List ℕ) (b c : ℕ
   abbrev pub before : State
   before = stateOf j cx cy cz (lent ticks blocks′ faces curves)
 
-  -- ---- the tests by lengths are the joiner's
-
-  trays-is : (mapsFit k (join b c m n) && lengthsFit (lentTo (before .job .told) (before .tables) (join b c m n)))
-      ≡ traysFit (blocks k) (blockExtents k b) (blockExtents k c) (j .«face_entries») (j .«curve_entries») (sizesOf ticks blocks′ faces curves m n)
-  unfolding blockTrays linkTrays traysFit mapsFitIn
-  trays-is = ap (λ (x : Bool). mapsFit k (join b c m n) && x) (fits-append (blockTrays (before .job .told) (before .tables)) (linkTrays (before .job .told) (before .tables)))
-
-  stands-both : (talliesFit (before .job) && standsFor before (join b c m n))
-      ≡ standIn (talliesFit (jobOf j cx cy cz)) (blockExtents k b) (blockExtents k c) (entryOf blocks′ b) (entryOf blocks′ c) (j .«face_entries») (j .«curve_entries») m n faces curves
-  unfolding standIn
-  stands-both = rw (stands-is before (blockExtents k b) b m, stands-is before (blockExtents k c) c n, links-is before b, links-is before c)
-
-  none-added : (κ : Kind) → adds before (join b c m n) κ ≡ 0
-  unfolding adds
-  none-added κ = refl
-
   adds-none : (κ : Kind) → adds before (join b c m n) κ ≡ byKind 0 0 0 κ
   unfolding adds
   adds-none Face = refl
   adds-none Curve = refl
   adds-none Point = refl
 
-  pub refusal-is : refusal before (join b c m n) ≡ refusalOf j cx cy cz ticks (sizesOf ticks blocks′ faces curves m n) blocks′ faces curves b c m n
-  unfolding refusalOf laterRefusal placedOf lateOf ticked tickedIn seamStep
-  refusal-is = refusal-opened before (join b c m n) refl ∙ rw (← trays-is, ← stands-both, ← late-none before (join b c m n) none-added (layersDiffer k (join b c m n)))
-
   -- ---- what an accepted step has passed
 
-  module _ (acc : Ready j cx cy cz ticks blocks′ faces curves b c m n) where
+  module _ (acc : refusal before (join b c m n) ≡ 0) where
     call-facts : Passed before (join b c m n)
-    call-facts = passed before (join b c m n) (refusal-is ∙ acc .none)
+    call-facts = passed before (join b c m n) acc
 
     pub seam-few : intervals cx * intervals cy * intervals cz ≤ 16384
     seam-few = few-of k (call-facts .cut)
 
     pub low-sized : (r : Block) → Tells k b r → Sized 64 (sizeOf r)
-    low-sized = block-sized k (call-facts .cut) b (seam-listed k b c (call-facts .placed-in) .0)
+    low-sized = lower-sized k b c (call-facts .cut) (call-facts .placed-in)
 
     pub high-sized : (r : Block) → Tells k c r → Sized 64 (sizeOf r)
-    high-sized = block-sized k (call-facts .cut) c (seam-listed k b c (call-facts .placed-in) .1)
+    high-sized = upper-sized k b c (call-facts .cut) (call-facts .placed-in)
 
     pub step-in : (axis step : ℕ) → axis ≡ seamAxis k b c → step ≡ 6 * b + axis → step < length ticks
     unfolding blockTrays
@@ -157,16 +134,10 @@ module _ (j : Job) (cx cy cz ticks blocks′ faces curves : List ℕ) (b c : ℕ
 
   -- ---- the entry
 
-  module _ (number′ : ℕ) (e : number′ ≡ refusalOf j cx cy cz ticks (sizesOf ticks blocks′ faces curves m n) blocks′ faces curves b c m n) where
-    told-number : number′ ≡ refusal before (join b c m n)
-    told-number = e ∙ sym refusal-is
-
+  module _ (number′ : ℕ) (e : number′ ≡ refusal before (join b c m n)) where
     pub seam-refused : (number′ ≡ 0 → ⊥) → CallStep before (join b c m n) (answer number′ 0 []) before
-    seam-refused = step-refused before (join b c m n) number′ told-number
-
-    pub ready : number′ ≡ 0 → Ready j cx cy cz ticks blocks′ faces curves b c m n
-    ready z = record { none = sym e ∙ z }
+    seam-refused = step-refused before (join b c m n) number′ e
 
     pub seam-accepted : number′ ≡ 0 → (r : Joined) (t : State) → (r .refusal ≡ 0) × SeamDone before b c m n t → CallStep before (join b c m n) (answer (r .refusal) 0 []) t
     seam-accepted z r t u =
-        step-accepted before (join b c m n) number′ told-number z (answer (r .refusal) 0 []) t (u .0) (ap (λ (x : ℕ). answer x 0 []) (u .0), u .1)
+        step-accepted before (join b c m n) number′ e z (answer (r .refusal) 0 []) t (u .0) (ap (λ (x : ℕ). answer x 0 []) (u .0), u .1)

@@ -1,59 +1,36 @@
 -- The ways of the functions of a seam step, over plain lists and numbers.
 -- Assumes nothing.
 use mathlib.Core.Path.{_≡_, refl, sym, _∙_}
-use mathlib.Core.Bool.{Bool, true, false, not, _&&_}
-use mathlib.Core.List.{List}
+use mathlib.Core.Bool.{Bool, true, false, not, cond, _&&_}
+use mathlib.Core.List.{List, []}
 use Prim.Native.Nat.{ℕ, _+_, _*_}
 use lib.Dec.{eqb}
+use lib.ListN.{length}
 use borrow.Author.Tests.{not-true, not-false, eqb-true}
 use Rattle.lists.proofs.Cases.{and-first, and-second}
 use Rattle.cells.specs.Box.{Triple}
 use Rattle.cells.specs.Extents.{Sized}
 use Rattle.cells.specs.Grid.{cells}
 use Rattle.cutting.specs.Cutting.{Cutting, blocks, blockExtents, goodCut, seam}
-use Rattle.joiner.specs.Calls.{join, layersDiffer}
-use Rattle.joiner.specs.Job.{Seam}
-use Rattle.joiner.specs.Stages.{seamAxis}
+use Rattle.joiner.specs.Job.{Kind, Seam, State, ticked, lengthsFit}
+use Rattle.joiner.specs.Stages.{seamAxis, seamStep}
+use Rattle.joiner.specs.Calls.{Call, join, layersDiffer}
+use Rattle.joiner.specs.Declines.{adds, refusal, talliesFit}
 use Rattle.joiner.proofs.Shared.{seam-listed}
 use Rattle.pass_seam.specs.Walks.{layersDifferTo}
 use Rattle.pass_seam.proofs.SeamWalks.{seam-differs}
 use Rattle.blocks.specs.Blocks.{Tells, sizeOf, anyExtents}
 use Rattle.blocks.specs.declared.Block.{Block}
 use Rattle.job.specs.declared.Job.{Job}
-use Rattle.job.specs.Jobs.{jobOf, toldOf}
+use Rattle.job.specs.Jobs.{anyCuts, jobOf, toldOf, stateOf}
 use Rattle.stages.specs.Ticks.{tickedIn}
+use Rattle.judge.specs.declared.CallName.{CallName}
 use Rattle.judge.specs.declared.Entry.{Entry}
-use Rattle.judge.specs.Judge.{openedOf, entryOf, mapStandsIn, linksStandIn}
-use Rattle.judge.proofs.JudgeLaws.{or-first, or-then, opened-passed, block-sized}
+use Rattle.judge.specs.declared.Lengths.{Lengths}
+use Rattle.judge.specs.Judge.{firstRefusal, entriesOf, lengthsOf, lentBy, openedOf, placedOf, lateOf, entryOf, fitsIn, mapJudged, mapStandsIn}
+use Rattle.judge.proofs.JudgeLaws.{or-first, or-then, or-none, or-six, six-none, refusal-opened, late-none, opened-passed, block-sized, stands-is, links-is, lent-is}
 use Rattle.step_seam.specs.declared.Shared.{Shared}
-use Rattle.step_seam.specs.declared.Sizes.{Sizes}
-use Rattle.step_seam.specs.Inner.{standIn, traysFit, mapsFitIn, laterRefusal, refusalOf, anySeam, SharedBy}
-
--- ---- the tests of the maps
-
-module _ (e f : Triple) (d g : Entry) (faces curves : ℕ) (m n fs cs : List ℕ) (t u : Bool) (h : t ≡ u) where
-  pub stand-none : not t ≡ true → false ≡ standIn u e f d g faces curves m n fs cs
-  unfolding standIn
-  stand-none p = rw (sym h ∙ not-true t p)
-
-  module _ (q : not t ≡ false) (v : Bool) (i : v ≡ mapStandsIn e d faces curves m) where
-    pub stand-one : not v ≡ true → false ≡ standIn u e f d g faces curves m n fs cs
-    unfolding standIn
-    stand-one p = rw (sym h ∙ not-false t q, sym i ∙ not-true v p)
-
-    module _ (p : not v ≡ false) (w : Bool) (j : w ≡ mapStandsIn f g faces curves n) where
-      pub stand-two : not w ≡ true → false ≡ standIn u e f d g faces curves m n fs cs
-      unfolding standIn
-      stand-two o = rw (sym h ∙ not-false t q, sym i ∙ not-false v p, sym j ∙ not-true w o)
-
-      module _ (o : not w ≡ false) (x : Bool) (k : x ≡ linksStandIn d fs cs) where
-        pub stand-three : not x ≡ true → false ≡ standIn u e f d g faces curves m n fs cs
-        unfolding standIn
-        stand-three l = rw (sym h ∙ not-false t q, sym i ∙ not-false v p, sym j ∙ not-false w o, sym k ∙ not-true x l)
-
-        pub stand-all : not x ≡ false → (y : Bool) → y ≡ linksStandIn g fs cs → y ≡ standIn u e f d g faces curves m n fs cs
-        unfolding standIn
-        stand-all l y z = rw (sym h ∙ not-false t q, sym i ∙ not-false v p, sym j ∙ not-false w o, sym k ∙ not-false x l) z
+use Rattle.step_seam.specs.Inner.{lent, fitsBoth, upperStands, anySeam, SharedBy}
 
 -- ---- the layer
 
@@ -63,8 +40,9 @@ module _ (low high : Block) (axis : ℕ) (m n : List ℕ) (s : Shared) (S : Shar
       e ∙ seam-differs k (z .good) b c (z .is-seam) axis (s .columns) (s .rows) (z .number) m (s .lower) n (s .upper)
       (rw (z .tells-low .size) at (S .last)) (rw (z .tells-high .size) at (S .first)) (rw (z .tells-low .size) at (S .wide)) (rw (z .tells-low .size) at (S .deep))
 
--- ---- the ladder of refusals
+-- ---- what is required
 
+-- the blocks of a seam
 module _ (k : Cutting) (b c : ℕ) (good : goodCut k ≡ true) (is-seam : seam k b c ≡ true) where
   pub lower-sized : (low : Block) → Tells k b low → Sized 64 (sizeOf low)
   lower-sized = block-sized k good b (seam-listed k b c is-seam .0)
@@ -72,62 +50,137 @@ module _ (k : Cutting) (b c : ℕ) (good : goodCut k ≡ true) (is-seam : seam k
   pub upper-sized : (high : Block) → Tells k c high → Sized 64 (sizeOf high)
   upper-sized = block-sized k good c (seam-listed k b c is-seam .1)
 
--- what the tests tell of the blocks
-module _ (k : Cutting) (b c : ℕ) (low high : Block) (A : Tells k b low) (B : Tells k c high) where
-  pub trays-told : (count faces curves : ℕ) (z : Sizes) (u : Bool) → count ≡ blocks k → u ≡ traysFit count (sizeOf low) (sizeOf high) faces curves z
-      → u ≡ traysFit (blocks k) (blockExtents k b) (blockExtents k c) faces curves z
-  trays-told count faces curves z u e h = rw (← e, ← A .size, ← B .size) h
+-- maps of the stated lengths
+module _ (count : ℕ) (e f : Triple) (entries : Kind → ℕ) (z : Lengths) (lower upper : ℕ) (u : Bool) (h : u ≡ fitsBoth count e f entries z lower upper) (v : u ≡ true) where
+  fit-both : (fitsIn CallName.Seam count e entries z lower && eqb upper (cells f)) ≡ true
+  unfolding fitsBoth
+  fit-both = sym h ∙ v
 
-  pub stand-told : (t : Bool) (table : List ℕ) (d g : Entry) (faces curves : ℕ) (m n fs cs : List ℕ) (u : Bool) → d ≡ entryOf table b → g ≡ entryOf table c
-      → u ≡ standIn t (sizeOf low) (sizeOf high) d g faces curves m n fs cs
-      → u ≡ standIn t (blockExtents k b) (blockExtents k c) (entryOf table b) (entryOf table c) faces curves m n fs cs
-  stand-told t table d g faces curves m n fs cs u e f h = rw (← e, ← f, ← A .size, ← B .size) h
+  pub lower-cells : lower ≡ cells e
+  unfolding fitsIn
+  lower-cells = eqb-true lower (cells e) (and-first (eqb lower (cells e)) _ (and-first (fitsIn CallName.Seam count e entries z lower) (eqb upper (cells f)) fit-both))
 
-module _ (e f : Triple) (count faces curves : ℕ) (z : Sizes) (u : Bool) (h : u ≡ traysFit count e f faces curves z) (p : not u ≡ false) where
-  both-fit : mapsFitIn e f z ≡ true
-  unfolding traysFit
-  both-fit = and-first (mapsFitIn e f z) _ (sym h ∙ not-false u p)
+  pub upper-cells : upper ≡ cells f
+  upper-cells = eqb-true upper (cells f) (and-second (fitsIn CallName.Seam count e entries z lower) (eqb upper (cells f)) fit-both)
 
-  pub lower-length : (n : ℕ) → z .lower ≡ n → n ≡ cells e
-  unfolding mapsFitIn
-  lower-length n q = sym q ∙ eqb-true _ _ (and-first (eqb (z .lower) (cells e)) (eqb (z .upper) (cells f)) both-fit)
+-- the judge has passed the lengths
+pub judged-fits : (j : Job) (e : Triple) (d : Entry) (u : Bool) (m : List ℕ) (x : ℕ) → anyCuts (λ cx cy cz. x ≡ mapJudged (jobOf j cx cy cz) e d u m) → x ≡ 0 → u ≡ true
+unfolding mapJudged
+judged-fits j e d u m x l z =
+    let stands : ℕ = cond (not (talliesFit (jobOf j [] [] []) && mapStandsIn e d (j .«face_entries») (j .«curve_entries») m)) 8 0 in
+    six-none u (or-none (cond (not u) 6 0) stands (sym (or-six u stands) ∙ sym (l [] [] []) ∙ z) .0)
 
-  pub upper-length : (n : ℕ) → z .upper ≡ n → n ≡ cells f
-  unfolding mapsFitIn
-  upper-length n q = sym q ∙ eqb-true _ _ (and-second (eqb (z .lower) (cells e)) (eqb (z .upper) (cells f)) both-fit)
+-- r is what the first tests tell, t whether the blocks are a seam
+pub seam-passed : (j : Job) (cx cy cz : List ℕ) (b c r : ℕ) → r ≡ openedOf (jobOf j cx cy cz) Seam → r ≡ 0 → (t : Bool) → anyExtents cx cy cz (λ k. t ≡ seam k b c) → not t ≡ false
+    → (goodCut (toldOf j cx cy cz .cutting) ≡ true) × (seam (toldOf j cx cy cz .cutting) b c ≡ true)
+seam-passed j cx cy cz b c r e q t h p = (opened-passed (jobOf j cx cy cz) Seam (sym e ∙ q) .good, sym (h (j .nx) (j .ny) (j .nz)) ∙ not-false t p)
 
--- the tick of a seam's step
-pub tick-told : (k : Cutting) (ticks : List ℕ) (b c axis step : ℕ) (u : Bool) → axis ≡ seamAxis k b c → step ≡ 6 * b + axis → u ≡ tickedIn ticks step → u ≡ tickedIn ticks (6 * b + seamAxis k b c)
-tick-told k ticks b c axis step u e f h = rw (← e, ← f) h
+-- ---- the ways of `rest`
 
-pub kept-test : (s t : Bool) → s ≡ t → not s ≡ false → t ≡ true
-kept-test s t e p = sym e ∙ not-false s p
+-- 8 decided in two steps, after 6
+in-two : (a b l t p o : Bool) (x : ℕ) → cond (not ((a && b) && l)) 6 (cond (not (t && (p && o))) 8 x) ≡ firstRefusal (cond (not ((a && l) && b)) 6 (cond (not (t && p)) 8 0)) (cond (not o) 8 x)
+unfolding firstRefusal
+in-two false b l t p o x = refl
+in-two true false false t p o x = refl
+in-two true false true t p o x = refl
+in-two true true false t p o x = refl
+in-two true true true false p o x = refl
+in-two true true true true false o x = refl
+in-two true true true true true o x = refl
 
--- the rungs of `refusal`
-module _ (j : Job) (cx cy cz ticks : List ℕ) (z : Sizes) (table fs cs : List ℕ) (b c : ℕ) (m n : List ℕ) (r : ℕ) (e : r ≡ openedOf (jobOf j cx cy cz) Seam) where
-  abbrev Refuses : ℕ → Type 0
-  Refuses x = x ≡ refusalOf j cx cy cz ticks z table fs cs b c m n
+module _ (j : Job) (cx cy cz ticks table faces curves : List ℕ) (b c : ℕ) (m n : List ℕ) where
+  abbrev k : Cutting
+  k = toldOf j cx cy cz .cutting
 
-  pub seam-first : (r ≡ 0 → ⊥) → Refuses r
-  unfolding refusalOf
-  seam-first q = rw (← e) (or-first r _ q)
+  abbrev before : State
+  before = stateOf j cx cy cz (lent ticks table faces curves)
 
-  module _ (q : r ≡ 0) (t : Bool) (h : anyExtents cx cy cz (λ k. t ≡ seam k b c)) where
-    is-seam : t ≡ seam (toldOf j cx cy cz .cutting) b c
-    is-seam = h (j .nx) (j .ny) (j .nz)
+  abbrev call : Call
+  call = join b c m n
 
-    pub seam-4 : not t ≡ true → Refuses 4
-    unfolding refusalOf
-    seam-4 p = rw (← e, sym is-seam ∙ not-true t p) (or-then r _ 4 q refl)
+  none-added : (κ : Kind) → adds before call κ ≡ 0
+  unfolding adds
+  none-added κ = refl
 
-    module _ (p : not t ≡ false) (u : Bool) (i : u ≡ tickedIn ticks (6 * b + seamAxis (toldOf j cx cy cz .cutting) b c)) where
-      pub seam-5 : u ≡ true → Refuses 5
-      unfolding refusalOf
-      seam-5 w = rw (← e, sym is-seam ∙ not-false t p, sym i ∙ w) (or-then r _ 5 q refl)
+  abbrev all-fit : Bool
+  all-fit = fitsBoth (blocks k) (blockExtents k b) (blockExtents k c) (entriesOf j) (lengthsOf (before .tables)) (length m) (length n)
 
-      pub seam-rest : u ≡ false → (x : ℕ) → x ≡ laterRefusal j cx cy cz z table fs cs b c m n → Refuses x
-      unfolding refusalOf
-      seam-rest w x f = rw (← e, sym is-seam ∙ not-false t p, sym i ∙ w) (or-then r _ x q f)
+  abbrev upper-holds : Bool
+  upper-holds = upperStands (blockExtents k c) (entryOf table b) (entryOf table c) (j .«face_entries») (j .«curve_entries») n faces curves
 
-pub seam-passed : (j : Job) (cx cy cz : List ℕ) (r : ℕ) → r ≡ openedOf (jobOf j cx cy cz) Seam → r ≡ 0 → goodCut (toldOf j cx cy cz .cutting) ≡ true
-seam-passed j cx cy cz r e q = opened-passed (jobOf j cx cy cz) Seam (sym e ∙ q) .good
+  late-is : lateOf before call ≡ firstRefusal (mapJudged (jobOf j cx cy cz) (blockExtents k b) (entryOf table b) all-fit m) (cond (not upper-holds) 8 (cond (layersDiffer k call) 9 0))
+  unfolding lateOf mapJudged fitsBoth fitsIn upperStands
+  late-is =
+      rw (
+        late-none before call none-added (layersDiffer k call),
+        lent-is (before .job .told) (before .tables) call,
+        stands-is before (blockExtents k b) b m,
+        stands-is before (blockExtents k c) c n,
+        links-is before b,
+        links-is before c,
+      )
+      (in-two (eqb (length m) (cells (blockExtents k b))) (eqb (length n) (cells (blockExtents k c)))
+      (lengthsFit (lentBy CallName.Seam (blocks k) (entriesOf j) (lengthsOf (before .tables)))) (talliesFit (before .job))
+      (mapStandsIn (blockExtents k b) (entryOf table b) (j .«face_entries») (j .«curve_entries») m) upper-holds (cond (layersDiffer k call) 9 0))
+
+  -- u is what the lengths tell, x what the judge tells of the lower block's map
+  module _ (low high : Block) (A : anyExtents cx cy cz (λ k. Tells k b low)) (B : anyExtents cx cy cz (λ k. Tells k c high)) (count : ℕ)
+      (many : anyExtents cx cy cz (λ k. count ≡ blocks k)) (u : Bool)
+      (f : u ≡ fitsBoth count (sizeOf low) (sizeOf high) (entriesOf j) (lengthsOf (before .tables)) (length m) (length n))
+      (d g : Entry) (d-is : d ≡ entryOf table b) (g-is : g ≡ entryOf table c) (x : ℕ) (l : anyCuts (λ cx cy cz. x ≡ mapJudged (jobOf j cx cy cz) (sizeOf low) d u m)) where
+    abbrev tells-low : Tells k b low
+    tells-low = A (j .nx) (j .ny) (j .nz)
+
+    abbrev tells-high : Tells k c high
+    tells-high = B (j .nx) (j .ny) (j .nz)
+
+    first-is : x ≡ mapJudged (jobOf j cx cy cz) (blockExtents k b) (entryOf table b) all-fit m
+    first-is = rw (← many (j .nx) (j .ny) (j .nz), ← tells-low .size, ← tells-high .size, ← f, ← d-is) (l cx cy cz)
+
+    pub late-first : (x ≡ 0 → ⊥) → x ≡ lateOf before call
+    late-first o = rw (late-is, ← first-is) (or-first x _ o)
+
+    module _ (z : x ≡ 0) (v : Bool) (h : v ≡ upperStands (sizeOf high) d g (j .«face_entries») (j .«curve_entries») n faces curves) where
+      holds-is : v ≡ upper-holds
+      holds-is = rw (← tells-high .size, ← d-is, ← g-is) h
+
+      pub late-8 : not v ≡ true → 8 ≡ lateOf before call
+      late-8 o = rw (late-is, ← first-is, sym holds-is ∙ not-true v o) (or-then x _ 8 z refl)
+
+      module _ (o : not v ≡ false) (axis : ℕ) (good : goodCut k ≡ true) (is-seam : seam k b c ≡ true) (number : axis ≡ seamAxis k b c) (t : Bool)
+          (e : anySeam axis low high (λ k b c. t ≡ layersDiffer k (join b c m n))) where
+        differ-is : t ≡ layersDiffer k call
+        differ-is = e k b c (record { good = good; is-seam = is-seam; number = number; tells-low = tells-low; tells-high = tells-high })
+
+        pub late-9 : t ≡ true → 9 ≡ lateOf before call
+        late-9 p = rw (late-is, ← first-is, sym holds-is ∙ not-false v o, sym differ-is ∙ p) (or-then x _ 9 z refl)
+
+        pub late-0 : t ≡ false → 0 ≡ lateOf before call
+        late-0 p = rw (late-is, ← first-is, sym holds-is ∙ not-false v o, sym differ-is ∙ p) (or-then x _ 0 z refl)
+
+  -- ---- the ways of `refusal`
+
+  module _ (r : ℕ) (e : r ≡ openedOf (jobOf j cx cy cz) Seam) where
+    pub seam-first : (r ≡ 0 → ⊥) → r ≡ refusal before call
+    seam-first q = rw (refusal-opened before call refl, ← e) (or-first r _ q)
+
+    module _ (q : r ≡ 0) (t : Bool) (h : anyExtents cx cy cz (λ k. t ≡ seam k b c)) where
+      is-seam : t ≡ seam k b c
+      is-seam = h (j .nx) (j .ny) (j .nz)
+
+      pub seam-4 : not t ≡ true → 4 ≡ refusal before call
+      unfolding placedOf
+      seam-4 p = rw (refusal-opened before call refl, ← e, sym is-seam ∙ not-true t p) (or-then r _ 4 q refl)
+
+      module _ (p : not t ≡ false) (axis : ℕ) (i : anyExtents cx cy cz (λ k. axis ≡ seamAxis k b c)) (step : ℕ) (f : step ≡ 6 * b + axis) (u : Bool) (g : u ≡ tickedIn ticks step) where
+        is-done : u ≡ ticked (before .tables) (6 * b + seamAxis k b c)
+        unfolding ticked tickedIn
+        is-done = rw (← i (j .nx) (j .ny) (j .nz), ← f) g
+
+        pub seam-5 : u ≡ true → 5 ≡ refusal before call
+        unfolding placedOf seamStep
+        seam-5 w = rw (refusal-opened before call refl, ← e, sym is-seam ∙ not-false t p, sym is-done ∙ w) (or-then r _ 5 q refl)
+
+        pub seam-rest : u ≡ false → (x : ℕ) → x ≡ lateOf before call → x ≡ refusal before call
+        unfolding placedOf seamStep
+        seam-rest w x l = rw (refusal-opened before call refl, ← e, sym is-seam ∙ not-false t p, sym is-done ∙ w) (or-then r _ x q l)

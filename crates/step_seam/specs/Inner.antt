@@ -1,81 +1,43 @@
 -- The tests and the act of a seam step, by lengths and by the entries of the block table.
 -- Assumes nothing.
 use mathlib.Core.Path.{_≡_}
-use mathlib.Core.Bool.{Bool, true, false, not, cond, _&&_}
+use mathlib.Core.Bool.{Bool, true, false, _&&_}
 use mathlib.Core.List.{List, []}
-use Prim.Native.Nat.{ℕ, _+_, _*_}
+use Prim.Native.Nat.{ℕ}
 use lib.Dec.{eqb}
-use lib.ListN.{length}
 use Rattle.closure.specs.Joined.{joins}
 use Rattle.union_find.specs.Links.{root, Rooted}
 use Rattle.cells.specs.Box.{Triple}
 use Rattle.cells.specs.Grid.{cells, sides}
-use Rattle.cutting.specs.Cutting.{Cutting, blocks, blockExtents, goodCut, seam}
-use Rattle.joiner.specs.Job.{Seam, Tables, lengthsFit}
+use Rattle.cutting.specs.Cutting.{Cutting, goodCut, seam}
+use Rattle.joiner.specs.Job.{Kind, Tables}
 use Rattle.joiner.specs.Stages.{seamAxis}
-use Rattle.joiner.specs.Calls.{join, layersDiffer}
-use Rattle.joiner.specs.Declines.{talliesFit}
 use Rattle.layers.specs.Layers.{axisOf, columnsOf, rowsOf}
 use Rattle.pass_seam.specs.Walks.{LayerOf, layerEdges}
 use Rattle.blocks.specs.Blocks.{Tells, sizeOf}
 use Rattle.blocks.specs.declared.Block.{Block}
-use Rattle.job.specs.declared.Job.{Job}
-use Rattle.job.specs.Jobs.{blockLengths, linkLengths, tablesOf, toldOf, jobOf}
-use Rattle.stages.specs.Ticks.{tickedIn}
+use Rattle.job.specs.Jobs.{tablesOf}
+use Rattle.judge.specs.declared.CallName.{CallName}
 use Rattle.judge.specs.declared.Entry.{Entry}
-use Rattle.judge.specs.Judge.{firstRefusal, openedOf, entryOf, mapStandsIn, linksStandIn}
+use Rattle.judge.specs.declared.Lengths.{Lengths}
+use Rattle.judge.specs.Judge.{fitsIn, mapStandsIn, linksStandIn}
 use Rattle.step_seam.specs.declared.Shared.{Shared}
-use Rattle.step_seam.specs.declared.Sizes.{Sizes}
 
 -- The tables that a seam step is lent. The others go unread.
 abbrev pub lent : List ℕ → List ℕ → List ℕ → List ℕ → Tables
 lent ticks blocks faces curves = tablesOf ticks blocks faces curves [] [] [] [] [] [] [] [] [] [] [] [] [] [] []
 
--- Their lengths, and those of the maps.
-abbrev pub sizesOf : List ℕ → List ℕ → List ℕ → List ℕ → List ℕ → List ℕ → Sizes
-sizesOf ticks blocks faces curves m n =
-    record {
-      ticks = length ticks;
-      blocks = length blocks;
-      «face_links» = length faces;
-      «curve_links» = length curves;
-      lower = length m;
-      upper = length n;
-    }
+-- ---- the tests
 
--- 6 denies it: the maps of blocks of e and f voxels, the tables of so many blocks, and the links.
-unfoldable pub mapsFitIn : Triple → Triple → Sizes → Bool
-mapsFitIn e f z = eqb (z .lower) (cells e) && eqb (z .upper) (cells f)
+-- 6 denies it: the maps of blocks of e and f voxels have so many cells, and the tables have the stated lengths.
+unfoldable pub fitsBoth : ℕ → Triple → Triple → (Kind → ℕ) → Lengths → ℕ → ℕ → Bool
+fitsBoth count e f entries z lower upper = fitsIn CallName.Seam count e entries z lower && eqb upper (cells f)
 
-unfoldable pub traysFit : ℕ → Triple → Triple → ℕ → ℕ → Sizes → Bool
-traysFit count e f faces curves z =
-    mapsFitIn e f z && (lengthsFit (blockLengths count (z .ticks) (z .blocks)) && lengthsFit (linkLengths faces curves (z .«face_links») (z .«curve_links»)))
+-- 8 denies it, besides what it denies of the lower block's map: the upper block's map keeps to its entry g, and the links of both blocks may be followed.
+unfoldable pub upperStands : Triple → Entry → Entry → ℕ → ℕ → List ℕ → List ℕ → List ℕ → Bool
+upperStands f d g all-faces all-curves n faces curves = mapStandsIn f g all-faces all-curves n && (linksStandIn d faces curves && linksStandIn g faces curves)
 
--- 8 denies it: the tallies fit, both maps keep to their entries, and the links of both blocks may be followed.
-unfoldable pub standIn : Bool → Triple → Triple → Entry → Entry → ℕ → ℕ → List ℕ → List ℕ → List ℕ → List ℕ → Bool
-standIn tallies e f d g all-faces all-curves m n faces curves =
-    tallies && (mapStandsIn e d all-faces all-curves m && (mapStandsIn f g all-faces all-curves n && (linksStandIn d faces curves && linksStandIn g faces curves)))
-
--- The refusal of a call that brings a seam: 6, 8, 9 or none. 10 cannot stand, since nothing is added.
-unfoldable pub laterRefusal : Job → List ℕ → List ℕ → List ℕ → Sizes → List ℕ → List ℕ → List ℕ → ℕ → ℕ → List ℕ → List ℕ → ℕ
-laterRefusal j cx cy cz z table faces curves b c m n =
-    let k : Cutting = toldOf j cx cy cz .cutting in
-    cond (not (traysFit (blocks k) (blockExtents k b) (blockExtents k c) (j .«face_entries») (j .«curve_entries») z)) 6
-    (cond (not (standIn (talliesFit (jobOf j cx cy cz)) (blockExtents k b) (blockExtents k c) (entryOf table b) (entryOf table c) (j .«face_entries») (j .«curve_entries») m n faces curves)) 8
-    (cond (layersDiffer k (join b c m n)) 9 0))
-
--- The refusal, 0 for none: the joiner's `refusal`.
-unfoldable pub refusalOf : Job → List ℕ → List ℕ → List ℕ → List ℕ → Sizes → List ℕ → List ℕ → List ℕ → ℕ → ℕ → List ℕ → List ℕ → ℕ
-refusalOf j cx cy cz ticks z table faces curves b c m n =
-    let k : Cutting = toldOf j cx cy cz .cutting in
-    firstRefusal (openedOf (jobOf j cx cy cz) Seam)
-    (cond (not (seam k b c)) 4 (cond (tickedIn ticks (6 * b + seamAxis k b c)) 5 (laterRefusal j cx cy cz z table faces curves b c m n)))
-
--- ---- the act
-
--- The step is not refused.
-pub record Ready (j : Job) (cx cy cz ticks table faces curves : List ℕ) (b c : ℕ) (m n : List ℕ) : Type 0 where
-  pub none : refusalOf j cx cy cz ticks (sizesOf ticks table faces curves m n) table faces curves b c m n ≡ 0
+-- ---- the layer
 
 -- The blocks, and the axis by number, are those of seam b, c.
 pub record SeamOf (k : Cutting) (b c axis : ℕ) (low high : Block) : Type 0 where

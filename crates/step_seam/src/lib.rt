@@ -6,12 +6,14 @@ use blocks::is_seam;
 use blocks::seam_axis;
 use job::Job;
 use job::Stage;
-use job::block_trays;
-use job::link_trays;
-use job::tallies_fit;
+use judge::CallName;
 use judge::Entry;
+use judge::KindLengths;
+use judge::Lengths;
 use judge::advance;
 use judge::entry_of;
+use judge::fits;
+use judge::judge_map;
 use judge::links_stand;
 use judge::map_fits;
 use judge::map_stands;
@@ -26,7 +28,6 @@ use refusals::DONE_ALREADY;
 use refusals::LAYERS_DIFFER;
 use refusals::NO_SUCH_PLACE;
 use refusals::STRAY_LABEL;
-use refusals::WRONG_TRAY;
 use stages::is_ticked;
 ghost use mathlib.Core.Path.{_≡_};
 ghost use mathlib.Core.Bool.{true};
@@ -40,27 +41,18 @@ ghost use Rattle.cells.specs.Grid.{cells};
 ghost use Rattle.cutting.specs.Cutting.{goodCut, seam};
 ghost use Rattle.joiner.specs.Stages.{seamAxis};
 ghost use Rattle.joiner.specs.Calls.{join, answer, layersDiffer};
-ghost use Rattle.joiner.specs.Declines.{talliesFit};
+ghost use Rattle.joiner.specs.Declines.{refusal};
 ghost use Rattle.joiner.specs.Entries.{CallStep, SeamDone};
 ghost use Rattle.pass_seam.specs.Walks.{layerEdges};
 ghost use Rattle.blocks.specs.Blocks.{cutOf, sizeOf};
-ghost use Rattle.job.specs.Jobs.{anyCuts, jobOf, stateOf};
-ghost use Rattle.step_seam.specs.Inner.{lent, mapsFitIn, traysFit, standIn, laterRefusal, refusalOf, Ready, anySeam, SharedBy, Linked};
+ghost use Rattle.job.specs.Jobs.{stateOf};
+ghost use Rattle.judge.specs.Judge.{entriesOf, lengthsOf, lateOf};
+ghost use Rattle.step_seam.specs.Inner.{lent, fitsBoth, upperStands, anySeam, SharedBy, Linked};
 
 // What a seam step answers: the number of its refusal, 0 for none, and the job.
 pub struct Joined {
     pub refusal: u32,
     pub job: Job,
-}
-
-// The lengths of the tables and of the maps of the lower and the upper block.
-struct Sizes {
-    ticks: usize,
-    blocks: usize,
-    face_links: usize,
-    curve_links: usize,
-    lower: usize,
-    upper: usize,
 }
 
 // The layer that the blocks share, in the map of each.
@@ -78,58 +70,62 @@ fn step_of(lower: u32, axis: u32) -> usize
     6 * lower as usize + axis as usize
 }
 
-// Whether both maps have the lengths of their blocks.
-fn maps_fit(low: Block, high: Block, sizes: Sizes) -> bool
-    requires { ⌜ Sized 64 (sizeOf low) × Sized 64 (sizeOf high) ⌝ }
-    ensures { λ r. ⌜ r ≡ mapsFitIn (sizeOf low) (sizeOf high) sizes ⌝ }
-{
-    if !map_fits(low, sizes.lower) {
-        return false;
-    }
-    map_fits(high, sizes.upper)
-}
-
-// Whether maps and tables have the stated lengths.
-fn trays_fit(blocks: usize, low: Block, high: Block, job: Job, sizes: Sizes) -> bool
-    requires { ⌜ (blocks ≤ 16384) × Sized 64 (sizeOf low) × Sized 64 (sizeOf high) ⌝ }
-    ensures { λ r. ⌜ r ≡ traysFit blocks (sizeOf low) (sizeOf high) (job .«face_entries») (job .«curve_entries») sizes ⌝ }
-{
-    if !maps_fit(low, high, sizes) {
-        return false;
-    }
-    if !block_trays(blocks, sizes.ticks, sizes.blocks) {
-        return false;
-    }
-    link_trays(
-        job.face_entries,
-        job.curve_entries,
-        sizes.face_links,
-        sizes.curve_links,
-    )
-}
-
-// Whether the tallies fit, both maps keep to their entries, and the links of both blocks may be followed.
-fn maps_stand(
+// 6: whether maps and tables have the stated lengths.
+fn trays_fit(
     job: Job,
+    count: usize,
     low: Block,
+    high: Block,
+    ticks: &[u32],
+    table: &[u32],
+    face_links: &[u32],
+    curve_links: &[u32],
+    m: &[u32],
+    n: &[u32],
+) -> bool
+    requires { ⌜ (count ≤ 16384) × Sized 64 (sizeOf low) × Sized 64 (sizeOf high) ⌝ }
+    ensures { λ r. ⌜ r ≡ fitsBoth count (sizeOf low) (sizeOf high) (entriesOf job)
+        (lengthsOf (lent (now (ticks .entry)) (now (table .entry)) (now («face_links» .entry)) (now («curve_links» .entry))))
+        (length (now (m .entry))) (length (now (n .entry))) ⌝ }
+{
+    let none = KindLengths {
+        faces: 0,
+        curves: 0,
+        points: 0,
+    };
+    let lengths = Lengths {
+        ticks: ticks.len(),
+        blocks: table.len(),
+        links: KindLengths {
+            faces: face_links.len(),
+            curves: curve_links.len(),
+            points: 0,
+        },
+        keys: none,
+        rows: none,
+        numbers: none,
+        firsts: none,
+        listed: none,
+    };
+    if !fits(CallName::Seam, count, low, job, lengths, m.len()) {
+        return false;
+    }
+    map_fits(high, n.len())
+}
+
+// Whether the upper block's map keeps to its entry, and the links of both blocks may be followed.
+fn upper_stands(
+    job: Job,
     high: Block,
     d: Entry,
     g: Entry,
-    m: &[u32],
     n: &[u32],
     face_links: &[u32],
     curve_links: &[u32],
 ) -> bool
-    requires { ⌜ Sized 64 (sizeOf low) × (length (now m) ≡ cells (sizeOf low)) ⌝ }
     requires { ⌜ Sized 64 (sizeOf high) × (length (now n) ≡ cells (sizeOf high)) ⌝ }
-    ensures { λ r. ⌜ anyCuts (λ cx cy cz. r ≡ standIn (talliesFit (jobOf job cx cy cz)) (sizeOf low) (sizeOf high) d g (job .«face_entries») (job .«curve_entries») (now (m .entry)) (now (n .entry)) (now («face_links» .entry)) (now («curve_links» .entry))) ⌝ }
+    ensures { λ r. ⌜ r ≡ upperStands (sizeOf high) d g (job .«face_entries») (job .«curve_entries») (now (n .entry)) (now («face_links» .entry)) (now («curve_links» .entry)) ⌝ }
 {
-    if !tallies_fit(job) {
-        return false;
-    }
-    if !map_stands(m, low, d, job.face_entries, job.curve_entries) {
-        return false;
-    }
     if !map_stands(n, high, g, job.face_entries, job.curve_entries) {
         return false;
     }
@@ -161,14 +157,14 @@ fn differ(low: Block, high: Block, axis: u32, m: &[u32], n: &[u32]) -> bool
     layers_differ(m, s.lower, n, s.upper, s.columns, s.rows)
 }
 
-// The refusal of a call that brings a seam. A full table cannot be met: nothing is added.
+// The refusals from 6 on of a call that brings a seam, 0 for none. A full table cannot be met: nothing is added.
 fn rest(
     job: Job,
     cx: &[u32],
     cy: &[u32],
     cz: &[u32],
     axis: u32,
-    sizes: Sizes,
+    ticks: &[u32],
     table: &[u32],
     face_links: &[u32],
     curve_links: &[u32],
@@ -180,25 +176,32 @@ fn rest(
     requires { ⌜ (goodCut (cutOf (job .nx) (job .ny) (job .nz) (now cx) (now cy) (now cz)) ≡ true)
         × (seam (cutOf (job .nx) (job .ny) (job .nz) (now cx) (now cy) (now cz)) lower upper ≡ true)
         × (axis ≡ seamAxis (cutOf (job .nx) (job .ny) (job .nz) (now cx) (now cy) (now cz)) lower upper) ⌝ }
-    requires { ⌜ (sizes .lower ≡ length (now m)) × (sizes .upper ≡ length (now n)) ⌝ }
-    ensures { λ r. ⌜ r ≡ laterRefusal job (now (cx .entry)) (now (cy .entry)) (now (cz .entry)) sizes (now (table .entry)) (now («face_links» .entry)) (now («curve_links» .entry)) lower upper (now (m .entry)) (now (n .entry)) ⌝ }
+    ensures { λ r. ⌜ r ≡ lateOf
+        (stateOf job (now (cx .entry)) (now (cy .entry)) (now (cz .entry)) (lent (now (ticks .entry)) (now (table .entry)) (now («face_links» .entry)) (now («curve_links» .entry))))
+        (join lower upper (now (m .entry)) (now (n .entry))) ⌝ }
 {
     let low = block_at(cx, cy, cz, lower as usize);
     let high = block_at(cx, cy, cz, upper as usize);
-    if !trays_fit(block_count(cx, cy, cz), low, high, job, sizes) {
-        return WRONG_TRAY;
-    }
-    if !maps_stand(
+    let count = block_count(cx, cy, cz);
+    let whole = trays_fit(
         job,
+        count,
         low,
         high,
-        entry_of(table, lower),
-        entry_of(table, upper),
-        m,
-        n,
+        ticks,
+        table,
         face_links,
         curve_links,
-    ) {
+        m,
+        n,
+    );
+    let own = entry_of(table, lower);
+    let other = entry_of(table, upper);
+    let number = judge_map(job, low, own, whole, m);
+    if number != 0 {
+        return number;
+    }
+    if !upper_stands(job, high, own, other, n, face_links, curve_links) {
         return STRAY_LABEL;
     }
     if differ(low, high, axis, m, n) {
@@ -214,7 +217,6 @@ fn refusal(
     cy: &[u32],
     cz: &[u32],
     ticks: &[u32],
-    sizes: Sizes,
     table: &[u32],
     face_links: &[u32],
     curve_links: &[u32],
@@ -223,8 +225,9 @@ fn refusal(
     m: &[u32],
     n: &[u32],
 ) -> u32
-    requires { ⌜ (sizes .lower ≡ length (now m)) × (sizes .upper ≡ length (now n)) ⌝ }
-    ensures { λ r. ⌜ r ≡ refusalOf job (now (cx .entry)) (now (cy .entry)) (now (cz .entry)) (now (ticks .entry)) sizes (now (table .entry)) (now («face_links» .entry)) (now («curve_links» .entry)) lower upper (now (m .entry)) (now (n .entry)) ⌝ }
+    ensures { λ r. ⌜ r ≡ refusal
+        (stateOf job (now (cx .entry)) (now (cy .entry)) (now (cz .entry)) (lent (now (ticks .entry)) (now (table .entry)) (now («face_links» .entry)) (now («curve_links» .entry))))
+        (join lower upper (now (m .entry)) (now (n .entry))) ⌝ }
 {
     let number = opened(job, cx, cy, cz, Stage::Seam);
     if number != 0 {
@@ -243,7 +246,7 @@ fn refusal(
         cy,
         cz,
         axis,
-        sizes,
+        ticks,
         table,
         face_links,
         curve_links,
@@ -336,7 +339,9 @@ fn accept(
     m: &[u32],
     n: &[u32],
 ) -> Joined
-    requires { ⌜ Ready job (now cx) (now cy) (now cz) (now ticks) (now table) (now «face_links») (now «curve_links») lower upper (now m) (now n) ⌝ }
+    requires { ⌜ refusal
+        (stateOf job (now cx) (now cy) (now cz) (lent (now ticks) (now table) (now «face_links») (now «curve_links»)))
+        (join lower upper (now m) (now n)) ≡ 0 ⌝ }
     ensures { λ r. ⌜ (r .refusal ≡ 0) × SeamDone
         (stateOf job (now (cx .entry)) (now (cy .entry)) (now (cz .entry)) (lent (now (ticks .entry)) (now (table .entry)) (now («face_links» .entry)) (now («curve_links» .entry))))
         lower upper (now (m .entry)) (now (n .entry))
@@ -376,21 +381,12 @@ pub fn seam(
         (join lower upper (now (m .entry)) (now (n .entry))) (answer (r .refusal) 0 [])
         (stateOf (r .job) (now (cx .entry)) (now (cy .entry)) (now (cz .entry)) (lent (now (ticks .exit)) (now (blocks .entry)) (now («face_links» .exit)) (now («curve_links» .exit)))) ⌝ }
 {
-    let sizes = Sizes {
-        ticks: ticks.len(),
-        blocks: blocks.len(),
-        face_links: face_links.len(),
-        curve_links: curve_links.len(),
-        lower: m.len(),
-        upper: n.len(),
-    };
     let number = refusal(
         job,
         cx,
         cy,
         cz,
         ticks,
-        sizes,
         blocks,
         face_links,
         curve_links,

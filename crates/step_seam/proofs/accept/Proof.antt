@@ -1,7 +1,6 @@
 -- `step_seam::accept` meets its contract.
 use mathlib.Core.Path.{refl}
 use borrow.Author.Needs.{needs}
-use mathlib.Core.Path.{refl}
 use Rattle.step_seam.proofs.DoneLaws.{low-sized, high-sized, step-in, seam-few, seam-sums, face-length, curve-length, seam-done}
 use Rattle.step_seam.proofs.accept.Statement.{statement}
 use Rattle.step_seam.proofs.accept.Tie as tie
@@ -17,13 +16,11 @@ block-at-requires-2 c κs = search needs
 
 shared-layer-requires : tie.Need-shared-layer-requires
 shared-layer-requires c κs =
-    let back4 = c .before .before .before .before in
-    let back8 = back4 .before .before .before .before in (
-      low-sized _ _ _ _ _ _ _ _ _ _ _ _ (back8 .before .before .before .before .pre) _
-          (c .before .block-at .ensures _ _ _),
-      high-sized _ _ _ _ _ _ _ _ _ _ _ _
-          (back8 .before .before .before .before .pre) _ (c .block-at2 .ensures _ _ _),
-    )
+    let axis = c .before .before in
+    let at0 = axis .before .before .before .before in
+    let at1 = at0 .before .before .before in
+    let start = at1 .before .before .before in
+    (low-sized (start .args .job) _ _ _ _ _ _ _ _ _ _ _ (start .pre) _ (c .before .block-at .ensures _ _ _), high-sized (start .args .job) _ _ _ _ _ _ _ _ _ _ _ (start .pre) _ (c .block-at2 .ensures _ _ _))
 
 entry-of-requires : tie.Need-entry-of-requires
 entry-of-requires c κs = search needs
@@ -36,29 +33,23 @@ step-of-requires c κs = search needs
 
 advance-requires : tie.Need-advance-requires
 advance-requires c κs =
-    let back4 = c .before .before .before .before in
-    let back8 = back4 .before .before .before .before in
-    let back12 = back8 .before .before .before .before in
-    let back16 = back12 .before .before .before .before in (
-      (
-        step-in _ _ _ _ _ _ _ _ _ _ _ _ (back16 .before .pre) _ _ ((back4 .before .before .before .seam-axis) .ensures _ _ _) (c .step-of .ensures),
-        seam-few _ _ _ _ _ _ _ _ _ _ _ _ (back16 .before .pre),
-      ),
-      seam-sums _ _ _ _ _ _ _ _ _ _ _ _ (back16 .before .pre),
-    )
+    let layer = c .before .before .before .before in
+    let axis = layer .before .before .before in
+    let at0 = axis .before .before .before .before in
+    let at1 = at0 .before .before .before in
+    let start = at1 .before .before .before in
+    ((step-in (start .args .job) _ _ _ _ _ _ _ _ _ _ _ (start .pre) _ _ (axis .seam-axis .ensures _ _ _) (c .step-of .ensures), seam-few (start .args .job) _ _ _ _ _ _ _ _ _ _ _ (start .pre)), seam-sums (start .args .job) _ _ _ _ _ _ _ _ _ _ _ (start .pre))
 
 link-requires : tie.Need-link-requires
 link-requires c κs =
-    let back4 = c .before .before .before .before in
-    let back8 = back4 .before .before .before .before in
-    let back12 = back8 .before .before .before .before in
-    let back16 = back12 .before .before .before .before in
-    let back20 = back16 .before .before .before .before in (
-      face-length _ _ _ _ _ _ _ _ _ _ _ _
-          (back20 .before .before .pre),
-      curve-length _ _ _ _ _ _ _ _ _ _ _ _
-          (back20 .before .before .pre),
-    )
+    let next = c .before .before .before .before in
+    let told = next .before .before .before in
+    let layer = told .before .before in
+    let axis = layer .before .before .before in
+    let at0 = axis .before .before .before .before in
+    let at1 = at0 .before .before .before in
+    let start = at1 .before .before .before in
+    (face-length (start .args .job) _ _ _ _ _ _ _ _ _ _ _ (start .pre), curve-length (start .args .job) _ _ _ _ _ _ _ _ _ _ _ (start .pre))
 
 same-length : tie.Need-same-length
 same-length c = search needs
@@ -71,23 +62,20 @@ same-length-3 c = search needs
 
 returns : tie.Need-returns
 returns c =
-    let back4 = c .before .before .before .before in
-    let back8 = back4 .before .before .before .before in
-    let back12 = back8 .before .before .before .before in
-    let back16 = back12 .before .before .before .before in
-    let back20 = back16 .before .before .before .before in
-    let back24 = back20 .before .before .before .before in (
+    let linked = c .before .before .before .before in
+    let asked = linked .before .before .before in
+    let next = asked .before .before in
+    let told = next .before .before .before in
+    let layer = told .before .before in
+    let axis = layer .before .before .before in
+    let at0 = axis .before .before .before .before in
+    let at1 = at0 .before .before .before in
+    let start = at1 .before .before .before in (
       refl,
-      seam-done _ _ _ _ _ _ _ _ _ _ _ _
-          (back24 .before .before .before .pre) _ _ _ _
-          (back16 .before .seam-axis .ensures _ _ _)
-          (back12 .before .before .before .before .block-at .ensures _ _ _)
-          (back12 .before .before .before .block-at2 .ensures _ _ _)
-          (back12 .before .before .shared-layer .ensures) _ _
-          (back12 .before .entry-of .ensures)
-          (back8 .before .before .before .before .entry-of2 .ensures) _
-          (back8 .before .before .step-of .ensures) _ _ _ _
-          (back8 .before .advance .ensures) (c .before .before .before .before .link .ensures),
+      seam-done (start .args .job) _ _ _ _ _ _ _ _ _ _ _ (start .pre) _ _ _ _
+          (axis .seam-axis .ensures _ _ _) (layer .before .before .block-at .ensures _ _ _) (layer .before .block-at2 .ensures _ _ _) (layer .shared-layer .ensures) _ _
+          (told .before .entry-of .ensures) (told .entry-of2 .ensures) _ (next .before .step-of .ensures) _ _ _ _
+          (next .advance .ensures) (linked .link .ensures),
     )
 
 pub accept-spec : {M : Type 1} → statement M

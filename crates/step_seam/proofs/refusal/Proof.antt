@@ -1,6 +1,6 @@
 -- `step_seam::refusal` meets its contract.
 use borrow.Author.Needs.{needs}
-use Rattle.step_seam.proofs.SeamingLaws.{kept-test, tick-told, seam-passed, seam-first, seam-4, seam-5, seam-rest}
+use Rattle.step_seam.proofs.SeamingLaws.{seam-first, seam-4, seam-5, seam-passed, seam-rest}
 use Rattle.step_seam.proofs.refusal.Statement.{statement}
 use Rattle.step_seam.proofs.refusal.Tie as tie
 
@@ -26,24 +26,21 @@ is-ticked-requires : tie.Need-is-ticked-requires
 is-ticked-requires c κs = search needs
 
 returns-3 : tie.Need-returns-3
-returns-3 c =
-    let back4 = c .before .before .before .before in
-    seam-5 _ _ _ _ _ _ _ _ _ _ _ _ _ _ ((back4 .before .before .before .opened) .ensures) ((back4 .before .before .if1) .left) _ ((back4 .before .is-seam) .ensures) ((c .before .before .before .before .if2) .left) _ (tick-told _ _ _ _ _ _ _ ((c .before .before .before .seam-axis) .ensures _ _ _) ((c .before .before .step-of) .ensures) ((c .before .is-ticked) .ensures)) ((c .if3) .taken)
+returns-3 c = search seam-5
 
 rest-requires : tie.Need-rest-requires
 rest-requires c κs =
-    let back4 = c .before .before .before .before in
-    let back8 = back4 .before .before .before .before in
-    let back12 = back8 .before .before .before .before in
-    let back16 = back12 .before .before .before .before in (
-      (seam-passed ((back16 .before .args) .job) _ _ _ _ ((back4 .before .before .before .opened) .ensures) ((back4 .before .before .if1) .left), kept-test _ _ ((back4 .before .is-seam) .ensures _ _ _) ((c .before .before .before .before .if2) .left), (c .before .before .before .seam-axis) .ensures _ _ _),
-      (back16 .before .pre),
-    )
+    let axis = c .before .before .before in
+    let place = axis .before .before in
+    let ask = place .before .before in
+    let at0 = ask .before .before .before .before in
+    let at1 = at0 .before .before .before .before in
+    let start = at1 .before .before .args in
+    let p = seam-passed (start .job) _ _ _ _ _ _ (ask .opened .ensures) (place .before .if1 .left) _ (place .is-seam .ensures) (axis .before .if2 .left) in
+    (p .0, p .1, axis .seam-axis .ensures _ _ _)
 
 returns-4 : tie.Need-returns-4
-returns-4 c =
-    let back4 = c .before .before .before .before in
-    seam-rest _ _ _ _ _ _ _ _ _ _ _ _ _ _ ((back4 .before .before .before .before .opened) .ensures) ((back4 .before .before .before .if1) .left) _ ((back4 .before .before .is-seam) .ensures) ((back4 .before .if2) .left) _ (tick-told _ _ _ _ _ _ _ ((c .before .before .before .before .seam-axis) .ensures _ _ _) ((c .before .before .before .step-of) .ensures) ((c .before .before .is-ticked) .ensures)) ((c .before .if3) .left) _ ((c .rest) .ensures)
+returns-4 c = search seam-rest
 
 pub refusal-spec : {M : Type 1} → statement M
 refusal-spec =

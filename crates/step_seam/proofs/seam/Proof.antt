@@ -17,7 +17,12 @@ same-length-3 : tie.Need-same-length-3
 same-length-3 c = search needs
 
 returns : tie.Need-returns
-returns c = seam-refused _ _ _ _ _ _ _ _ _ _ _ _ _ (c .before .refusal .ensures) (c .if1 .taken)
+returns c =
+    let at0 = c .before .before .before .before in
+    let at1 = at0 .before .before .before .before in
+    let at2 = at1 .before .before .before .before in
+    let start = at2 .before .before .args in
+    seam-refused (start .job) _ _ _ _ _ _ _ _ _ _ _ _ (c .before .refusal .ensures) (c .if1 .taken)
 
 accept-requires : tie.Need-accept-requires
 accept-requires c κs = search needs
@@ -33,11 +38,15 @@ same-length-6 c = search needs
 
 returns-2 : tie.Need-returns-2
 returns-2 c =
-    let back4 = c .before .before .before .before in
-    let back8 = back4 .before .before .before .before in
-    seam-accepted _ _ _ _ _ _ _ _ _ _ _ _ _ (back8 .before .before .before .refusal .ensures)
-    (back8 .before .before .if1 .left)
-    (back4 .before .before .accept .result) _ (back4 .before .before .accept .ensures)
+    let back = c .before .before .before in
+    let done = back .before .before .before in
+    let kept = done .before .before .before .before in
+    let ask = kept .before in
+    let at0 = ask .before .before .before .before in
+    let at1 = at0 .before .before .before in
+    let at2 = at1 .before .before .before in
+    let start = at2 .before .before .before .args in
+    seam-accepted (start .job) _ _ _ _ _ _ _ _ _ _ _ _ (ask .refusal .ensures) (kept .if1 .left) (done .accept .result) _ (done .accept .ensures)
 
 pub seam-spec : {M : Type 1} → statement M
 seam-spec =
