@@ -1,4 +1,4 @@
-//! Random volumes, uncut and cut, with what this implementation answers, as the tables of the theory crate `samples`.
+//! Random volumes, uncut and cut, with what this implementation answers, as the tables of the theory crate `theory_samples`.
 //! Its theorems compute the definitions of the proved code on them.
 use crate::cutting::Cutting;
 use crate::grid::{width, Extents, Grid};

@@ -120,7 +120,7 @@ fn which_maps_a_labelling_leaves() {
     assert!(is_labelling([2, 3, 1], &map) && !is_labelling([3, 2, 1], &map));
 }
 
-/// What the proved program `volumes_test` prints, from the second implementation.
+/// What the proved program `program_volumes` prints, from the second implementation.
 fn trial() -> String {
     let mut text = String::new();
     let labelled = |name: &str, extents: [u16; 3], codes: &[u32], map: &mut [u32], work: &mut [u32]| {
