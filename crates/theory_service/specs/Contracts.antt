@@ -32,7 +32,7 @@ pub data OpenedBy : Told → Tables → TotalTables → ℕ → Held → TotalTa
       → OpenedBy (toldBy nx ny nz cx cy cz faces curves points) (tablesOf ticks blocks fl cl fk ck pk fr cr pr fn cn pn ff cf pf fs cs ps) w r
       (held j cx cy cz ticks′ blocks fl cl fk ck pk fr cr pr fn cn pn ff cf pf fs cs ps) v
 
--- A call through an entry, with its answer, from what is held before to what is held after: the premise is the entry's `ensures`. (The crate `jobs`
+-- A call through an entry, with its answer, from what is held before to what is held after: the premise is the entry's `ensures`. (The crate `methods`
 -- proves each method out of its entry's contract by these constructors.)
 pub data CalledEntry : Held → Call → Answer → Held → Type 0 where
   -- `enrol`

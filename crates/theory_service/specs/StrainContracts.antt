@@ -15,7 +15,7 @@ use Rattle.theory_totals.specs.Statement.{StrainEntry}
 use Rattle.theory_service.specs.Contracts.{Held, held, stateIn, CalledEntry}
 
 -- A call of item 1 with its answer, on what is held and the tables of the readings, to those tables after it: the premise is what the entry promises,
--- whatever the tables are that it is not lent. What is held stays. (The methods of the crate `jobs` have these promises, proved out of the entries' contracts.)
+-- whatever the tables are that it is not lent. What is held stays. (The methods of the crate `methods` have these promises, proved out of the entries' contracts.)
 pub data CalledStrain : Held → TotalTables → StrainCall → StrainAnswer → TotalTables → Type 0 where
   -- `strain`, lent the block table and the final numbers of faces
   strained : {j : Job} {b r : ℕ} {m kinds : List ℕ} {values : List Float} {cx cy cz ticks blocks fl cl fk ck pk fr cr pr fn cn pn ff cf pf fs cs ps : List ℕ} {w v : TotalTables}
