@@ -1,7 +1,7 @@
 -- `step_enrol::act` meets its contract.
 use borrow.Author.Needs.{needs}
 use native.Mathlib.Omega.{arith}
-use Rattle.step_enrol.proofs.EnrollingLaws.{act-block, act-faces, act-curves, act-advance, act-done}
+use Rattle.step_enrol.proofs.DoneLaws.{act-block, act-faces, act-curves, act-advance, act-done}
 use Rattle.step_enrol.proofs.act.Statement.{statement}
 use Rattle.step_enrol.proofs.act.Tie as tie
 

@@ -1,6 +1,6 @@
 -- `step_enrol::enrol` meets its contract.
 use borrow.Author.Needs.{needs}
-use Rattle.step_enrol.proofs.EnrollingLaws.{enrol-refused, enrol-ready, enrol-accepted}
+use Rattle.step_enrol.proofs.DoneLaws.{enrol-refused, enrol-ready, enrol-accepted}
 use Rattle.step_enrol.proofs.enrol.Statement.{statement}
 use Rattle.step_enrol.proofs.enrol.Tie as tie
 
@@ -12,10 +12,10 @@ start c =
     let lists = tables .before .before .before .before in
     lists .before .before .before .before
 
-abbrev measured : tie.After-plan-of → tie.After-lengths-of
+abbrev measured : tie.After-judge-enrolment → tie.After-lengths-of
 measured c = c .before .before
 
-abbrev planned : tie.Else1 → tie.After-plan-of
+abbrev planned : tie.Else1 → tie.After-judge-enrolment
 planned c = c .before .before
 
 abbrev accepted : tie.After-act-arg8 → tie.Else1
@@ -31,8 +31,8 @@ acted c =
 lengths-of-requires : tie.Need-lengths-of-requires
 lengths-of-requires c κs = search needs
 
-plan-of-requires : tie.Need-plan-of-requires
-plan-of-requires c κs = search needs
+judge-enrolment-requires : tie.Need-judge-enrolment-requires
+judge-enrolment-requires c κs = search needs
 
 same-length : tie.Need-same-length
 same-length c = search needs
@@ -41,14 +41,14 @@ returns : tie.Need-returns
 returns c =
     let plan = c .before .before in
     let lengths = measured plan in
-    enrol-refused (start lengths .args .job) _ _ _ _ _ _ _ _ _ _ _ _ _ _ (lengths .lengths-of .ensures) _ (plan .plan-of .ensures) (c .if1 .taken)
+    enrol-refused (start lengths .args .job) _ _ _ _ _ _ _ _ _ _ _ _ _ _ (lengths .lengths-of .ensures) _ (plan .judge-enrolment .ensures) (c .if1 .taken)
 
 act-requires : tie.Need-act-requires
 act-requires c κs =
     let passed = accepted c in
     let plan = planned passed in
     let lengths = measured plan in
-    enrol-ready (start lengths .args .job) _ _ _ _ _ _ _ _ _ _ _ _ _ _ (lengths .lengths-of .ensures) _ (plan .plan-of .ensures) (passed .if1 .left)
+    enrol-ready (start lengths .args .job) _ _ _ _ _ _ _ _ _ _ _ _ _ _ (lengths .lengths-of .ensures) _ (plan .judge-enrolment .ensures) (passed .if1 .left)
 
 same-length-2 : tie.Need-same-length-2
 same-length-2 c = search needs
@@ -80,14 +80,14 @@ returns-2 c =
     let passed = accepted (done .before) in
     let plan = planned passed in
     let lengths = measured plan in
-    enrol-accepted (start lengths .args .job) _ _ _ _ _ _ _ _ _ _ _ _ _ _ (lengths .lengths-of .ensures) _ (plan .plan-of .ensures) (passed .if1 .left) _ (done .act .ensures)
+    enrol-accepted (start lengths .args .job) _ _ _ _ _ _ _ _ _ _ _ _ _ _ (lengths .lengths-of .ensures) _ (plan .judge-enrolment .ensures) (passed .if1 .left) _ (done .act .ensures)
 
 pub enrol-spec : {M : Type 1} → statement M
 enrol-spec =
     tie.close
     (tie.spec
     lengths-of-requires
-    plan-of-requires
+    judge-enrolment-requires
     same-length
     returns
     act-requires

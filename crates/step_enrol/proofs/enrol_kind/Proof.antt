@@ -1,6 +1,6 @@
 -- `step_enrol::enrol_kind` meets its contract.
 use borrow.Author.Needs.{needs}
-use Rattle.step_enrol.proofs.EnrollingLaws.{kind-rows}
+use Rattle.step_enrol.proofs.DoneLaws.{kind-rows}
 use Rattle.step_enrol.proofs.enrol_kind.Statement.{statement}
 use Rattle.step_enrol.proofs.enrol_kind.Tie as tie
 

@@ -2,7 +2,7 @@
 use borrow.Author.Needs.{needs}
 use native.Mathlib.Omega.{arith}
 use lib.ListN.{length-set}
-use Rattle.step_enrol.proofs.EnrollingLaws.{block-put}
+use Rattle.step_enrol.proofs.DoneLaws.{block-put}
 use Rattle.step_enrol.proofs.put_block.Statement.{statement}
 use Rattle.step_enrol.proofs.put_block.Tie as tie
 

@@ -1,8 +1,8 @@
--- `step_enrol::full` meets its contract.
+-- `judge_enrol::full` meets its contract.
 use borrow.Author.Needs.{needs}
-use Rattle.step_enrol.proofs.EnrollingLaws.{full-here, full-next}
-use Rattle.step_enrol.proofs.full.Statement.{statement}
-use Rattle.step_enrol.proofs.full.Tie as tie
+use Rattle.judge_enrol.proofs.TestLaws.{full-here, full-next}
+use Rattle.judge_enrol.proofs.full.Statement.{statement}
+use Rattle.judge_enrol.proofs.full.Tie as tie
 
 overfull-requires : tie.Need-overfull-requires
 overfull-requires c κs = search needs

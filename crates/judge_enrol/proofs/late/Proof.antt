@@ -1,8 +1,8 @@
--- `step_enrol::late` meets its contract.
+-- `judge_enrol::late` meets its contract.
 use borrow.Author.Needs.{needs}
-use Rattle.step_enrol.proofs.EnrollingLaws.{late-tallies, late-points, late-filled, late-full, late-none}
-use Rattle.step_enrol.proofs.late.Statement.{statement}
-use Rattle.step_enrol.proofs.late.Tie as tie
+use Rattle.judge_enrol.proofs.TestLaws.{late-tallies, late-points, late-filled, late-full, late-none}
+use Rattle.judge_enrol.proofs.late.Statement.{statement}
+use Rattle.judge_enrol.proofs.late.Tie as tie
 
 tallies-fit-requires : tie.Need-tallies-fit-requires
 tallies-fit-requires c κs = search needs

@@ -1,7 +1,7 @@
 -- The ways of the functions that enrol a block, over plain lists and numbers.
 -- Assumes nothing.
 use mathlib.Core.Path.{_≡_, refl, sym, ap, _∙_}
-use mathlib.Core.Bool.{Bool, true, false, not, _||_, or-false}
+use mathlib.Core.Bool.{Bool, false, _||_}
 use mathlib.Core.Logic.{_⊎_, inl, inr}
 use mathlib.Core.List.{List, []}
 use Prim.Native.Nat.{ℕ, suc, _+_, _-_, _*_, _/_, _%_, _≤_, _<_}
@@ -9,36 +9,35 @@ use native.Mathlib.Nat.{add-zero}
 use native.Mathlib.Omega.{arith}
 use lib.Dec.{ltb}
 use lib.ListN.{length, set}
-use borrow.Author.Tests.{ltb-false, le-ltb, not-true, not-false}
+use borrow.Author.Tests.{ltb-false}
 use Rattle.lists.specs.Lists.{overlay}
 use Rattle.lists.proofs.Cases.{neither}
 use Rattle.lists.proofs.Overlay.{length-overlay, overlay-same}
 use Rattle.cells.specs.Box.{Triple, triple}
-use Rattle.cells.specs.Extents.{Sized}
 use Rattle.cells.specs.Grid.{cells}
 use Rattle.labels.specs.Components.{largest}
 use Rattle.cutting.specs.Cutting.{Cutting, intervals, blocks, blockExtents}
-use Rattle.joiner.specs.Job.{Kind, Face, Curve, Point, Enrol, Tables, State, ticked, blockTrays, linkTrays, foundTrays}
+use Rattle.joiner.specs.Job.{Kind, Face, Curve, Point, Enrol, Tables, State, blockTrays, linkTrays, foundTrays}
 use Rattle.joiner.specs.Stages.{enrolStep}
 use Rattle.joiner.specs.Calls.{enrol, answer, full, overfull}
-use Rattle.joiner.specs.Declines.{talliesFit, filled, lentTo, stray, adds, refusal}
+use Rattle.joiner.specs.Declines.{lentTo, adds, refusal}
 use Rattle.joiner.specs.Entries.{enrolledRow, EnrolDone, blockEntry, CallStep}
-use Rattle.joiner.proofs.Passed.{Passed, passed, fits-at, tally-fits}
+use Rattle.joiner.proofs.Passed.{Passed, passed, fits-at}
 use Rattle.blocks.specs.Blocks.{anyExtents, sizeOf, Tells}
 use Rattle.blocks.specs.declared.Block.{Block}
 use Rattle.pass_enrol.specs.Enrolment.{Lies, keyIn, Firsts}
 use Rattle.pass_enrol.proofs.KeyLaws.{lies-told, enrolled-keys, stored-firsts}
 use Rattle.pass_enrol.proofs.RowLaws.{enrolled-faces, enrolled-curves}
 use Rattle.job.specs.declared.Job.{Job}
-use Rattle.job.specs.Jobs.{byKind, anyCuts, toldOf, jobOf, tablesOf, stateOf}
-use Rattle.stages.specs.Ticks.{tickedIn}
+use Rattle.job.specs.Jobs.{byKind, toldOf, jobOf, tablesOf, stateOf}
 use Rattle.judge.specs.declared.CallName.{CallName}
 use Rattle.judge.specs.declared.Lengths.{Lengths}
-use Rattle.judge.specs.Judge.{lengthsOf, lengthsJudged, Advanced}
-use Rattle.judge.proofs.JudgeLaws.{or-first, or-then, or-none, FirstTests, few-of, count-few, block-sized, refusal-lengths, lengths-passed, ticked-by, numbered-kept, step-refused, step-accepted}
-use Rattle.pass_survey.specs.declared.Survey.{Survey}
-use Rattle.step_enrol.specs.declared.Plan.{Plan}
-use Rattle.step_enrol.specs.Inner.{lentLengths, lateOf, refusalOf, Judged, Ready, blockNumbers, KindReady, KindDone}
+use Rattle.judge.specs.Judge.{lengthsOf, Advanced}
+use Rattle.judge.proofs.JudgeLaws.{or-none, FirstTests, few-of, count-few, lengths-passed, ticked-by, numbered-kept, step-refused, step-accepted}
+use Rattle.judge_enrol.specs.declared.Plan.{Plan}
+use Rattle.judge_enrol.specs.Tests.{lentLengths, refusalOf, Judged}
+use Rattle.judge_enrol.proofs.TestLaws.{refusal-is}
+use Rattle.step_enrol.specs.Inner.{Ready, blockNumbers, KindReady, KindDone}
 
 -- ---- the five numbers of a block
 
@@ -46,80 +45,6 @@ pub block-put : (xs : List ℕ) (b : ℕ) (p : Plan) (face curve : ℕ)
     → set (set (set (set (set xs (5 * b) (p .faces)) (5 * b + 1) (p .curves)) (5 * b + 2) (p .points)) (5 * b + 3) face) (5 * b + 4) curve ≡ overlay xs (5 * b) (blockNumbers p face curve) 5
 unfolding overlay blockNumbers
 block-put xs b p face curve = rw (add-zero (5 * b))
-
--- ---- tallies
-
-module _ (fe ce pe f c p df dc : ℕ) (t : Bool) (e : t ≡ ltb fe (f + df)) where
-  pub full-here : t ≡ true → true ≡ full (byKind fe ce pe) (byKind f c p) (byKind df dc 0)
-  unfolding full overfull
-  full-here q = rw (sym e ∙ q)
-
-  pub full-next : t ≡ false → p ≤ pe → (u : Bool) → u ≡ ltb ce (c + dc) → u ≡ full (byKind fe ce pe) (byKind f c p) (byKind df dc 0)
-  unfolding full overfull
-  full-next q h u i = let z : ltb pe (p + 0) ≡ false = le-ltb pe (p + 0) (omega arith) in rw (sym e ∙ q, z, ← i) (sym (or-false u))
-
-module _ (j : Job) (f : Bool) (faces curves : ℕ) (t : Bool) (e : anyCuts (λ cx cy cz. t ≡ talliesFit (jobOf j cx cy cz))) where
-  abbrev Late : ℕ → Type 0
-  Late n = anyCuts (λ cx cy cz. n ≡ lateOf (jobOf j cx cy cz) f (byKind faces curves 0))
-
-  pub late-tallies : not t ≡ true → Late 8
-  unfolding lateOf
-  late-tallies q cx cy cz = rw (sym (e cx cy cz) ∙ not-true t q)
-
-  module _ (q : not t ≡ false) where
-    pub late-points : j .points ≤ j .«point_entries»
-    late-points = tally-fits (jobOf j [] [] []) (sym (e [] [] []) ∙ not-false t q) Point
-
-    pub late-filled : not f ≡ true → Late 8
-    unfolding lateOf
-    late-filled h cx cy cz = rw (sym (e cx cy cz) ∙ not-false t q, not-true f h)
-
-    module _ (h : not f ≡ false) (u : Bool)
-        (i : u ≡ full (byKind (j .«face_entries») (j .«curve_entries») (j .«point_entries»)) (byKind (j .faces) (j .curves) (j .points)) (byKind faces curves 0)) where
-      pub late-full : u ≡ true → Late 10
-      unfolding lateOf
-      late-full y cx cy cz = rw (sym (e cx cy cz) ∙ not-false t q, not-false f h, sym i ∙ y)
-
-      pub late-none : u ≡ false → Late 0
-      unfolding lateOf
-      late-none y cx cy cz = rw (sym (e cx cy cz) ∙ not-false t q, not-false f h, sym i ∙ y)
-
--- ---- the ways of `plan_of`
-
-module _ (j : Job) (cx cy cz ticks : List ℕ) (z : Lengths) (b : ℕ) (m : List ℕ) (n : ℕ)
-    (e : n ≡ lengthsJudged (jobOf j cx cy cz) ticks CallName.Enrol z b (6 * b) (length m)) where
-  pub plan-early : (n ≡ 0 → ⊥) → Judged (jobOf j cx cy cz) ticks z b m (record { refusal = n; faces = 0; curves = 0; points = 0 })
-  unfolding refusalOf enrolStep
-  plan-early q = record { told = rw (← e) (or-first n _ q); plan = λ h. absurd (q h) }
-
-  module _ (q : n ≡ 0) (r : Block) (T : anyExtents cx cy cz (λ k. Tells k b r)) where
-    abbrev told-here : Tells (toldOf j cx cy cz .cutting) b r
-    told-here = T (j .nx) (j .ny) (j .nz)
-
-    -- what `survey_map` requires
-    pub plan-map : Sized 64 (sizeOf r) × (length m ≡ cells (sizeOf r))
-    plan-map =
-        let p = lengths-passed (jobOf j cx cy cz) ticks CallName.Enrol z b (6 * b) (length m) (sym e ∙ q) in
-        (block-sized (toldOf j cx cy cz .cutting) (p .0 .good) b (p .1) r told-here, p .2 ∙ ap cells (sym (told-here .size)))
-
-    pub plan-late : (s : Survey) → s .filled ≡ filled (sizeOf r) m → s .faces ≡ largest (sizeOf r) m 2 → s .curves ≡ largest (sizeOf r) m 1 → s .points ≡ largest (sizeOf r) m 0
-        → (l : ℕ) → anyCuts (λ cx cy cz. l ≡ lateOf (jobOf j cx cy cz) (s .filled) (byKind (s .faces) (s .curves) 0))
-        → Judged (jobOf j cx cy cz) ticks z b m (record { refusal = l; faces = s .faces; curves = s .curves; points = s .points })
-    unfolding refusalOf enrolStep
-    plan-late s f x y w l i =
-        let x′ = x ∙ ap (λ (v : Triple). largest v m 2) (told-here .size) in
-        let y′ = y ∙ ap (λ (v : Triple). largest v m 1) (told-here .size) in
-        let f′ = f ∙ ap (λ (v : Triple). filled v m) (told-here .size) in
-        record {
-          told = rw (← e, ← f′, ← x′, ← y′) (or-then n _ l q (i cx cy cz));
-          plan = λ _. record { faces = x′; curves = y′; points = w ∙ ap (λ (v : Triple). largest v m 0) (told-here .size) };
-        }
-
--- ---- the joiner's refusal
-
-refusal-is : (s : State) (b : ℕ) (m : List ℕ) → refusal s (enrol b m) ≡ refusalOf (s .job) (s .tables .ticks) (lengthsOf (s .tables)) b m
-unfolding refusalOf lateOf stray full overfull adds ticked tickedIn
-refusal-is s b m = refusal-lengths s (enrol b m) refl b m refl (enrolStep b) refl refl
 
 -- ---- what an accepted call has passed
 

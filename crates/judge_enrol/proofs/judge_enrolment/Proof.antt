@@ -1,9 +1,9 @@
--- `step_enrol::plan_of` meets its contract.
+-- `judge_enrol::judge_enrolment` meets its contract.
 use borrow.Author.Needs.{needs}
 use denote.Ref.{now}
-use Rattle.step_enrol.proofs.EnrollingLaws.{plan-early, plan-map, plan-late}
-use Rattle.step_enrol.proofs.plan_of.Statement.{statement}
-use Rattle.step_enrol.proofs.plan_of.Tie as tie
+use Rattle.judge_enrol.proofs.TestLaws.{plan-early, plan-map, plan-late}
+use Rattle.judge_enrol.proofs.judge_enrolment.Statement.{statement}
+use Rattle.judge_enrol.proofs.judge_enrolment.Tie as tie
 
 -- The start, from the place of the judge.
 abbrev start : tie.After-judge-lengths → tie.Start
@@ -33,8 +33,8 @@ late-requires c κs = search needs
 returns-2 : tie.Need-returns-2
 returns-2 c = search plan-late
 
-pub plan-of-spec : {M : Type 1} → statement M
-plan-of-spec =
+pub judge-enrolment-spec : {M : Type 1} → statement M
+judge-enrolment-spec =
     tie.close
     (tie.spec
     mul-step
