@@ -1,4 +1,4 @@
--- The tests by lengths are the joiner's, and what an accepted seam step leaves is what the joiner asks for.
+-- What an accepted seam step leaves is what the joiner asks for.
 -- Assumes nothing.
 use mathlib.Core.Path.{_≡_, refl, ap}
 use mathlib.Core.Bool.{true}
@@ -33,9 +33,10 @@ use Rattle.judge.specs.declared.Entry.{Entry}
 use Rattle.judge.specs.Judge.{entryOf, Advanced}
 use Rattle.judge.proofs.JudgeLaws.{few-of, ticked-by, numbered-kept, step-refused, step-accepted}
 use Rattle.step_seam.specs.declared.Joined.{Joined}
-use Rattle.step_seam.specs.declared.Shared.{Shared}
-use Rattle.step_seam.specs.Inner.{lent, SharedBy, Linked}
-use Rattle.step_seam.proofs.SeamingLaws.{lower-sized, upper-sized}
+use Rattle.judge_seam.specs.declared.Shared.{Shared}
+use Rattle.judge_seam.specs.Tests.{lent, SharedBy}
+use Rattle.judge_seam.proofs.TestLaws.{lower-sized, upper-sized}
+use Rattle.step_seam.specs.Inner.{Linked}
 
 module _ (j : Job) (cx cy cz ticks blocks′ faces curves : List ℕ) (b c : ℕ) (m n : List ℕ) where
   abbrev pub k : Cutting

@@ -1,3 +1,2 @@
 -- The laws that the proofs cite.
-pub mod SeamingLaws
 pub mod DoneLaws

@@ -4,8 +4,8 @@ use Rattle.step_seam.proofs.DoneLaws.{seam-refused, seam-accepted}
 use Rattle.step_seam.proofs.seam.Statement.{statement}
 use Rattle.step_seam.proofs.seam.Tie as tie
 
-refusal-requires : tie.Need-refusal-requires
-refusal-requires c κs = search needs
+judge-seam-requires : tie.Need-judge-seam-requires
+judge-seam-requires c κs = search needs
 
 same-length : tie.Need-same-length
 same-length c = search needs
@@ -22,7 +22,7 @@ returns c =
     let at1 = at0 .before .before .before .before in
     let at2 = at1 .before .before .before .before in
     let start = at2 .before .before .args in
-    seam-refused (start .job) _ _ _ _ _ _ _ _ _ _ _ _ (c .before .refusal .ensures) (c .if1 .taken)
+    seam-refused (start .job) _ _ _ _ _ _ _ _ _ _ _ _ (c .before .judge-seam .ensures) (c .if1 .taken)
 
 accept-requires : tie.Need-accept-requires
 accept-requires c κs = search needs
@@ -46,13 +46,13 @@ returns-2 c =
     let at1 = at0 .before .before .before in
     let at2 = at1 .before .before .before in
     let start = at2 .before .before .before .args in
-    seam-accepted (start .job) _ _ _ _ _ _ _ _ _ _ _ _ (ask .refusal .ensures) (kept .if1 .left) (done .accept .result) _ (done .accept .ensures)
+    seam-accepted (start .job) _ _ _ _ _ _ _ _ _ _ _ _ (ask .judge-seam .ensures) (kept .if1 .left) (done .accept .result) _ (done .accept .ensures)
 
 pub seam-spec : {M : Type 1} → statement M
 seam-spec =
     tie.close
     (tie.spec
-    refusal-requires
+    judge-seam-requires
     same-length
     same-length-2
     same-length-3

@@ -1,8 +1,8 @@
--- `step_seam::differ` meets its contract.
+-- `judge_seam::differ` meets its contract.
 use borrow.Author.Needs.{needs}
-use Rattle.step_seam.proofs.SeamingLaws.{differ-told}
-use Rattle.step_seam.proofs.differ.Statement.{statement}
-use Rattle.step_seam.proofs.differ.Tie as tie
+use Rattle.judge_seam.proofs.TestLaws.{differ-told}
+use Rattle.judge_seam.proofs.differ.Statement.{statement}
+use Rattle.judge_seam.proofs.differ.Tie as tie
 
 shared-layer-requires : tie.Need-shared-layer-requires
 shared-layer-requires c κs = search needs

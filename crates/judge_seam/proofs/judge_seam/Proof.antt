@@ -1,8 +1,8 @@
--- `step_seam::refusal` meets its contract.
+-- `judge_seam::judge_seam` meets its contract.
 use borrow.Author.Needs.{needs}
-use Rattle.step_seam.proofs.SeamingLaws.{seam-first, seam-4, seam-5, seam-passed, seam-rest}
-use Rattle.step_seam.proofs.refusal.Statement.{statement}
-use Rattle.step_seam.proofs.refusal.Tie as tie
+use Rattle.judge_seam.proofs.TestLaws.{seam-first, seam-4, seam-5, seam-passed, seam-rest}
+use Rattle.judge_seam.proofs.judge_seam.Statement.{statement}
+use Rattle.judge_seam.proofs.judge_seam.Tie as tie
 
 opened-requires : tie.Need-opened-requires
 opened-requires c κs = search needs
@@ -42,8 +42,8 @@ rest-requires c κs =
 returns-4 : tie.Need-returns-4
 returns-4 c = search seam-rest
 
-pub refusal-spec : {M : Type 1} → statement M
-refusal-spec =
+pub judge-seam-spec : {M : Type 1} → statement M
+judge-seam-spec =
     tie.close
     (tie.spec
     opened-requires

@@ -1,4 +1,4 @@
--- The ways of the functions of a seam step, over plain lists and numbers.
+-- The ways of the tests of a seam step, over plain lists and numbers.
 -- Assumes nothing.
 use mathlib.Core.Path.{_≡_, refl, sym, _∙_}
 use mathlib.Core.Bool.{Bool, true, false, not, cond, _&&_}
@@ -29,8 +29,8 @@ use Rattle.judge.specs.declared.Entry.{Entry}
 use Rattle.judge.specs.declared.Lengths.{Lengths}
 use Rattle.judge.specs.Judge.{firstRefusal, entriesOf, lengthsOf, lentBy, openedOf, placedOf, lateOf, entryOf, fitsIn, mapJudged, mapStandsIn}
 use Rattle.judge.proofs.JudgeLaws.{or-first, or-then, or-none, or-six, six-none, refusal-opened, late-none, opened-passed, block-sized, stands-is, links-is, lent-is}
-use Rattle.step_seam.specs.declared.Shared.{Shared}
-use Rattle.step_seam.specs.Inner.{lent, fitsBoth, upperStands, anySeam, SharedBy}
+use Rattle.judge_seam.specs.declared.Shared.{Shared}
+use Rattle.judge_seam.specs.Tests.{lent, fitsBoth, upperStands, anySeam, SharedBy}
 
 -- ---- the layer
 
@@ -158,7 +158,7 @@ module _ (j : Job) (cx cy cz ticks table faces curves : List ℕ) (b c : ℕ) (m
         pub late-0 : t ≡ false → 0 ≡ lateOf before call
         late-0 p = rw (late-is, ← first-is, sym holds-is ∙ not-false v o, sym differ-is ∙ p) (or-then x _ 0 z refl)
 
-  -- ---- the ways of `refusal`
+  -- ---- the ways of `judge_seam`
 
   module _ (r : ℕ) (e : r ≡ openedOf (jobOf j cx cy cz) Seam) where
     pub seam-first : (r ≡ 0 → ⊥) → r ≡ refusal before call

@@ -1,9 +1,9 @@
--- `step_seam::rest` meets its contract.
+-- `judge_seam::rest` meets its contract.
 use borrow.Author.Needs.{needs}
 use Rattle.judge.proofs.JudgeLaws.{few-of, count-few}
-use Rattle.step_seam.proofs.SeamingLaws.{lower-sized, upper-sized, lower-cells, upper-cells, judged-fits, late-first, late-8, late-9, late-0}
-use Rattle.step_seam.proofs.rest.Statement.{statement}
-use Rattle.step_seam.proofs.rest.Tie as tie
+use Rattle.judge_seam.proofs.TestLaws.{lower-sized, upper-sized, lower-cells, upper-cells, judged-fits, late-first, late-8, late-9, late-0}
+use Rattle.judge_seam.proofs.rest.Statement.{statement}
+use Rattle.judge_seam.proofs.rest.Tie as tie
 
 block-at-requires : tie.Need-block-at-requires
 block-at-requires c κs = search needs
