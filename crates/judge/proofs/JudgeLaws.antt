@@ -1,4 +1,4 @@
--- The tests that the calls share are the joiner's, and a ticked step is what the joiner asks for.
+-- The tests that the calls share are the joiner's.
 -- Assumes nothing.
 use mathlib.Core.Path.{_≡_, refl, sym, ap, subst, _∙_}
 use mathlib.Core.Bool.{Bool, true, false, not, cond, _&&_}
@@ -39,7 +39,7 @@ use Rattle.stages.proofs.StageLaws.{next-told}
 use Rattle.judge.specs.declared.CallName.{CallName}
 use Rattle.judge.specs.declared.Lengths.{Lengths}
 use Rattle.judge.specs.declared.Entry.{Entry}
-use Rattle.judge.specs.Judge.{firstRefusal, entriesOf, lengthsOf, nameOf, stageFor, lentBy, fitsIn, blockFits, mapJudged, lengthsJudged, judgedOf, openedOf, reachedOf, lateOf, placedOf, entryOf, standsBy, mapStandsIn, linksStandIn, numberStandsIn, movedOn, Advanced}
+use Rattle.judge.specs.Judge.{firstRefusal, entriesOf, lengthsOf, nameOf, stageFor, lentBy, fitsIn, blockFits, mapJudged, lengthsJudged, judgedOf, openedOf, reachedOf, lateOf, placedOf, entryOf, standsBy, mapStandsIn, linksStandIn, numberStandsIn}
 
 -- ---- one refusal or else another
 
@@ -467,39 +467,6 @@ module _ (j : Job) (cx cy cz ticks : List ℕ) (c : CallName) (z : Lengths) (b s
       unfolding judgedOf
       judged-then table m u h d g x l =
           rw (← first-is, ← fits-told (length m) u h, ← g, ← T (j .nx) (j .ny) (j .nz) .size) (or-then n _ x q (l cx cy cz))
-
--- ---- the tick
-
-pub advanced : (j : Job) (cx cy cz ticks ticks′ : List ℕ) (step faces curves points : ℕ) (s : Stage) → ticks′ ≡ set ticks step 1
-    → anyExtents cx cy cz (λ k. job.stageOf s ≡ nextAfter k (tickedIn ticks′) (job.stageOf (j .stage)))
-    → Advanced j cx cy cz ticks ticks′ step faces curves points (movedOn j s faces curves points)
-advanced j cx cy cz ticks ticks′ step faces curves points s e h = record { is = refl; one = e; next = h (j .nx) (j .ny) (j .nz) }
-
-module _ (j : Job) (cx cy cz : List ℕ) (t t′ : Tables) (c : Call) (step faces curves points : ℕ)
-    (more : (κ : Kind) → adds (stateOf j cx cy cz t) c κ ≡ byKind faces curves points κ) where
-  sums : (s : Stage) (κ : Kind) → jobOf (movedOn j s faces curves points) cx cy cz .sofar κ ≡ jobOf j cx cy cz .sofar κ + byKind faces curves points κ
-  sums s Face = refl
-  sums s Curve = refl
-  sums s Point = refl
-
-  moved : (s : Stage) → t′ .ticks ≡ set (t .ticks) step 1 → job.stageOf s ≡ nextAfter (toldOf j cx cy cz .cutting) (tickedIn (t′ .ticks)) (job.stageOf (j .stage))
-      → Ticked (stateOf j cx cy cz t) (stateOf (movedOn j s faces curves points) cx cy cz t′) c step
-  moved s e h =
-      record {
-        told = refl;
-        ticks = e;
-        stage = next-told (toldOf j cx cy cz .cutting) t′ (job.stageOf (j .stage)) (job.stageOf s) h;
-        sofar = λ κ. sums s κ ∙ ap (λ (x : ℕ). jobOf j cx cy cz .sofar κ + x) (sym (more κ));
-      }
-
-  -- A ticked step is what the joiner asks for.
-  pub ticked-by : (r : Job) → Advanced j cx cy cz (t .ticks) (t′ .ticks) step faces curves points r → Ticked (stateOf j cx cy cz t) (stateOf r cx cy cz t′) c step
-  ticked-by r A = subst (λ (x : Job). Ticked (stateOf j cx cy cz t) (stateOf x cx cy cz t′) c step) (sym (A .is)) (moved (r .stage) (A .one) (A .next))
-
--- What is numbered stays.
-pub numbered-kept : (j : Job) (cx cy cz ticks ticks′ : List ℕ) (step faces curves points : ℕ) (r : Job) → Advanced j cx cy cz ticks ticks′ step faces curves points r
-    → (κ : Kind) → jobOf r cx cy cz .numbered κ ≡ jobOf j cx cy cz .numbered κ
-numbered-kept j cx cy cz ticks ticks′ step faces curves points r A κ = ap (λ (x : Job). jobOf x cx cy cz .numbered κ) (A .is)
 
 -- ---- one call
 

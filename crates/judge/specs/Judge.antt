@@ -1,4 +1,4 @@
--- The tests that the joiner's calls have in common, in the order of the refusals, and what every accepted step does to the job.
+-- The tests that the joiner's calls have in common, in the order of the refusals.
 -- Assumes nothing.
 use mathlib.Core.Path.{_≡_}
 use mathlib.Core.Bool.{Bool, not, cond, _&&_}
@@ -173,30 +173,3 @@ lengthsJudged j ticks c z b step size = firstRefusal (reachedOf j (stageFor c) t
 unfoldable pub judgedOf : joiner.Job → List ℕ → List ℕ → CallName → Lengths → ℕ → ℕ → List ℕ → ℕ
 judgedOf j ticks table c z b step m =
     firstRefusal (reachedOf j (stageFor c) ticks b step) (mapJudged j (blockExtents (j .told .cutting) b) (entryOf table b) (blockFits j c z b (length m)) m)
-
--- ---- the tick
-
--- The job in a stage, with more faces, curves and points.
-abbrev pub movedOn : Job → Stage → ℕ → ℕ → ℕ → Job
-movedOn j stage faces curves points =
-    record {
-      stage = stage;
-      nx = j .nx;
-      ny = j .ny;
-      nz = j .nz;
-      «face_entries» = j .«face_entries»;
-      «curve_entries» = j .«curve_entries»;
-      «point_entries» = j .«point_entries»;
-      faces = j .faces + faces;
-      curves = j .curves + curves;
-      points = j .points + points;
-      «numbered_faces» = j .«numbered_faces»;
-      «numbered_curves» = j .«numbered_curves»;
-      «numbered_points» = j .«numbered_points»;
-    }
-
--- The job and the ticks after a step: "ticked and the stage moved".
-pub record Advanced (j : Job) (cx cy cz ticks ticks′ : List ℕ) (step faces curves points : ℕ) (r : Job) : Type 0 where
-  pub is : r ≡ movedOn j (r .stage) faces curves points
-  pub one : ticks′ ≡ set ticks step 1
-  pub next : job.stageOf (r .stage) ≡ nextAfter (toldOf j cx cy cz .cutting) (tickedIn ticks′) (job.stageOf (j .stage))

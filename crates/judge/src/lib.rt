@@ -1,4 +1,4 @@
-// The judge of a job's calls: the tests that come first, the lengths of what is lent, a block's map against the block table; and the tick of an accepted step.
+// The judge of a job's calls: the tests that come first, the lengths of what is lent, a block's map against the block table.
 // Each call then has its own tests.
 use blocks::Block;
 use blocks::block_at;
@@ -26,21 +26,19 @@ use refusals::STRAY_LABEL;
 use refusals::WRONG_STAGE;
 use refusals::WRONG_TRAY;
 use stages::is_ticked;
-use stages::next_stage;
 use union_find::sound_ways;
 ghost use mathlib.Core.Path.{_≡_};
 ghost use mathlib.Core.Bool.{true, _&&_};
-ghost use Prim.Native.Nat.{_+_, _*_, _≤_, _<_};
+ghost use Prim.Native.Nat.{_+_, _≤_};
 ghost use lib.Dec.{eqb, leb};
 ghost use lib.ListN.{getD, length};
 ghost use Rattle.cells.specs.Extents.{Sized};
 ghost use Rattle.cells.specs.Grid.{cells};
-ghost use Rattle.cutting.specs.Cutting.{intervals};
 ghost use Rattle.blocks.specs.Blocks.{sizeOf};
 ghost use Rattle.joiner.specs.Job.{Face, Curve, Point, lengthsFit};
 ghost use Rattle.job.specs.Jobs.{anyCuts, stageOf, jobOf};
 ghost use Rattle.judge.specs.declared.CallName.{CallName};
-ghost use Rattle.judge.specs.Judge.{entriesOf, kindLent, lentBy, stageFor, fitsIn, mapJudged, lengthsJudged, judgedOf, openedOf, reachedOf, entryOf, standsBy, mapStandsIn, linksStandIn, numberStandsIn, Advanced};
+ghost use Rattle.judge.specs.Judge.{entriesOf, kindLent, lentBy, stageFor, fitsIn, mapJudged, lengthsJudged, judgedOf, openedOf, reachedOf, entryOf, standsBy, mapStandsIn, linksStandIn, numberStandsIn};
 
 // What the block table tells of a block: its largest numbers, and the places of its first face and first curve.
 pub struct Entry {
@@ -489,34 +487,4 @@ pub fn judge(
     let count = block_count(cx, cy, cz);
     let whole = fits(call, count, block, job, z, m.len());
     judge_map(job, block, entry_of(table, b), whole, m)
-}
-
-// ---- the tick
-
-// Ticks a step, moves the stage on with its last one, and adds to the tallies. Not an entry.
-pub fn advance(
-    job: Job,
-    ticks: &mut [u32],
-    cx: &[u32],
-    cy: &[u32],
-    cz: &[u32],
-    step: usize,
-    faces: u32,
-    curves: u32,
-    points: u32,
-) -> Job
-    requires { ⌜ (step < length (now ticks)) × (intervals (now cx) * intervals (now cy) * intervals (now cz) ≤ 16384) ⌝ }
-    requires { ⌜ (job .faces + faces ≤ job .«face_entries») × (job .curves + curves ≤ job .«curve_entries») × (job .points + points ≤ job .«point_entries») ⌝ }
-    ensures { λ r. ⌜ Advanced job (now (cx .entry)) (now (cy .entry)) (now (cz .entry)) (now (ticks .entry)) (now (ticks .exit)) step faces curves points r ⌝ }
-{
-    ticks[step] = 1;
-    let stage = job.stage;
-    let next = next_stage(stage, ticks, cx, cy, cz);
-    Job {
-        stage: next,
-        faces: job.faces + faces,
-        curves: job.curves + curves,
-        points: job.points + points,
-        ..job
-    }
 }

@@ -1,15 +1,18 @@
-// The stage of a job after a step: "the next begins when the last step of the one before is done".
+// The tick of an accepted step, and the stage of the job after it: "the next begins when the last step of the one before is done".
 use blocks::block_count;
 use blocks::intervals;
+use job::Job;
 use job::Stage;
 ghost use mathlib.Core.Path.{_≡_};
 ghost use mathlib.Core.Bool.{not, _||_};
-ghost use Prim.Native.Nat.{suc, _*_, _≤_, _<_};
+ghost use Prim.Native.Nat.{suc, _+_, _*_, _≤_, _<_};
 ghost use lib.Dec.{ltb};
+ghost use lib.ListN.{length};
 ghost use Rattle.cutting.specs.Cutting.{intervals};
 ghost use Rattle.joiner.specs.Job.{Enrol};
 ghost use Rattle.joiner.specs.Stages.{nextStage, finished, nextAfter};
 ghost use Rattle.stages.specs.Ticks.{tickedIn, tickedTo, seamsTicked, seamsTickedTo};
+ghost use Rattle.stages.specs.Advanced.{Advanced};
 ghost use Rattle.blocks.specs.Blocks.{anyExtents};
 ghost use Rattle.job.specs.Jobs.{stageOf};
 
@@ -131,4 +134,34 @@ pub fn next_stage(stage: Stage, ticks: &[u32], cx: &[u32], cy: &[u32], cz: &[u32
         return after(stage, cx, cy, cz);
     }
     stage
+}
+
+// ---- the tick
+
+// Ticks a step, moves the stage on with its last one, and adds to the tallies. Not an entry.
+pub fn advance(
+    job: Job,
+    ticks: &mut [u32],
+    cx: &[u32],
+    cy: &[u32],
+    cz: &[u32],
+    step: usize,
+    faces: u32,
+    curves: u32,
+    points: u32,
+) -> Job
+    requires { ⌜ (step < length (now ticks)) × (intervals (now cx) * intervals (now cy) * intervals (now cz) ≤ 16384) ⌝ }
+    requires { ⌜ (job .faces + faces ≤ job .«face_entries») × (job .curves + curves ≤ job .«curve_entries») × (job .points + points ≤ job .«point_entries») ⌝ }
+    ensures { λ r. ⌜ Advanced job (now (cx .entry)) (now (cy .entry)) (now (cz .entry)) (now (ticks .entry)) (now (ticks .exit)) step faces curves points r ⌝ }
+{
+    ticks[step] = 1;
+    let stage = job.stage;
+    let next = next_stage(stage, ticks, cx, cy, cz);
+    Job {
+        stage: next,
+        faces: job.faces + faces,
+        curves: job.curves + curves,
+        points: job.points + points,
+        ..job
+    }
 }

@@ -23,7 +23,8 @@ use Rattle.job.specs.declared.Job.{Job}
 use Rattle.job.specs.Jobs.{byKind, toldOf, jobOf, stateOf}
 use Rattle.job.specs.Jobs as job
 use Rattle.judge.specs.Judge.{lengthsOf, entryOf}
-use Rattle.judge.proofs.JudgeLaws.{few-of, ticked-by, numbered-kept, step-refused, step-accepted}
+use Rattle.stages.proofs.AdvancedLaws.{ticked-by, numbered-kept}
+use Rattle.judge.proofs.JudgeLaws.{few-of, step-refused, step-accepted}
 use Rattle.judge_cross.specs.Tests.{refusalOf}
 use Rattle.judge_cross.proofs.TestLaws.{refusal-is}
 use Rattle.store_cross.specs.declared.Totals.{Totals}

@@ -32,8 +32,10 @@ use Rattle.job.specs.declared.Job.{Job}
 use Rattle.job.specs.Jobs.{byKind, toldOf, jobOf, tablesOf, stateOf}
 use Rattle.judge.specs.declared.CallName.{CallName}
 use Rattle.judge.specs.declared.Lengths.{Lengths}
-use Rattle.judge.specs.Judge.{lengthsOf, Advanced}
-use Rattle.judge.proofs.JudgeLaws.{or-none, FirstTests, few-of, count-few, lengths-passed, ticked-by, numbered-kept, step-refused, step-accepted}
+use Rattle.stages.specs.Advanced.{Advanced}
+use Rattle.judge.specs.Judge.{lengthsOf}
+use Rattle.stages.proofs.AdvancedLaws.{ticked-by, numbered-kept}
+use Rattle.judge.proofs.JudgeLaws.{or-none, FirstTests, few-of, count-few, lengths-passed, step-refused, step-accepted}
 use Rattle.judge_enrol.specs.declared.Plan.{Plan}
 use Rattle.judge_enrol.specs.Tests.{lentLengths, refusalOf, Judged}
 use Rattle.judge_enrol.proofs.TestLaws.{refusal-is}

@@ -2,13 +2,13 @@
 use blocks::Block;
 use blocks::block_at;
 use job::Job;
-use judge::advance;
 use judge_enrol::Plan;
 use judge_enrol::judge_enrolment;
 use judge_enrol::lengths_of;
 use lists::write_zeros;
 use pass_enrol::store_keys;
 use pass_enrol::store_rows;
+use stages::advance;
 ghost use mathlib.Core.Path.{_≡_};
 ghost use mathlib.Core.List.{[]};
 ghost use Prim.Native.Nat.{_+_, _*_, _≤_, _<_};

@@ -33,8 +33,10 @@ use Rattle.kind_numbers.proofs.NumberedLaws.{numbered-kind}
 use Rattle.job.specs.declared.Job.{Job}
 use Rattle.job.specs.Jobs.{byKind, stageOf, toldOf, jobOf, stateOf}
 use Rattle.judge.specs.declared.Entry.{Entry}
-use Rattle.judge.specs.Judge.{lengthsOf, entryOf, Advanced}
-use Rattle.judge.proofs.JudgeLaws.{few-of, count-few, ticked-by, numbered-kept, step-refused, step-accepted}
+use Rattle.stages.specs.Advanced.{Advanced}
+use Rattle.judge.specs.Judge.{lengthsOf, entryOf}
+use Rattle.stages.proofs.AdvancedLaws.{ticked-by, numbered-kept}
+use Rattle.judge.proofs.JudgeLaws.{few-of, count-few, step-refused, step-accepted}
 use Rattle.judge_point.specs.declared.Plan.{Plan}
 use Rattle.judge_point.specs.Tests.{foundOf, refusalOf, Plans}
 use Rattle.judge_point.proofs.TestLaws.{place-is, found-is, refusal-is}

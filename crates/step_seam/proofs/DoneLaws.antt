@@ -30,8 +30,10 @@ use Rattle.blocks.specs.declared.Block.{Block}
 use Rattle.job.specs.declared.Job.{Job}
 use Rattle.job.specs.Jobs.{byKind, toldOf, stateOf}
 use Rattle.judge.specs.declared.Entry.{Entry}
-use Rattle.judge.specs.Judge.{entryOf, Advanced}
-use Rattle.judge.proofs.JudgeLaws.{few-of, ticked-by, numbered-kept, step-refused, step-accepted}
+use Rattle.stages.specs.Advanced.{Advanced}
+use Rattle.judge.specs.Judge.{entryOf}
+use Rattle.stages.proofs.AdvancedLaws.{ticked-by, numbered-kept}
+use Rattle.judge.proofs.JudgeLaws.{few-of, step-refused, step-accepted}
 use Rattle.step_seam.specs.declared.Joined.{Joined}
 use Rattle.judge_seam.specs.declared.Shared.{Shared}
 use Rattle.judge_seam.specs.Tests.{lent, SharedBy}

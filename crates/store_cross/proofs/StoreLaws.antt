@@ -13,7 +13,8 @@ use Rattle.blocks.specs.declared.Block.{Block}
 use Rattle.job.specs.declared.Job.{Job}
 use Rattle.job.specs.Jobs.{jobOf, toldOf}
 use Rattle.judge.specs.declared.Entry.{Entry}
-use Rattle.judge.specs.Judge.{entryOf, Advanced}
+use Rattle.stages.specs.Advanced.{Advanced}
+use Rattle.judge.specs.Judge.{entryOf}
 use Rattle.store_cross.specs.Stores.{JoinReady, TalliesFit, CurvesJoined}
 
 -- what the tick requires of the tallies

@@ -12,7 +12,8 @@ use Rattle.pass_cross.specs.Crossings.{crossEdges, Trays, Crossed}
 use Rattle.kind_numbers.specs.Numbered.{Numbered, anyCopied, anyCurves}
 use Rattle.job.specs.declared.Job.{Job}
 use Rattle.job.specs.Jobs.{toldOf}
-use Rattle.judge.specs.Judge.{entryOf, Advanced}
+use Rattle.stages.specs.Advanced.{Advanced}
+use Rattle.judge.specs.Judge.{entryOf}
 use Rattle.store_cross.specs.declared.Totals.{Totals}
 
 -- The edges that the crossing of block b joins.

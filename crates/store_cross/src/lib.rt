@@ -1,12 +1,12 @@
 // What an accepted crossing step stores: the block's curves joined; with the last block faces and curves numbered.
 use blocks::block_at;
 use job::Job;
-use judge::advance;
 use judge::entry_of;
 use judge_cross::step_of;
 use kind_numbers::number_copied;
 use kind_numbers::number_curves;
 use pass_cross::cross_cells;
+use stages::advance;
 ghost use mathlib.Core.Path.{_≡_};
 ghost use Prim.Native.Nat.{_+_, _*_, _≤_};
 ghost use lib.ListN.{length};

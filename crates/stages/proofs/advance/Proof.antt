@@ -1,8 +1,8 @@
--- `judge::advance` meets its contract.
+-- `stages::advance` meets its contract.
 use borrow.Author.Needs.{needs}
-use Rattle.judge.proofs.JudgeLaws.{advanced}
-use Rattle.judge.proofs.advance.Statement.{statement}
-use Rattle.judge.proofs.advance.Tie as tie
+use Rattle.stages.proofs.AdvancedLaws.{advanced}
+use Rattle.stages.proofs.advance.Statement.{statement}
+use Rattle.stages.proofs.advance.Tie as tie
 
 mul-ticks : tie.Need-mul-ticks
 mul-ticks c = search needs
