@@ -17,7 +17,7 @@ use Rattle.labels.specs.Number.{numbered, mapDown, labels}
 use Rattle.labels.proofs.LabelLaws.{labels-numbering}
 use Rattle.labels.proofs.CountLaws.{firsts-ascend}
 use Rattle.printer.specs.Printing.{tooMany, listed, printing}
-use Rattle.printer.proofs.MarkLaws.{first-inside}
+use Rattle.pass_first.proofs.MarkLaws.{first-inside}
 use Rattle.printer.proofs.PrintLaws.{by-numbers}
 
 module _ (e : Triple) (codes : List ℕ) where

@@ -19,11 +19,11 @@ use Rattle.cells.specs.Row.{row}
 use Rattle.extents.proofs.SizeLaws.{sized-of}
 use Rattle.labels.specs.Components.{largest, firstCell, componentRow}
 use Rattle.text.specs.Listing.{decimal, spaced, letter, width, coordinates, line, linesFor, linesOf, heading, listing, refusedLine}
-use Rattle.printer.specs.Inner.{State, sunk, Ready}
-use Rattle.printer.specs.Printing.{tooMany, hasListing, fitting, part, Outcome, outcome, listed, printing}
-use Rattle.printer.proofs.SinkLaws.{sunk-then, sunk-more, sunk-whole}
-use Rattle.printer.proofs.TextLaws.{spaced-one, spaced-three, row-more, lines-more}
-use Rattle.printer.proofs.MarkLaws.{row-first}
+use Rattle.text_tray.specs.Sunk.{State, sunk, fitting, part}
+use Rattle.printer.specs.Printing.{tooMany, hasListing, Outcome, outcome, listed, printing, Ready}
+use Rattle.text_tray.proofs.SinkLaws.{sunk-then, sunk-more, sunk-whole}
+use Rattle.printer.proofs.TextLaws.{spaced-three, row-more, lines-more}
+use Rattle.pass_first.proofs.MarkLaws.{row-first}
 
 -- ---- numbers above the cells
 
@@ -107,9 +107,6 @@ refused-word = 114 ∷ 101 ∷ 102 ∷ 117 ∷ 115 ∷ 101 ∷ 100 ∷ []
 
 by-twos : (a b c d f g h : List ℕ) → a ++ b ++ c ++ d ++ f ++ g ++ h ≡ (a ++ b) ++ (c ++ d) ++ (f ++ g) ++ h
 by-twos a b c d f g h = simp append-assoc
-
-pub spaced-put : (n : ℕ) (s t u : State) → t ≡ sunk s (32 ∷ []) → u ≡ sunk t (decimal n) → u ≡ sunk s (spaced (n ∷ []))
-spaced-put n s t u p q = sunk-more s t u _ _ p q _ (spaced-one n)
 
 pub place-put : (x y z : ℕ) (s t u v : State) → t ≡ sunk s (spaced (x ∷ [])) → u ≡ sunk t (spaced (y ∷ [])) → v ≡ sunk u (spaced (z ∷ [])) → v ≡ sunk s (spaced (x ∷ y ∷ z ∷ []))
 place-put x y z s t u v p q r = sunk-more s u v _ _ (sunk-then s t u _ _ p q) r _ (spaced-three x y z)

@@ -1,4 +1,4 @@
--- The parts of a text: digits, numbers each after a space, and lines.
+-- The parts of a text: numbers each after a space, and lines.
 -- Assumes nothing.
 use mathlib.Core.Path.{_≡_, refl, sym, ap, _∙_}
 use mathlib.Core.List.{List, [], _∷_, _++_, append-assoc, append-nil}
@@ -16,33 +16,7 @@ use Rattle.lists.proofs.Lists.{consecutive-split}
 use Rattle.cells.specs.Box.{Triple}
 use Rattle.text.specs.Listing.{decimalIn, decimal, spaced, line, linesFor}
 
--- ---- digits
-
-pub decimal-low : (n : ℕ) → n < 10 → decimal n ≡ (48 + n) ∷ []
-unfolding decimal decimalIn
-decimal-low n h = rw (lt-ltb n 10 h)
-
--- one place more than the digits need changes nothing
-decimal-more : (f n : ℕ) → n < 10 ^ suc f → decimalIn (suc f) n ≡ decimalIn (suc (suc f)) n
-unfolding decimalIn
-decimal-more zero n h = let i : n < 10 = omega arith in rw (lt-ltb n 10 i)
-decimal-more (suc f) n h =
-    by-test (ltb n 10) (λ t. rw t)
-    (λ t. rw t (ap (λ (l : List ℕ). l ++ ((48 + n % 10) ∷ [])) (decimal-more f (n / 10) (omega (arith, pow-suc 10 (suc f))))))
-
-decimal-last : (n : ℕ) → 10 ≤ n → decimalIn 10 n ≡ decimalIn 9 (n / 10) ++ ((48 + n % 10) ∷ [])
-unfolding decimalIn
-decimal-last n h = rw (le-ltb n 10 h)
-
-pub decimal-high : (n : ℕ) → 10 ≤ n → n < 2 ^ 32 → decimal n ≡ decimal (n / 10) ++ ((48 + n % 10) ∷ [])
-unfolding decimal
-decimal-high n h k = decimal-last n h ∙ ap (λ (l : List ℕ). l ++ ((48 + n % 10) ∷ [])) (decimal-more 8 (n / 10) (omega arith))
-
 -- ---- numbers
-
-pub spaced-one : (n : ℕ) → spaced (n ∷ []) ≡ (32 ∷ []) ++ decimal n
-unfolding spaced
-spaced-one n = append-nil _
 
 spaced-append : (a b : List ℕ) → spaced (a ++ b) ≡ spaced a ++ spaced b
 unfolding spaced

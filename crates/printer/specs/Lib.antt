@@ -1,3 +1,2 @@
--- The definitions that the contracts of `print_listing` and `print_refusal` cite, and those that only inner functions cite.
-pub mod Inner
+-- The definitions that the contracts cite.
 pub mod Printing

@@ -1,16 +1,18 @@
 -- What `print_listing` answers and leaves in its trays, for every input (document 01, "Volumes to try").
 -- Assumes nothing.
+use mathlib.Core.Path.{_≡_}
 use mathlib.Core.Bool.{Bool, cond, not, _&&_, _||_}
-use mathlib.Core.List.{List, _++_}
-use Prim.Native.Nat.{ℕ, _-_, min}
+use mathlib.Core.List.{List}
+use Prim.Native.Nat.{ℕ, _≤_}
 use lib.Dec.{eqb, ltb}
-use lib.ListN.{length, take, drop}
+use lib.ListN.{length}
 use Rattle.lists.specs.Lists.{zeros}
 use Rattle.cells.specs.Box.{Triple}
-use Rattle.cells.specs.Extents.{offSize}
+use Rattle.cells.specs.Extents.{Sized, offSize}
 use Rattle.cells.specs.Grid.{cells}
 use Rattle.labels.specs.Components.{largest}
 use Rattle.text.specs.Listing.{listing}
+use Rattle.text_tray.specs.Sunk.{fitting, part}
 
 -- A component has a number above the cells, more than there can be.
 unfoldable pub tooMany : Triple → List ℕ → Bool
@@ -20,14 +22,6 @@ tooMany e m = ltb (cells e) (largest e m 2) || (ltb (cells e) (largest e m 1) ||
 -- labelling leaves has a listing: `labels-printed` (proofs/LabelledLaws). The tray of first cells goes in by its length.
 unfoldable pub hasListing : Triple → List ℕ → ℕ → Bool
 hasListing e m firsts = not (offSize 8 e) && (eqb (length m) (cells e) && (eqb firsts (cells e) && not (tooMany e m)))
-
--- How many bytes of a text, from place `from` on, a tray holds.
-unfoldable pub fitting : ℕ → List ℕ → ℕ → ℕ
-fitting from text tray = min tray (length text - from)
-
--- A tray with those bytes at its start; its others stay.
-unfoldable pub part : ℕ → List ℕ → List ℕ → List ℕ
-part from text t = take (fitting from text (length t)) (drop from text) ++ drop (fitting from text (length t)) t
 
 -- How many bytes are put, and what the tray of first cells and the tray of text hold.
 pub record Outcome : Type 0 where
@@ -45,3 +39,10 @@ listed e m f from t = outcome (fitting from (listing e m) (length t)) (zeros (le
 -- The outcome of a call: where there is no listing, no bytes, and the trays as they were.
 unfoldable pub printing : Triple → List ℕ → List ℕ → ℕ → List ℕ → Outcome
 printing e m f from t = cond (hasListing e m (length f)) (listed e m f from t) (outcome 0 f t)
+
+-- What the inner functions require: the map has a listing.
+pub record Ready (e : Triple) (m : List ℕ) (firsts : ℕ) : Type 0 where
+  pub sized : Sized 8 e
+  pub whole : length m ≡ cells e
+  pub room : firsts ≡ cells e
+  pub counts : (j : ℕ) → j ≤ 2 → largest e m j ≤ cells e

@@ -1,92 +1,30 @@
 // The listing of a map as text, and the line of a refusal, from any place of the text on, into a tray of any size. Nothing is refused: where
 // there is no listing, no byte is put. None of the functions is an entry.
 use extents::off_size;
+use pass_first::count_of;
+use pass_first::mark_firsts;
+use pass_first::wide;
 use rows::row_at;
+use text_tray::Sink;
+use text_tray::put;
+use text_tray::put_count;
+use text_tray::put_spaced;
 use union_find::clear;
 ghost use mathlib.Core.Path.{_≡_};
-ghost use mathlib.Core.List.{[], _∷_, _++_};
+ghost use mathlib.Core.List.{[], _∷_};
 ghost use Prim.Native.Nat.{_+_, _-_, _<_, _≤_};
 ghost use lib.ListN.{length, take};
 ghost use Rattle.lists.specs.Lists.{consecutive, zeros};
 ghost use Rattle.cells.specs.Box.{triple};
 ghost use Rattle.cells.specs.Extents.{Sized};
-ghost use Rattle.cells.specs.Grid.{cells, order};
+ghost use Rattle.cells.specs.Grid.{cells};
 ghost use Rattle.labels.specs.Components.{largest, firstCell};
-ghost use Rattle.text.specs.Listing.{decimal, spaced, letter, coordinates, line, linesFor, linesOf, heading, listing, refusedLine};
-ghost use Rattle.printer.specs.Inner.{state, sunk, Sought, larger, Marks, Ready};
-ghost use Rattle.printer.specs.Printing.{tooMany, hasListing, outcome, fitting, part, printing};
-
-const SPACE: u8 = 32;
+ghost use Rattle.text.specs.Listing.{spaced, letter, coordinates, line, linesFor, linesOf, heading, listing, refusedLine};
+ghost use Rattle.text_tray.specs.Sunk.{state, sunk, fitting, part};
+ghost use Rattle.pass_first.specs.Marks.{Sought, Marks};
+ghost use Rattle.printer.specs.Printing.{tooMany, hasListing, outcome, printing, Ready};
 
 const LINE_END: u8 = 10;
-
-// How many bytes of the text still stand before the part that is asked for, and how many are in the tray.
-struct Sink {
-    skip: usize,
-    at: usize,
-}
-
-// Puts a byte.
-fn put(s: Sink, out: &mut [u8], b: u8) -> Sink
-    ensures { λ r. ⌜ state r (now (out .exit)) ≡ sunk (state s (now (out .entry))) (b ∷ []) ⌝ }
-{
-    let skip = s.skip;
-    let at = s.at;
-    if skip > 0 {
-        return Sink {
-            skip: skip - 1,
-            at: at,
-        };
-    }
-    if at < out.len() {
-        out[at] = b;
-        return Sink {
-            skip: 0,
-            at: at + 1,
-        };
-    }
-    s
-}
-
-// Puts a word.
-fn put_word(s: Sink, out: &mut [u8], word: &[u8]) -> Sink
-    ensures { λ r. ⌜ state r (now (out .exit)) ≡ sunk (state s (now (out .entry))) (now (word .entry)) ⌝ }
-{
-    let mut t = s;
-    let mut i: usize = 0;
-    while i < word.len() {
-        t = put(t, out, word[i]);
-        i += 1;
-    }
-    t
-}
-
-// Puts a digit.
-fn put_digit(s: Sink, out: &mut [u8], d: u32) -> Sink
-    requires { ⌜ d < 10 ⌝ }
-    ensures { λ r. ⌜ state r (now (out .exit)) ≡ sunk (state s (now (out .entry))) ((48 + d) ∷ []) ⌝ }
-{
-    put(s, out, (48 + d) as u8)
-}
-
-// Puts a number: the digits before the last, and the last.
-fn put_decimal(s: Sink, out: &mut [u8], n: u32) -> Sink
-    ensures { λ r. ⌜ state r (now (out .exit)) ≡ sunk (state s (now (out .entry))) (decimal n) ⌝ }
-{
-    if n < 10 {
-        return put_digit(s, out, n);
-    }
-    let t = put_decimal(s, out, n / 10);
-    put_digit(t, out, n % 10)
-}
-
-// Puts a number after a space.
-fn put_spaced(s: Sink, out: &mut [u8], n: u32) -> Sink
-    ensures { λ r. ⌜ state r (now (out .exit)) ≡ sunk (state s (now (out .entry))) (spaced (n ∷ [])) ⌝ }
-{
-    let t = put(s, out, SPACE);
-    put_decimal(t, out, n)
-}
 
 // Puts the first k numbers of a row.
 fn put_row(s: Sink, out: &mut [u8], row: [u32; 6], k: usize) -> Sink
@@ -150,78 +88,6 @@ fn put_line(
     put(s, out, LINE_END)
 }
 
-// The order of cell p.
-fn order_of(nx: usize, ny: usize, nz: usize, p: usize) -> usize
-    requires { ⌜ Sized 8 (triple nx ny nz) ⌝ }
-    ensures { λ r. ⌜ r ≡ order (triple nx ny nz) p ⌝ }
-{
-    let w = 2 * nx - 1;
-    let h = 2 * ny - 1;
-    3 - (p % w % 2 + p / w % h % 2 + p / (w * h) % 2)
-}
-
-// The larger of m and the number of cell p, where it has order j.
-fn larger_at(map: &[u32], nx: usize, ny: usize, nz: usize, j: usize, p: usize, m: u32) -> u32
-    requires { ⌜ Sought (triple nx ny nz) (now map) j × (p < cells (triple nx ny nz)) ⌝ }
-    ensures { λ r. ⌜ r ≡ larger (triple nx ny nz) (now (map .entry)) j p m ⌝ }
-{
-    if order_of(nx, ny, nz, p) != j {
-        return m;
-    }
-    let v = map[p];
-    if v < m { m } else { v }
-}
-
-// How many components of order j there are.
-fn count_of(map: &[u32], nx: usize, ny: usize, nz: usize, j: usize) -> u32
-    requires { ⌜ Sought (triple nx ny nz) (now map) j ⌝ }
-    ensures { λ r. ⌜ r ≡ largest (triple nx ny nz) (now (map .entry)) j ⌝ }
-{
-    let mut m: u32 = 0;
-    let mut p = map.len();
-    while p > 0 {
-        p -= 1;
-        m = larger_at(map, nx, ny, nz, j, p, m);
-    }
-    m
-}
-
-fn wide(v: u32) -> usize
-    ensures { λ r. ⌜ r ≡ v ⌝ }
-{
-    v as usize
-}
-
-// Marks cell p, where it has order j, as the first of its number.
-fn mark_cell(map: &[u32], nx: usize, ny: usize, nz: usize, j: usize, p: usize, firsts: &mut [u32])
-    requires { ⌜ Sought (triple nx ny nz) (now map) j × (p < cells (triple nx ny nz)) × Marks (triple nx ny nz) (now map) j (p + 1) (now firsts) ⌝ }
-    ensures { λ _. ⌜ Marks (triple nx ny nz) (now (map .entry)) j p (now (firsts .exit)) ⌝ }
-{
-    if order_of(nx, ny, nz, p) != j {
-        return;
-    }
-    let v = wide(map[p]);
-    if v == 0 {
-        return;
-    }
-    if v > firsts.len() {
-        return;
-    }
-    firsts[v - 1] = p as u32;
-}
-
-// Marks the first cells of the components of order j, from the last cell down.
-fn mark_firsts(map: &[u32], nx: usize, ny: usize, nz: usize, j: usize, firsts: &mut [u32])
-    requires { ⌜ Sought (triple nx ny nz) (now map) j × (now firsts ≡ zeros (cells (triple nx ny nz))) ⌝ }
-    ensures { λ _. ⌜ Marks (triple nx ny nz) (now (map .entry)) j 0 (now (firsts .exit)) ⌝ }
-{
-    let mut p = map.len();
-    while p > 0 {
-        p -= 1;
-        mark_cell(map, nx, ny, nz, j, p, firsts);
-    }
-}
-
 // Puts the lines of the first `count` components of order j.
 fn put_lines(
     s: Sink,
@@ -267,14 +133,6 @@ fn put_order(
     let t = put_lines(s, out, nx, ny, nz, map, j, firsts, count);
     clear(firsts);
     t
-}
-
-// Puts a word and a number after it.
-fn put_count(s: Sink, out: &mut [u8], word: &[u8], n: u32) -> Sink
-    ensures { λ r. ⌜ state r (now (out .exit)) ≡ sunk (state s (now (out .entry))) (now (word .entry) ++ spaced (n ∷ [])) ⌝ }
-{
-    let t = put_word(s, out, word);
-    put_spaced(t, out, n)
 }
 
 // Puts the heading.

@@ -23,6 +23,7 @@ use Rattle.parser.specs.Reading.{Outcome, taskOf, finished}
 use Rattle.parser.proofs.TextLaws.{accepted-of, text-read}
 use Rattle.labeller.specs.Labelling as labeller
 use Rattle.labeller.proofs.LabellingLaws.{ready-accepted}
+use Rattle.text_tray.specs.Sunk.{fitting, part}
 use Rattle.printer.specs.Printing as printer
 use Rattle.printer.proofs.LabelledLaws.{labels-printed}
 
@@ -65,6 +66,6 @@ module _ (text d : List ℕ) (room : length d ≡ 512) where
 
       -- and the listing of their map is printed
       pub prints-listing : (from : ℕ) (t : List ℕ) → printer.printing e (labels e (askedCodes text)) w from t
-          ≡ printer.outcome (printer.fitting from (printed text) (length t)) (zeros (length w)) (printer.part from (printed text) t)
+          ≡ printer.outcome (fitting from (printed text) (length t)) (zeros (length w)) (part from (printed text) t)
       unfolding printed printer.listed
       prints-listing from t = labels-printed e (askedCodes text) w from t (accepted-of text z .size) j ∙ rw (eq-eqb _ _ z)

@@ -1,7 +1,7 @@
 -- `printer::print_listing` meets its contract.
 use mathlib.Core.Path.{_∙_, sym}
 use borrow.Author.Needs.{needs}
-use Rattle.printer.proofs.SinkLaws.{sunk-whole}
+use Rattle.text_tray.proofs.SinkLaws.{sunk-whole}
 use Rattle.printer.proofs.PrintLaws.{ready-of, print-none, print-listed}
 use Rattle.printer.proofs.print_listing.Statement.{statement}
 use Rattle.printer.proofs.print_listing.Tie as tie

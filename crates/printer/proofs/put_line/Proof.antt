@@ -1,6 +1,6 @@
 -- `printer::put_line` meets its contract.
 use borrow.Author.Needs.{needs}
-use Rattle.printer.proofs.MarkLaws.{first-inside}
+use Rattle.pass_first.proofs.MarkLaws.{first-inside}
 use Rattle.printer.proofs.PrintLaws.{line-put}
 use Rattle.printer.proofs.put_line.Statement.{statement}
 use Rattle.printer.proofs.put_line.Tie as tie

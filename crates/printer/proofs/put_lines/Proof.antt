@@ -6,9 +6,9 @@ use borrow.Author.Needs.{needs}
 use Rattle.lists.specs.Lists.{consecutive}
 use Rattle.cells.specs.Box.{triple}
 use Rattle.text.specs.Listing.{linesFor}
-use Rattle.printer.specs.Inner.{state, sunk}
-use Rattle.printer.proofs.SinkLaws.{sunk-none}
-use Rattle.printer.proofs.MarkLaws.{mark-read}
+use Rattle.text_tray.specs.Sunk.{state, sunk}
+use Rattle.text_tray.proofs.SinkLaws.{sunk-none}
+use Rattle.pass_first.proofs.MarkLaws.{mark-read}
 use Rattle.printer.proofs.PrintLaws.{lines-next, lines-all}
 use Rattle.printer.proofs.put_lines.Statement.{statement}
 use Rattle.printer.proofs.put_lines.Tie as tie

@@ -5,8 +5,8 @@ use native.Mathlib.Omega.{arith}
 use lib.ListN.{length, take}
 use borrow.Author.Needs.{needs}
 use Rattle.text.specs.Listing.{spaced}
-use Rattle.printer.specs.Inner.{state, sunk}
-use Rattle.printer.proofs.SinkLaws.{sunk-none}
+use Rattle.text_tray.specs.Sunk.{state, sunk}
+use Rattle.text_tray.proofs.SinkLaws.{sunk-none}
 use Rattle.printer.proofs.PrintLaws.{row-next, row-all}
 use Rattle.printer.proofs.put_row.Statement.{statement}
 use Rattle.printer.proofs.put_row.Tie as tie

@@ -1,8 +1,8 @@
--- `printer::put_spaced` meets its contract.
+-- `text_tray::put_spaced` meets its contract.
 use borrow.Author.Needs.{needs}
-use Rattle.printer.proofs.PrintLaws.{spaced-put}
-use Rattle.printer.proofs.put_spaced.Statement.{statement}
-use Rattle.printer.proofs.put_spaced.Tie as tie
+use Rattle.text_tray.proofs.NumberLaws.{spaced-put}
+use Rattle.text_tray.proofs.put_spaced.Statement.{statement}
+use Rattle.text_tray.proofs.put_spaced.Tie as tie
 
 put-requires : tie.Need-put-requires
 put-requires c κs = search needs

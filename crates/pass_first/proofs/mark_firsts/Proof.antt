@@ -1,14 +1,14 @@
--- `printer::mark_firsts` meets its contract. The loop's invariant: the first cells from cell p on are marked.
+-- `pass_first::mark_firsts` meets its contract. The loop's invariant: the first cells from cell p on are marked.
 use Prim.Native.Nat.{_≤_}
 use mathlib.Core.Path.{_≡_, refl}
 use native.Mathlib.Omega.{arith}
 use lib.ListN.{length}
 use borrow.Author.Needs.{needs}
 use Rattle.cells.specs.Box.{triple}
-use Rattle.printer.specs.Inner.{Marks}
-use Rattle.printer.proofs.MarkLaws.{marks-start, marks-down, marks-all}
-use Rattle.printer.proofs.mark_firsts.Statement.{statement}
-use Rattle.printer.proofs.mark_firsts.Tie as tie
+use Rattle.pass_first.specs.Marks.{Marks}
+use Rattle.pass_first.proofs.MarkLaws.{marks-start, marks-down, marks-all}
+use Rattle.pass_first.proofs.mark_firsts.Statement.{statement}
+use Rattle.pass_first.proofs.mark_firsts.Tie as tie
 
 abbrev Inv-loop : tie.InvT-loop
 Inv-loop map nx ny nz j firsts₀ p₀ firsts p = (p ≤ length map) × (length firsts ≡ length firsts₀) × Marks (triple nx ny nz) map j p firsts

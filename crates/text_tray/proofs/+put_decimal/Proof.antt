@@ -1,17 +1,17 @@
--- `printer::put_decimal` meets its contract. The measure is the number.
+-- `text_tray::put_decimal` meets its contract. The measure is the number.
 use Prim.Native.Nat.{ℕ, _<_}
 use native.Mathlib.Omega.{arith}
 use borrow.Author.Needs.{needs}
-use Rattle.printer.proofs.SinkLaws.{sunk-then}
-use Rattle.printer.proofs.TextLaws.{decimal-low, decimal-high}
-use Rattle.printer.proofs.put_digit.Reads as put-digit-reads
+use Rattle.text_tray.proofs.SinkLaws.{sunk-then}
+use Rattle.text_tray.proofs.NumberLaws.{decimal-low, decimal-high}
+use Rattle.text_tray.proofs.put_digit.Reads as put-digit-reads
 use borrow.Fn.Kinds.{In}
 use borrow.Fn.PlainCycle.{Measures, is, falls, and}
-use Rattle.printer.proofs.put_decimal.Reads as put-decimal
-use Rattle.printer.proofs.put_decimal.Kinds as put-decimal-kinds
-use Rattle.printer.proofs.+put_decimal.Lts-put_decimal as put-decimal-lts
-use Rattle.printer.proofs.+put_decimal.{statement}
-use Rattle.printer.proofs.+put_decimal.Tie.{close}
+use Rattle.text_tray.proofs.put_decimal.Reads as put-decimal
+use Rattle.text_tray.proofs.put_decimal.Kinds as put-decimal-kinds
+use Rattle.text_tray.proofs.+put_decimal.Lts-put_decimal as put-decimal-lts
+use Rattle.text_tray.proofs.+put_decimal.{statement}
+use Rattle.text_tray.proofs.+put_decimal.Tie.{close}
 
 abbrev μ-put-decimal : Measures 1 put-decimal-kinds.ps ℕ
 μ-put-decimal κs a = a .1 .1 .0

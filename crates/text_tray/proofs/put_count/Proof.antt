@@ -1,8 +1,8 @@
--- `printer::put_count` meets its contract.
+-- `text_tray::put_count` meets its contract.
 use borrow.Author.Needs.{needs}
-use Rattle.printer.proofs.SinkLaws.{sunk-then}
-use Rattle.printer.proofs.put_count.Statement.{statement}
-use Rattle.printer.proofs.put_count.Tie as tie
+use Rattle.text_tray.proofs.SinkLaws.{sunk-then}
+use Rattle.text_tray.proofs.put_count.Statement.{statement}
+use Rattle.text_tray.proofs.put_count.Tie as tie
 
 put-word-requires : tie.Need-put-word-requires
 put-word-requires c κs = search needs

@@ -1,13 +1,13 @@
--- `printer::put_word` meets its contract. The loop's invariant: the first i bytes are put.
+-- `text_tray::put_word` meets its contract. The loop's invariant: the first i bytes are put.
 use Prim.Native.Nat.{_-_, _≤_}
 use mathlib.Core.Path.{_≡_, refl}
 use native.Mathlib.Omega.{arith}
 use lib.ListN.{length, take}
 use borrow.Author.Needs.{needs}
-use Rattle.printer.specs.Inner.{state, sunk}
-use Rattle.printer.proofs.SinkLaws.{sunk-none, word-next, word-all}
-use Rattle.printer.proofs.put_word.Statement.{statement}
-use Rattle.printer.proofs.put_word.Tie as tie
+use Rattle.text_tray.specs.Sunk.{state, sunk}
+use Rattle.text_tray.proofs.SinkLaws.{sunk-none, word-next, word-all}
+use Rattle.text_tray.proofs.put_word.Statement.{statement}
+use Rattle.text_tray.proofs.put_word.Tie as tie
 
 abbrev Inv-loop : tie.InvT-loop
 Inv-loop out₀ word t₀ i₀ out t i = (i ≤ length word) × (length out ≡ length out₀) × (state t out ≡ sunk (state t₀ out₀) (take i word))

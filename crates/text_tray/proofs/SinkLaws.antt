@@ -11,8 +11,7 @@ use lib.ListN.{length, getD, take, drop, set, length-set, length-take, length-dr
 use lib.Seq.{take-all, take-nil, take-suc, sets, sets-eq}
 use borrow.Author.Tests.{ltb-true, ltb-false, ne-eqb, eq-eqb, lt-ltb, le-ltb}
 use Rattle.lists.proofs.Cases.{by-test}
-use Rattle.printer.specs.Inner.{State, sunkByte, sunk}
-use Rattle.printer.specs.Printing.{fitting, part}
+use Rattle.text_tray.specs.Sunk.{State, sunkByte, sunk, fitting, part}
 
 abbrev at-state : ℕ → ℕ → List ℕ → State
 at-state k a t = record { skip = k; at = a; tray = t }

@@ -20,7 +20,7 @@ use Rattle.cells.specs.Row.{rowOf, row}
 use Rattle.cells.proofs.ExtentLaws.{cells-are, layer-low}
 use Rattle.labels.specs.Components.{ofOrder, largest, component, firstCell, rowAtFirst, componentRow}
 use Rattle.labels.proofs.ComponentLaws.{of-order-out}
-use Rattle.printer.specs.Inner.{cellsFrom, larger, firstFrom, Marks}
+use Rattle.pass_first.specs.Marks.{cellsFrom, larger, firstFrom, Marks}
 
 -- ---- the cells from p on
 

@@ -1,12 +1,12 @@
--- `printer::order_of` meets its contract.
+-- `pass_first::order_of` meets its contract.
 use mathlib.Core.Path.{refl}
 use native.Mathlib.Omega.{arith}
 use borrow.Author.Needs.{needs}
 use Rattle.cells.specs.Box.{place}
 use Rattle.cells.specs.Grid.{sides, parity, order}
 use Rattle.cells.proofs.ExtentLaws.{layer-low, layer-high}
-use Rattle.printer.proofs.order_of.Statement.{statement}
-use Rattle.printer.proofs.order_of.Tie as tie
+use Rattle.pass_first.proofs.order_of.Statement.{statement}
+use Rattle.pass_first.proofs.order_of.Tie as tie
 
 mul-w : tie.Need-mul-w
 mul-w c = search needs

@@ -1,10 +1,10 @@
--- `printer::mark_cell` meets its contract.
+-- `pass_first::mark_cell` meets its contract.
 use native.Mathlib.Omega.{arith}
 use borrow.Author.Needs.{needs}
 use Rattle.cells.proofs.ExtentLaws.{cells-high}
-use Rattle.printer.proofs.MarkLaws.{marks-past, marks-none, marks-beyond, marks-set}
-use Rattle.printer.proofs.mark_cell.Statement.{statement}
-use Rattle.printer.proofs.mark_cell.Tie as tie
+use Rattle.pass_first.proofs.MarkLaws.{marks-past, marks-none, marks-beyond, marks-set}
+use Rattle.pass_first.proofs.mark_cell.Statement.{statement}
+use Rattle.pass_first.proofs.mark_cell.Tie as tie
 
 order-of-requires : tie.Need-order-of-requires
 order-of-requires c κs = search needs

@@ -1,8 +1,8 @@
--- `printer::larger_at` meets its contract.
+-- `pass_first::larger_at` meets its contract.
 use borrow.Author.Needs.{needs}
-use Rattle.printer.proofs.MarkLaws.{larger-other, larger-less, larger-more}
-use Rattle.printer.proofs.larger_at.Statement.{statement}
-use Rattle.printer.proofs.larger_at.Tie as tie
+use Rattle.pass_first.proofs.MarkLaws.{larger-other, larger-less, larger-more}
+use Rattle.pass_first.proofs.larger_at.Statement.{statement}
+use Rattle.pass_first.proofs.larger_at.Tie as tie
 
 order-of-requires : tie.Need-order-of-requires
 order-of-requires c κs = search needs

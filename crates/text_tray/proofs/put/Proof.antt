@@ -1,8 +1,8 @@
--- `printer::put` meets its contract.
+-- `text_tray::put` meets its contract.
 use borrow.Author.Needs.{needs}
-use Rattle.printer.proofs.SinkLaws.{put-skipped, put-in, put-full}
-use Rattle.printer.proofs.put.Statement.{statement}
-use Rattle.printer.proofs.put.Tie as tie
+use Rattle.text_tray.proofs.SinkLaws.{put-skipped, put-in, put-full}
+use Rattle.text_tray.proofs.put.Statement.{statement}
+use Rattle.text_tray.proofs.put.Tie as tie
 
 sub-t7 : tie.Need-sub-t7
 sub-t7 c = search needs

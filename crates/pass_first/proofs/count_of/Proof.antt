@@ -1,13 +1,13 @@
--- `printer::count_of` meets its contract. The loop's invariant: m is the largest number from cell p on.
+-- `pass_first::count_of` meets its contract. The loop's invariant: m is the largest number from cell p on.
 use Prim.Native.Nat.{_≤_}
 use mathlib.Core.Path.{_≡_}
 use native.Mathlib.Omega.{arith}
 use lib.ListN.{length}
 use borrow.Author.Needs.{needs}
 use Rattle.cells.specs.Box.{triple}
-use Rattle.printer.proofs.MarkLaws.{largestFrom, largest-start, largest-next, largest-all}
-use Rattle.printer.proofs.count_of.Statement.{statement}
-use Rattle.printer.proofs.count_of.Tie as tie
+use Rattle.pass_first.proofs.MarkLaws.{largestFrom, largest-start, largest-next, largest-all}
+use Rattle.pass_first.proofs.count_of.Statement.{statement}
+use Rattle.pass_first.proofs.count_of.Tie as tie
 
 abbrev Inv-loop : tie.InvT-loop
 Inv-loop map nx ny nz j m₀ p₀ m p = (p ≤ length map) × (m ≡ largestFrom (triple nx ny nz) map j p)
