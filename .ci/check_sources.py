@@ -1,4 +1,4 @@
-"""Checks that no source gives a symbol of the kit's libraries a meaning of its own, and that proofs name their places.
+"""Checks that no source gives a symbol of the kit's libraries a meaning of its own, that proofs name their places, and that crates.txt is true.
 
 The libraries are read from the kit: every module of those that definitions and proofs cite (LIBRARIES). The kit's
 others are the program logic behind the generated proofs; no source imports from them but proofs by hand (LOGIC).
@@ -10,6 +10,9 @@ symbols of the modules in CORE, which definitions cite bare, may not be fields, 
 Names that the kit's form of a proof file asks for (the answer to a need, the proved statement) are not the author's.
 
 A place on the way of a proof that is more than four steps back has a name: no chain of `.before` is longer than four.
+
+crates.txt lists, for each crate, the libraries of the repository that its sources name and no others, and each crate stands under the heading of
+its level, one above the highest that it uses.
 """
 import glob
 import json
@@ -97,17 +100,53 @@ def defined(path, homes):
                 yield f'{n} is a symbol of {", ".join(sorted(homes[n]))} and is defined here'
 
 
-def main():
-    homes = exported()
-    found = 0
+def sources():
+    """Each source with its text, comments left out."""
     for path in sorted(glob.glob('crates/*/src/**/*.rt', recursive=True) + glob.glob('crates/*/specs/**/*.antt', recursive=True) + glob.glob('crates/*/proofs/**/*.antt', recursive=True)):
         with open(path, encoding='utf-8') as f:
-            text = re.sub(r'(--|//).*$', '', f.read(), flags=re.M)
+            yield path, re.sub(r'(--|//).*$', '', f.read(), flags=re.M)
+
+
+def listed():
+    """Each crate of crates.txt with its libraries and the level that it stands under."""
+    crates, level = {}, None
+    with open('crates.txt', encoding='utf-8') as f:
+        for line in f:
+            heading, entry = re.match(r'# ---- level (\d+)', line), re.match(r'(\w+):(.*)', line)
+            if heading:
+                level = int(heading.group(1))
+            elif entry:
+                crates[entry.group(1)] = (entry.group(2).split(), level)
+    return crates
+
+
+def untrue(crates, texts):
+    """What crates.txt says of a crate and its sources do not."""
+    for crate, (libraries, level) in crates.items():
+        own = [name for name in libraries if name in crates]
+        text = ' '.join(texts.get(crate, []))
+        for name in crates:
+            used = name != crate and re.search(rf'Rattle.{name}[.·]|\b{name}::', text)
+            if bool(used) != (name in own):
+                yield f'crates.txt: {crate} {"uses" if used else "lists"} {name} and {"does not list it" if used else "does not use it"}'
+        if level != 1 + max((crates[name][1] for name in own), default=-1):
+            yield f'crates.txt: {crate} does not stand under the heading of its level'
+
+
+def main():
+    homes = exported()
+    texts = {}
+    found = 0
+    for path, text in sources():
+        texts.setdefault(path.split('/')[1], []).append(text)
         faults = list(imported(text, homes)) + (list(defined(path, homes)) if path.endswith('.antt') else [])
         faults += ['a chain of .before is longer than four: name a place on the way by let'] if CHAIN.search(text) else []
         for fault in faults:
             print(f'{path}: {fault}')
         found += len(faults)
+    for fault in untrue(listed(), texts):
+        print(fault)
+        found += 1
     return 1 if found else 0
 
 
