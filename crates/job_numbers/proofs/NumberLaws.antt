@@ -9,7 +9,7 @@ use Rattle.joiner.specs.Job.{stageNumber}
 use Rattle.job.specs.declared.Job.{Job}
 use Rattle.job.specs.declared.Stage.{Stage}
 use Rattle.job.specs.Jobs.{stageOf}
-use Rattle.job_numbers.specs.Numbers.{stageIn, jobIn, numbersOf, keptNumbers}
+use Rattle.job_numbers.specs.Numbers.{jobAt, stageIn, jobIn, numbersOf, keptNumbers}
 
 stage-back : (s other : Stage) → stageIn (stageNumber (stageOf s)) other ≡ s
 unfolding stageIn stageNumber
@@ -62,21 +62,6 @@ kept-old refusal ns j n = rw (ne-eqb refusal 0 n)
 
 -- ---- the way of `job_in`
 
-pub job-read : (ns : List ℕ) (other s : Stage) → s ≡ stageIn (getD ns 0 0) other
-    → record {
-      stage = s;
-      nx = getD ns 1 0;
-      ny = getD ns 2 0;
-      nz = getD ns 3 0;
-      «face_entries» = getD ns 4 0;
-      «curve_entries» = getD ns 5 0;
-      «point_entries» = getD ns 6 0;
-      faces = getD ns 7 0;
-      curves = getD ns 8 0;
-      points = getD ns 9 0;
-      «numbered_faces» = getD ns 10 0;
-      «numbered_curves» = getD ns 11 0;
-      «numbered_points» = getD ns 12 0;
-    } ≡ jobIn ns other
+pub job-read : (ns : List ℕ) (other s : Stage) → s ≡ stageIn (getD ns 0 0) other → jobAt s ns ≡ jobIn ns other
 unfolding jobIn
 job-read ns other s e = rw e

@@ -15,11 +15,11 @@ unfoldable pub stageIn : ℕ → Stage → Stage
 stageIn n other =
     cond (eqb n 0) Stage.Enrol (cond (eqb n 1) Stage.Seam (cond (eqb n 2) Stage.Crossing (cond (eqb n 3) Stage.Points (cond (eqb n 4) Stage.Closed other))))
 
--- The job that the numbers tell.
-unfoldable pub jobIn : List ℕ → Stage → Job
-jobIn ns other =
+-- The job in a stage, with the numbers after the first.
+abbrev pub jobAt : Stage → List ℕ → Job
+jobAt s ns =
     record {
-      stage = stageIn (getD ns 0 0) other;
+      stage = s;
       nx = getD ns 1 0;
       ny = getD ns 2 0;
       nz = getD ns 3 0;
@@ -33,6 +33,10 @@ jobIn ns other =
       «numbered_curves» = getD ns 11 0;
       «numbered_points» = getD ns 12 0;
     }
+
+-- The job that the numbers tell.
+unfoldable pub jobIn : List ℕ → Stage → Job
+jobIn ns other = jobAt (stageIn (getD ns 0 0) other) ns
 
 -- The numbers of a job.
 unfoldable pub numbersOf : Job → List ℕ

@@ -19,7 +19,7 @@ use Rattle.cells.specs.Row.{rowOf, row, occupied, active}
 use Rattle.labels.specs.Number.{pairs, alike, edgesAt, orderBelow, edges, activeOf, number, numberedAt, numbered as numbered-of, codeAt, mapDown, labels}
 use Rattle.labels.specs.Components.{ofOrder, largest, component, rowAtFirst, componentRow}
 use Rattle.cutting.specs.Cutting.{ascends, cutList, intervals, lowEnd, highEnd, blockSides, blocks, goodCut, interval, origin, blockExtents, embed, blockCodes, follows, sameInterval, seam}
-use Rattle.joiner.specs.Job.{stageNumber, sameStage, ticked, countOf, fromOf, node, keyOf, firstAt, lengthsFit, blockTrays, linkTrays, foundTrays, numberTrays, firstTrays, listedTrays, kindTrays, Seam, Crossing, Points, Closed}
+use Rattle.joiner.specs.Job.{Stage, stageNumber, sameStage, ticked, countOf, fromOf, node, keyOf, firstAt, lengthsFit, blockTrays, linkTrays, foundTrays, numberTrays, firstTrays, listedTrays, kindTrays, Seam, Crossing, Points, Closed}
 use Rattle.joiner.specs.Stages.{hasOn, hasCell, products, shared, seams, enrolStep, seamAxis, seamStep, crossingStep, pointStep, stepsOf, nextStage, finished, nextAfter}
 use Rattle.joiner.specs.Calls.{differs, overfull, full, Call, enrol, join, cross, point}
 use Rattle.joiner.specs.Declines.{tallyFits, talliesFit, filled, counted, standing, mapStands, waysStand, linksStand, allLinksStand, rowsStand, numberStands, curvesStand, handedStands, lookStands, lastCrossing, stray, finalOf, finalRow, pointCells, adds, declines, refusal}
@@ -84,65 +84,57 @@ steps-are = ap₂ {C = List Call} (λ (l u : List ℕ). enrol 0 l ∷ enrol 1 u 
 
 -- ---- the state after each stage
 
-enrolled : Image
-enrolled = record {
-  stage = Seam;
+-- The tallies, the block table, the keys and the rows stay from the enrolment on.
+abbrev later : Stage → List ℕ → List ℕ → List (List ℕ) → List (List ℕ) → List (List ℕ) → List (List ℕ) → Image
+later stage numbered ticks links numbers firsts listed = record {
+  stage = stage;
   sofar = 5 ∷ 2 ∷ 0 ∷ [];
-  numbered = 0 ∷ 0 ∷ 0 ∷ [];
-  ticks = 1 ∷ 0 ∷ 0 ∷ 0 ∷ 0 ∷ 0 ∷ 1 ∷ 0 ∷ 0 ∷ 0 ∷ 0 ∷ 0 ∷ [];
+  numbered = numbered;
+  ticks = ticks;
   blocks = 1 ∷ 0 ∷ 0 ∷ 0 ∷ 0 ∷ 4 ∷ 2 ∷ 0 ∷ 1 ∷ 0 ∷ [];
-  links = (0 ∷ 0 ∷ 0 ∷ 0 ∷ 0 ∷ []) ∷ (0 ∷ 0 ∷ []) ∷ [] ∷ [];
+  links = links;
   keys = (737280 ∷ 1589249 ∷ 1654785 ∷ 2211841 ∷ 3063809 ∷ []) ∷ (2326529 ∷ 2392065 ∷ []) ∷ [] ∷ [];
   rows = (1 ∷ 3 ∷ 1 ∷ 3 ∷ 1 ∷ 3 ∷ 1 ∷ 2 ∷ 2 ∷ 3 ∷ []) ∷ (2 ∷ 4 ∷ 5 ∷ 0 ∷ 3 ∷ 4 ∷ 5 ∷ 0 ∷ []) ∷ [] ∷ [];
-  numbers = (7 ∷ 7 ∷ 7 ∷ 7 ∷ 7 ∷ []) ∷ (7 ∷ 7 ∷ []) ∷ [] ∷ [];
-  firsts = (7 ∷ 7 ∷ 7 ∷ 7 ∷ 7 ∷ []) ∷ (7 ∷ 7 ∷ []) ∷ [] ∷ [];
-  listed = (7 ∷ 7 ∷ 7 ∷ 7 ∷ 7 ∷ 7 ∷ 7 ∷ 7 ∷ 7 ∷ 7 ∷ []) ∷ (7 ∷ 7 ∷ 7 ∷ 7 ∷ 7 ∷ 7 ∷ 7 ∷ 7 ∷ []) ∷ [] ∷ [];
+  numbers = numbers;
+  firsts = firsts;
+  listed = listed;
 }
+
+enrolled : Image
+enrolled =
+    later Seam (0 ∷ 0 ∷ 0 ∷ [])
+    (1 ∷ 0 ∷ 0 ∷ 0 ∷ 0 ∷ 0 ∷ 1 ∷ 0 ∷ 0 ∷ 0 ∷ 0 ∷ 0 ∷ [])
+    ((0 ∷ 0 ∷ 0 ∷ 0 ∷ 0 ∷ []) ∷ (0 ∷ 0 ∷ []) ∷ [] ∷ [])
+    ((7 ∷ 7 ∷ 7 ∷ 7 ∷ 7 ∷ []) ∷ (7 ∷ 7 ∷ []) ∷ [] ∷ [])
+    ((7 ∷ 7 ∷ 7 ∷ 7 ∷ 7 ∷ []) ∷ (7 ∷ 7 ∷ []) ∷ [] ∷ [])
+    ((7 ∷ 7 ∷ 7 ∷ 7 ∷ 7 ∷ 7 ∷ 7 ∷ 7 ∷ 7 ∷ 7 ∷ []) ∷ (7 ∷ 7 ∷ 7 ∷ 7 ∷ 7 ∷ 7 ∷ 7 ∷ 7 ∷ []) ∷ [] ∷ [])
 
 seamed : Image
-seamed = record {
-  stage = Crossing;
-  sofar = 5 ∷ 2 ∷ 0 ∷ [];
-  numbered = 0 ∷ 0 ∷ 0 ∷ [];
-  ticks = 1 ∷ 0 ∷ 0 ∷ 1 ∷ 0 ∷ 0 ∷ 1 ∷ 0 ∷ 0 ∷ 0 ∷ 0 ∷ 0 ∷ [];
-  blocks = 1 ∷ 0 ∷ 0 ∷ 0 ∷ 0 ∷ 4 ∷ 2 ∷ 0 ∷ 1 ∷ 0 ∷ [];
-  links = (0 ∷ 1 ∷ 2 ∷ 0 ∷ 0 ∷ []) ∷ (0 ∷ 0 ∷ []) ∷ [] ∷ [];
-  keys = (737280 ∷ 1589249 ∷ 1654785 ∷ 2211841 ∷ 3063809 ∷ []) ∷ (2326529 ∷ 2392065 ∷ []) ∷ [] ∷ [];
-  rows = (1 ∷ 3 ∷ 1 ∷ 3 ∷ 1 ∷ 3 ∷ 1 ∷ 2 ∷ 2 ∷ 3 ∷ []) ∷ (2 ∷ 4 ∷ 5 ∷ 0 ∷ 3 ∷ 4 ∷ 5 ∷ 0 ∷ []) ∷ [] ∷ [];
-  numbers = (7 ∷ 7 ∷ 7 ∷ 7 ∷ 7 ∷ []) ∷ (7 ∷ 7 ∷ []) ∷ [] ∷ [];
-  firsts = (7 ∷ 7 ∷ 7 ∷ 7 ∷ 7 ∷ []) ∷ (7 ∷ 7 ∷ []) ∷ [] ∷ [];
-  listed = (7 ∷ 7 ∷ 7 ∷ 7 ∷ 7 ∷ 7 ∷ 7 ∷ 7 ∷ 7 ∷ 7 ∷ []) ∷ (7 ∷ 7 ∷ 7 ∷ 7 ∷ 7 ∷ 7 ∷ 7 ∷ 7 ∷ []) ∷ [] ∷ [];
-}
+seamed =
+    later Crossing (0 ∷ 0 ∷ 0 ∷ [])
+    (1 ∷ 0 ∷ 0 ∷ 1 ∷ 0 ∷ 0 ∷ 1 ∷ 0 ∷ 0 ∷ 0 ∷ 0 ∷ 0 ∷ [])
+    ((0 ∷ 1 ∷ 2 ∷ 0 ∷ 0 ∷ []) ∷ (0 ∷ 0 ∷ []) ∷ [] ∷ [])
+    ((7 ∷ 7 ∷ 7 ∷ 7 ∷ 7 ∷ []) ∷ (7 ∷ 7 ∷ []) ∷ [] ∷ [])
+    ((7 ∷ 7 ∷ 7 ∷ 7 ∷ 7 ∷ []) ∷ (7 ∷ 7 ∷ []) ∷ [] ∷ [])
+    ((7 ∷ 7 ∷ 7 ∷ 7 ∷ 7 ∷ 7 ∷ 7 ∷ 7 ∷ 7 ∷ 7 ∷ []) ∷ (7 ∷ 7 ∷ 7 ∷ 7 ∷ 7 ∷ 7 ∷ 7 ∷ 7 ∷ []) ∷ [] ∷ [])
 
 crossed-over : Image
-crossed-over = record {
-  stage = Points;
-  sofar = 5 ∷ 2 ∷ 0 ∷ [];
-  numbered = 3 ∷ 1 ∷ 0 ∷ [];
-  ticks = 1 ∷ 0 ∷ 0 ∷ 1 ∷ 1 ∷ 0 ∷ 1 ∷ 0 ∷ 0 ∷ 0 ∷ 1 ∷ 0 ∷ [];
-  blocks = 1 ∷ 0 ∷ 0 ∷ 0 ∷ 0 ∷ 4 ∷ 2 ∷ 0 ∷ 1 ∷ 0 ∷ [];
-  links = (0 ∷ 1 ∷ 2 ∷ 0 ∷ 0 ∷ []) ∷ (0 ∷ 1 ∷ []) ∷ [] ∷ [];
-  keys = (737280 ∷ 1589249 ∷ 1654785 ∷ 2211841 ∷ 3063809 ∷ []) ∷ (2326529 ∷ 2392065 ∷ []) ∷ [] ∷ [];
-  rows = (1 ∷ 3 ∷ 1 ∷ 3 ∷ 1 ∷ 3 ∷ 1 ∷ 2 ∷ 2 ∷ 3 ∷ []) ∷ (2 ∷ 4 ∷ 5 ∷ 0 ∷ 3 ∷ 4 ∷ 5 ∷ 0 ∷ []) ∷ [] ∷ [];
-  numbers = (1 ∷ 1 ∷ 1 ∷ 2 ∷ 3 ∷ []) ∷ (1 ∷ 1 ∷ []) ∷ [] ∷ [];
-  firsts = (45 ∷ 135 ∷ 187 ∷ 7 ∷ 7 ∷ []) ∷ (142 ∷ 7 ∷ []) ∷ [] ∷ [];
-  listed = (1 ∷ 3 ∷ 1 ∷ 2 ∷ 2 ∷ 3 ∷ 7 ∷ 7 ∷ 7 ∷ 7 ∷ []) ∷ (1 ∷ 2 ∷ 3 ∷ 0 ∷ 7 ∷ 7 ∷ 7 ∷ 7 ∷ []) ∷ [] ∷ [];
-}
+crossed-over =
+    later Points (3 ∷ 1 ∷ 0 ∷ [])
+    (1 ∷ 0 ∷ 0 ∷ 1 ∷ 1 ∷ 0 ∷ 1 ∷ 0 ∷ 0 ∷ 0 ∷ 1 ∷ 0 ∷ [])
+    ((0 ∷ 1 ∷ 2 ∷ 0 ∷ 0 ∷ []) ∷ (0 ∷ 1 ∷ []) ∷ [] ∷ [])
+    ((1 ∷ 1 ∷ 1 ∷ 2 ∷ 3 ∷ []) ∷ (1 ∷ 1 ∷ []) ∷ [] ∷ [])
+    ((45 ∷ 135 ∷ 187 ∷ 7 ∷ 7 ∷ []) ∷ (142 ∷ 7 ∷ []) ∷ [] ∷ [])
+    ((1 ∷ 3 ∷ 1 ∷ 2 ∷ 2 ∷ 3 ∷ 7 ∷ 7 ∷ 7 ∷ 7 ∷ []) ∷ (1 ∷ 2 ∷ 3 ∷ 0 ∷ 7 ∷ 7 ∷ 7 ∷ 7 ∷ []) ∷ [] ∷ [])
 
 closed : Image
-closed = record {
-  stage = Closed;
-  sofar = 5 ∷ 2 ∷ 0 ∷ [];
-  numbered = 3 ∷ 1 ∷ 0 ∷ [];
-  ticks = 1 ∷ 0 ∷ 0 ∷ 1 ∷ 1 ∷ 1 ∷ 1 ∷ 0 ∷ 0 ∷ 0 ∷ 1 ∷ 1 ∷ [];
-  blocks = 1 ∷ 0 ∷ 0 ∷ 0 ∷ 0 ∷ 4 ∷ 2 ∷ 0 ∷ 1 ∷ 0 ∷ [];
-  links = (0 ∷ 1 ∷ 2 ∷ 0 ∷ 0 ∷ []) ∷ (0 ∷ 1 ∷ []) ∷ [] ∷ [];
-  keys = (737280 ∷ 1589249 ∷ 1654785 ∷ 2211841 ∷ 3063809 ∷ []) ∷ (2326529 ∷ 2392065 ∷ []) ∷ [] ∷ [];
-  rows = (1 ∷ 3 ∷ 1 ∷ 3 ∷ 1 ∷ 3 ∷ 1 ∷ 2 ∷ 2 ∷ 3 ∷ []) ∷ (2 ∷ 4 ∷ 5 ∷ 0 ∷ 3 ∷ 4 ∷ 5 ∷ 0 ∷ []) ∷ [] ∷ [];
-  numbers = (1 ∷ 1 ∷ 1 ∷ 2 ∷ 3 ∷ []) ∷ (1 ∷ 1 ∷ []) ∷ [] ∷ [];
-  firsts = (45 ∷ 135 ∷ 187 ∷ 7 ∷ 7 ∷ []) ∷ (142 ∷ 7 ∷ []) ∷ [] ∷ [];
-  listed = (1 ∷ 3 ∷ 1 ∷ 2 ∷ 2 ∷ 3 ∷ 7 ∷ 7 ∷ 7 ∷ 7 ∷ []) ∷ (1 ∷ 2 ∷ 3 ∷ 0 ∷ 7 ∷ 7 ∷ 7 ∷ 7 ∷ []) ∷ [] ∷ [];
-}
+closed =
+    later Closed (3 ∷ 1 ∷ 0 ∷ [])
+    (1 ∷ 0 ∷ 0 ∷ 1 ∷ 1 ∷ 1 ∷ 1 ∷ 0 ∷ 0 ∷ 0 ∷ 1 ∷ 1 ∷ [])
+    ((0 ∷ 1 ∷ 2 ∷ 0 ∷ 0 ∷ []) ∷ (0 ∷ 1 ∷ []) ∷ [] ∷ [])
+    ((1 ∷ 1 ∷ 1 ∷ 2 ∷ 3 ∷ []) ∷ (1 ∷ 1 ∷ []) ∷ [] ∷ [])
+    ((45 ∷ 135 ∷ 187 ∷ 7 ∷ 7 ∷ []) ∷ (142 ∷ 7 ∷ []) ∷ [] ∷ [])
+    ((1 ∷ 3 ∷ 1 ∷ 2 ∷ 2 ∷ 3 ∷ 7 ∷ 7 ∷ 7 ∷ 7 ∷ []) ∷ (1 ∷ 2 ∷ 3 ∷ 0 ∷ 7 ∷ 7 ∷ 7 ∷ 7 ∷ []) ∷ [] ∷ [])
 
 enrols : runImage (handle .told) (imageOf (openedState (handle .told) (used (handle .told)))) (enrol 0 map₀ ∷ enrol 1 map₁ ∷ []) ≡ enrolled
 unfolding handle map₀ map₁ enrolled consecutive tabulate zeros overlay mergeIds join-roots joins ancestor rootOf parent root refusal-number table first givenBy standsIn stride volume index place isExtent offSize sides cells parity order along upperNeighbours rowOf row occupied ofOrder largest component rowAtFirst componentRow ascends cutList intervals lowEnd highEnd blockSides blocks goodCut interval origin blockExtents embed follows sameInterval seam stageNumber sameStage ticked countOf fromOf node keyOf firstAt lengthsFit blockTrays linkTrays foundTrays numberTrays firstTrays listedTrays kindTrays hasOn hasCell products shared seams enrolStep seamAxis seamStep crossingStep pointStep stepsOf nextStage finished nextAfter differs overfull full tallyFits talliesFit filled counted standing mapStands waysStand linksStand allLinksStand soundAt soundWay soundFrom soundBelow soundRange stepsWithin depth depths soundWays rowsStand numberStands curvesStand handedStands lookStands lastCrossing stray finalOf finalRow pointCells adds declines refusal allTrays openDeclines openRefusal nothing throughLinks joinedRow firstOf enrolledKey shifted enrolledRow blockEntry notAfter classOf isOne leads heads rank headOf rowAt finalFace rowFinal relinked atSeam seamEdge seamEdges atCrossing crossEdge crossEdgesAt crossEdges instead numberKind moved enrolTables seamTables crossTables crossLast crossed pointTables pointLast pointed acceptedState after freshJob cleared openedState used threeKinds imageOf stateOf runImage
