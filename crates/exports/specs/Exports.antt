@@ -7,12 +7,13 @@ use Prim.Native.Nat.{ℕ}
 use lib.Dec.{eqb}
 use lib.ListN.{getD}
 use lib.Ieee.{Float}
-use Rattle.joiner.specs.Job.{Kind, Face, Curve, Point, Told, Tables}
+use Rattle.joiner.specs.Job.{Kind, Told, Tables}
 use Rattle.joiner.specs.Calls.{Call, reading, answer}
 use Rattle.joiner.specs.Entries.{CallStep}
 use Rattle.job.specs.declared.Job.{Job}
 use Rattle.job.specs.declared.Stage.{Stage}
-use Rattle.job.specs.Jobs.{jobOf, stateOf, tablesOf, anyCuts}
+use Rattle.job.specs.Jobs.{jobOf, stateOf, anyCuts}
+use Rattle.job.specs.Lent.{rowLent}
 use Rattle.job_numbers.specs.Numbers.{jobIn, keptNumbers}
 use Rattle.totals.specs.declared.Totals.{Totals}
 use Rattle.strain_calls.specs.Tables.{TotalTables}
@@ -55,8 +56,7 @@ pub record ExportedRow (j : Job) (cx cy cz : List ℕ) (t : Tables) (κ : Kind) 
 abbrev pub RowExported : Job → Kind → ℕ → List ℕ → List ℕ → List ℕ → ℕ → List ℕ → List ℕ → Type 0
 RowExported j κ n faces curves points r row row′ =
     anyCuts (λ cx cy cz. anyTables (λ t. ExportedRow j cx cy cz
-    (tablesOf (t .ticks) (t .blocks) (t .links Face) (t .links Curve) (t .keys Face) (t .keys Curve) (t .keys Point) (t .rows Face) (t .rows Curve) (t .rows Point)
-    (t .numbers Face) (t .numbers Curve) (t .numbers Point) (t .firsts Face) (t .firsts Curve) (t .firsts Point) faces curves points) κ n r row row′))
+    (rowLent t faces curves points) κ n r row row′))
 
 -- ---- item 1
 

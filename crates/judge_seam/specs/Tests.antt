@@ -2,7 +2,7 @@
 -- Assumes nothing.
 use mathlib.Core.Path.{_≡_}
 use mathlib.Core.Bool.{Bool, true, false, _&&_}
-use mathlib.Core.List.{List, []}
+use mathlib.Core.List.{List}
 use Prim.Native.Nat.{ℕ}
 use lib.Dec.{eqb}
 use Rattle.cells.specs.Box.{Triple}
@@ -14,7 +14,7 @@ use Rattle.layers.specs.Layers.{axisOf, columnsOf, rowsOf}
 use Rattle.pass_seam.specs.Walks.{LayerOf}
 use Rattle.blocks.specs.Blocks.{Tells, sizeOf}
 use Rattle.blocks.specs.declared.Block.{Block}
-use Rattle.job.specs.Jobs.{tablesOf}
+use Rattle.job.specs.Lent.{noTables, seamLent}
 use Rattle.judge.specs.declared.CallName.{CallName}
 use Rattle.judge.specs.declared.Entry.{Entry}
 use Rattle.judge.specs.declared.Lengths.{Lengths}
@@ -23,7 +23,7 @@ use Rattle.judge_seam.specs.declared.Shared.{Shared}
 
 -- The tables that a seam step is lent. The others go unread.
 abbrev pub lent : List ℕ → List ℕ → List ℕ → List ℕ → Tables
-lent ticks blocks faces curves = tablesOf ticks blocks faces curves [] [] [] [] [] [] [] [] [] [] [] [] [] [] []
+lent ticks blocks faces curves = seamLent noTables ticks blocks faces curves
 
 -- ---- the tests
 

@@ -4,8 +4,8 @@ use step_cross::crossing;
 ghost use mathlib.Core.List.{[]};
 ghost use Rattle.joiner.specs.Calls.{cross, answer};
 ghost use Rattle.joiner.specs.Entries.{CallStep};
-ghost use Rattle.job.specs.Jobs.{tablesOf, stateOf};
-ghost use Rattle.joiner.specs.Job.{Face, Curve, Point};
+ghost use Rattle.job.specs.Jobs.{stateOf};
+ghost use Rattle.job.specs.Lent.{crossLent};
 ghost use Rattle.exports.specs.Exports.{anyTables};
 
 impl Joining {
@@ -34,16 +34,14 @@ impl Joining {
     ) -> Stepped
         ensures { λ r. ⌜ anyTables (λ t. CallStep
             (stateOf (self .job) (now (cx .entry)) (now (cy .entry)) (now (cz .entry))
-            (tablesOf (now (ticks .entry)) (now (blocks .entry)) (now («face_links» .entry)) (now («curve_links» .entry))
-            (now («face_keys» .entry)) (now («curve_keys» .entry)) (t .keys Point) (now («face_rows» .entry)) (now («curve_rows» .entry)) (t .rows Point)
-            (now («face_numbers» .entry)) (now («curve_numbers» .entry)) (t .numbers Point) (now («face_firsts» .entry)) (now («curve_firsts» .entry)) (t .firsts Point)
-            (now («face_listed» .entry)) (now («curve_listed» .entry)) (t .listed Point)))
+            (crossLent t (now (ticks .entry)) (now (blocks .entry)) (now («face_links» .entry)) (now («curve_links» .entry)) (now («face_keys» .entry))
+            (now («curve_keys» .entry)) (now («face_rows» .entry)) (now («curve_rows» .entry)) (now («face_numbers» .entry)) (now («curve_numbers» .entry))
+            (now («face_firsts» .entry)) (now («curve_firsts» .entry)) (now («face_listed» .entry)) (now («curve_listed» .entry))))
             (cross block (now (m .entry))) (answer (r .refusal) 0 [])
             (stateOf (r .joining .job) (now (cx .entry)) (now (cy .entry)) (now (cz .entry))
-            (tablesOf (now (ticks .exit)) (now (blocks .entry)) (now («face_links» .exit)) (now («curve_links» .exit))
-            (now («face_keys» .entry)) (now («curve_keys» .entry)) (t .keys Point) (now («face_rows» .entry)) (now («curve_rows» .entry)) (t .rows Point)
-            (now («face_numbers» .exit)) (now («curve_numbers» .exit)) (t .numbers Point) (now («face_firsts» .exit)) (now («curve_firsts» .exit)) (t .firsts Point)
-            (now («face_listed» .exit)) (now («curve_listed» .exit)) (t .listed Point)))) ⌝ }
+            (crossLent t (now (ticks .exit)) (now (blocks .entry)) (now («face_links» .exit)) (now («curve_links» .exit)) (now («face_keys» .entry))
+            (now («curve_keys» .entry)) (now («face_rows» .entry)) (now («curve_rows» .entry)) (now («face_numbers» .exit)) (now («curve_numbers» .exit))
+            (now («face_firsts» .exit)) (now («curve_firsts» .exit)) (now («face_listed» .exit)) (now («curve_listed» .exit))))) ⌝ }
     {
         let r = crossing(
             self.job,

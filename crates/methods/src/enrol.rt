@@ -4,8 +4,8 @@ use step_enrol::enrol;
 ghost use mathlib.Core.List.{[]};
 ghost use Rattle.joiner.specs.Calls.{enrol, answer};
 ghost use Rattle.joiner.specs.Entries.{CallStep};
-ghost use Rattle.job.specs.Jobs.{tablesOf, stateOf};
-ghost use Rattle.joiner.specs.Job.{Face, Curve, Point};
+ghost use Rattle.job.specs.Jobs.{stateOf};
+ghost use Rattle.job.specs.Lent.{enrolLent};
 ghost use Rattle.exports.specs.Exports.{anyTables};
 
 impl Joining {
@@ -28,16 +28,12 @@ impl Joining {
     ) -> Stepped
         ensures { λ r. ⌜ anyTables (λ t. CallStep
             (stateOf (self .job) (now (cx .entry)) (now (cy .entry)) (now (cz .entry))
-            (tablesOf (now (ticks .entry)) (now (blocks .entry)) (now («face_links» .entry)) (now («curve_links» .entry))
-            (now («face_keys» .entry)) (now («curve_keys» .entry)) (t .keys Point) (now («face_rows» .entry)) (now («curve_rows» .entry)) (t .rows Point)
-            (t .numbers Face) (t .numbers Curve) (t .numbers Point) (t .firsts Face) (t .firsts Curve) (t .firsts Point)
-            (t .listed Face) (t .listed Curve) (t .listed Point)))
+            (enrolLent t (now (ticks .entry)) (now (blocks .entry)) (now («face_links» .entry)) (now («curve_links» .entry)) (now («face_keys» .entry))
+            (now («curve_keys» .entry)) (now («face_rows» .entry)) (now («curve_rows» .entry))))
             (enrol block (now (m .entry))) (answer (r .refusal) 0 [])
             (stateOf (r .joining .job) (now (cx .entry)) (now (cy .entry)) (now (cz .entry))
-            (tablesOf (now (ticks .exit)) (now (blocks .exit)) (now («face_links» .exit)) (now («curve_links» .exit))
-            (now («face_keys» .exit)) (now («curve_keys» .exit)) (t .keys Point) (now («face_rows» .exit)) (now («curve_rows» .exit)) (t .rows Point)
-            (t .numbers Face) (t .numbers Curve) (t .numbers Point) (t .firsts Face) (t .firsts Curve) (t .firsts Point)
-            (t .listed Face) (t .listed Curve) (t .listed Point)))) ⌝ }
+            (enrolLent t (now (ticks .exit)) (now (blocks .exit)) (now («face_links» .exit)) (now («curve_links» .exit)) (now («face_keys» .exit))
+            (now («curve_keys» .exit)) (now («face_rows» .exit)) (now («curve_rows» .exit))))) ⌝ }
     {
         let r = enrol(
             self.job,

@@ -5,8 +5,8 @@ ghost use mathlib.Core.List.{[]};
 ghost use Rattle.cells.specs.Box.{triple};
 ghost use Rattle.joiner.specs.Calls.{look, answer};
 ghost use Rattle.joiner.specs.Entries.{CallStep};
-ghost use Rattle.job.specs.Jobs.{tablesOf, stateOf};
-ghost use Rattle.joiner.specs.Job.{Face, Curve, Point};
+ghost use Rattle.job.specs.Jobs.{stateOf};
+ghost use Rattle.job.specs.Lent.{lookLent};
 ghost use Rattle.exports.specs.Exports.{anyTables};
 
 impl Joining {
@@ -29,16 +29,10 @@ impl Joining {
     ) -> Found
         ensures { λ r. ⌜ anyTables (λ t. CallStep
             (stateOf (self .job) (now (cx .entry)) (now (cy .entry)) (now (cz .entry))
-            (tablesOf (now (ticks .entry)) (now (blocks .entry)) (t .links Face) (t .links Curve)
-            (t .keys Face) (t .keys Curve) (t .keys Point) (t .rows Face) (t .rows Curve) (t .rows Point)
-            (now («face_numbers» .entry)) (now («curve_numbers» .entry)) (t .numbers Point) (t .firsts Face) (t .firsts Curve) (now («point_firsts» .entry))
-            (t .listed Face) (t .listed Curve) (t .listed Point)))
+            (lookLent t (now (ticks .entry)) (now (blocks .entry)) (now («face_numbers» .entry)) (now («curve_numbers» .entry)) (now («point_firsts» .entry))))
             (look block (now (m .entry)) (triple x y z)) (answer (r .refusal) (r .number) [])
             (stateOf (self .job) (now (cx .entry)) (now (cy .entry)) (now (cz .entry))
-            (tablesOf (now (ticks .entry)) (now (blocks .entry)) (t .links Face) (t .links Curve)
-            (t .keys Face) (t .keys Curve) (t .keys Point) (t .rows Face) (t .rows Curve) (t .rows Point)
-            (now («face_numbers» .entry)) (now («curve_numbers» .entry)) (t .numbers Point) (t .firsts Face) (t .firsts Curve) (now («point_firsts» .entry))
-            (t .listed Face) (t .listed Curve) (t .listed Point)))) ⌝ }
+            (lookLent t (now (ticks .entry)) (now (blocks .entry)) (now («face_numbers» .entry)) (now («curve_numbers» .entry)) (now («point_firsts» .entry))))) ⌝ }
     {
         lookup(
             self.job,

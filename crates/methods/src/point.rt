@@ -4,8 +4,8 @@ use step_point::point;
 ghost use mathlib.Core.List.{[]};
 ghost use Rattle.joiner.specs.Calls.{point, answer};
 ghost use Rattle.joiner.specs.Entries.{CallStep};
-ghost use Rattle.job.specs.Jobs.{tablesOf, stateOf};
-ghost use Rattle.joiner.specs.Job.{Face, Curve, Point};
+ghost use Rattle.job.specs.Jobs.{stateOf};
+ghost use Rattle.job.specs.Lent.{pointLent};
 ghost use Rattle.exports.specs.Exports.{anyTables};
 
 impl Joining {
@@ -28,16 +28,12 @@ impl Joining {
     ) -> Stepped
         ensures { λ r. ⌜ anyTables (λ t. CallStep
             (stateOf (self .job) (now (cx .entry)) (now (cy .entry)) (now (cz .entry))
-            (tablesOf (now (ticks .entry)) (now (blocks .entry)) (t .links Face) (t .links Curve)
-            (t .keys Face) (t .keys Curve) (now («point_keys» .entry)) (t .rows Face) (t .rows Curve) (now («point_rows» .entry))
-            (t .numbers Face) (now («curve_numbers» .entry)) (now («point_numbers» .entry)) (t .firsts Face) (t .firsts Curve) (now («point_firsts» .entry))
-            (t .listed Face) (t .listed Curve) (now («point_listed» .entry))))
+            (pointLent t (now (ticks .entry)) (now (blocks .entry)) (now («point_keys» .entry)) (now («point_rows» .entry)) (now («curve_numbers» .entry))
+            (now («point_numbers» .entry)) (now («point_firsts» .entry)) (now («point_listed» .entry))))
             (point block (now (m .entry))) (answer (r .refusal) 0 [])
             (stateOf (r .joining .job) (now (cx .entry)) (now (cy .entry)) (now (cz .entry))
-            (tablesOf (now (ticks .exit)) (now (blocks .entry)) (t .links Face) (t .links Curve)
-            (t .keys Face) (t .keys Curve) (now («point_keys» .exit)) (t .rows Face) (t .rows Curve) (now («point_rows» .exit))
-            (t .numbers Face) (now («curve_numbers» .entry)) (now («point_numbers» .exit)) (t .firsts Face) (t .firsts Curve) (now («point_firsts» .exit))
-            (t .listed Face) (t .listed Curve) (now («point_listed» .exit))))) ⌝ }
+            (pointLent t (now (ticks .exit)) (now (blocks .entry)) (now («point_keys» .exit)) (now («point_rows» .exit)) (now («curve_numbers» .entry))
+            (now («point_numbers» .exit)) (now («point_firsts» .exit)) (now («point_listed» .exit))))) ⌝ }
     {
         let r = point(
             self.job,

@@ -1,11 +1,10 @@
 use crate::Joining;
 use reading_row::Kind;
 use reading_row::row;
-ghost use mathlib.Core.List.{[]};
 ghost use Rattle.joiner.specs.Calls.{reading, answer};
 ghost use Rattle.joiner.specs.Entries.{CallStep};
-ghost use Rattle.job.specs.Jobs.{tablesOf, stateOf, anyCuts};
-ghost use Rattle.joiner.specs.Job.{Face, Curve, Point};
+ghost use Rattle.job.specs.Jobs.{stateOf, anyCuts};
+ghost use Rattle.job.specs.Lent.{rowLent};
 ghost use Rattle.exports.specs.Exports.{anyTables};
 ghost use Rattle.reading_row.specs.Inner.{kindOf};
 
@@ -22,16 +21,10 @@ impl Joining {
     ) -> &'a [u32]
         ensures { λ r. ⌜ anyCuts (λ cx cy cz. anyTables (λ t. CallStep
             (stateOf (self .job) cx cy cz
-            (tablesOf (t .ticks) (t .blocks) (t .links Face) (t .links Curve)
-            (t .keys Face) (t .keys Curve) (t .keys Point) (t .rows Face) (t .rows Curve) (t .rows Point)
-            (t .numbers Face) (t .numbers Curve) (t .numbers Point) (t .firsts Face) (t .firsts Curve) (t .firsts Point)
-            (now («face_listed» .entry)) (now («curve_listed» .entry)) (now («point_listed» .entry))))
+            (rowLent t (now («face_listed» .entry)) (now («curve_listed» .entry)) (now («point_listed» .entry))))
             (reading (kindOf kind) number) (answer (now (refusal .exit)) 0 (now r))
             (stateOf (self .job) cx cy cz
-            (tablesOf (t .ticks) (t .blocks) (t .links Face) (t .links Curve)
-            (t .keys Face) (t .keys Curve) (t .keys Point) (t .rows Face) (t .rows Curve) (t .rows Point)
-            (t .numbers Face) (t .numbers Curve) (t .numbers Point) (t .firsts Face) (t .firsts Curve) (t .firsts Point)
-            (now («face_listed» .entry)) (now («curve_listed» .entry)) (now («point_listed» .entry)))))) ⌝ }
+            (rowLent t (now («face_listed» .entry)) (now («curve_listed» .entry)) (now («point_listed» .entry)))))) ⌝ }
     {
         row(
             self.job,

@@ -4,8 +4,8 @@ use step_seam::seam;
 ghost use mathlib.Core.List.{[]};
 ghost use Rattle.joiner.specs.Calls.{join, answer};
 ghost use Rattle.joiner.specs.Entries.{CallStep};
-ghost use Rattle.job.specs.Jobs.{tablesOf, stateOf};
-ghost use Rattle.joiner.specs.Job.{Face, Curve, Point};
+ghost use Rattle.job.specs.Jobs.{stateOf};
+ghost use Rattle.job.specs.Lent.{seamLent};
 ghost use Rattle.exports.specs.Exports.{anyTables};
 
 impl Joining {
@@ -26,16 +26,10 @@ impl Joining {
     ) -> Stepped
         ensures { λ r. ⌜ anyTables (λ t. CallStep
             (stateOf (self .job) (now (cx .entry)) (now (cy .entry)) (now (cz .entry))
-            (tablesOf (now (ticks .entry)) (now (blocks .entry)) (now («face_links» .entry)) (now («curve_links» .entry))
-            (t .keys Face) (t .keys Curve) (t .keys Point) (t .rows Face) (t .rows Curve) (t .rows Point)
-            (t .numbers Face) (t .numbers Curve) (t .numbers Point) (t .firsts Face) (t .firsts Curve) (t .firsts Point)
-            (t .listed Face) (t .listed Curve) (t .listed Point)))
+            (seamLent t (now (ticks .entry)) (now (blocks .entry)) (now («face_links» .entry)) (now («curve_links» .entry))))
             (join lower upper (now (m .entry)) (now (n .entry))) (answer (r .refusal) 0 [])
             (stateOf (r .joining .job) (now (cx .entry)) (now (cy .entry)) (now (cz .entry))
-            (tablesOf (now (ticks .exit)) (now (blocks .entry)) (now («face_links» .exit)) (now («curve_links» .exit))
-            (t .keys Face) (t .keys Curve) (t .keys Point) (t .rows Face) (t .rows Curve) (t .rows Point)
-            (t .numbers Face) (t .numbers Curve) (t .numbers Point) (t .firsts Face) (t .firsts Curve) (t .firsts Point)
-            (t .listed Face) (t .listed Curve) (t .listed Point)))) ⌝ }
+            (seamLent t (now (ticks .exit)) (now (blocks .entry)) (now («face_links» .exit)) (now («curve_links» .exit))))) ⌝ }
     {
         let r = seam(
             self.job,

@@ -2,7 +2,7 @@
 -- Assumes nothing.
 use mathlib.Core.Path.{_≡_}
 use mathlib.Core.Bool.{Bool, true, not, cond, _&&_, _||_}
-use mathlib.Core.List.{List, []}
+use mathlib.Core.List.{List}
 use Prim.Native.Nat.{ℕ, _+_, _-_, _/_, _%_, _<_}
 use lib.Dec.{eqb, ltb}
 use lib.ListN.{getD, length}
@@ -16,7 +16,7 @@ use Rattle.joiner.specs.Entries.{pointNumber}
 use Rattle.blocks.specs.Blocks.{hasIn}
 use Rattle.blocks.specs.declared.Block.{Block}
 use Rattle.job.specs.declared.Job.{Job}
-use Rattle.job.specs.Jobs.{tablesOf}
+use Rattle.job.specs.Lent.{noTables, lookLent}
 use Rattle.pass_point.specs.Findings.{finalIn}
 use Rattle.judge.specs.declared.CallName.{CallName}
 use Rattle.judge.specs.declared.Entry.{Entry}
@@ -25,7 +25,7 @@ use Rattle.reading_cell.specs.declared.Span.{Span}
 
 -- The tables that a lookup is lent. The others go unread.
 abbrev pub lent : List ℕ → List ℕ → List ℕ → List ℕ → List ℕ → Tables
-lent ticks blocks faces curves points = tablesOf ticks blocks [] [] [] [] [] [] [] [] faces curves [] [] [] points [] [] []
+lent ticks blocks faces curves points = lookLent noTables ticks blocks faces curves points
 
 -- The refusals of a lookup, 0 for none, but for the final number that is handed out: off size, bad cut, wrong stage, no such place, wrong tray, stray label.
 unfoldable pub lookJudged : State → ℕ → List ℕ → Triple → ℕ

@@ -11,7 +11,8 @@ use Rattle.joiner.specs.Job.{Closed, Tables, sameStage, width, lengthsFit}
 use Rattle.joiner.specs.Job as joiner
 use Rattle.joiner.specs.Declines.{talliesFit}
 use Rattle.job.specs.declared.Job.{Job}
-use Rattle.job.specs.Jobs.{byKind, stageOf, jobOf, tablesOf}
+use Rattle.job.specs.Jobs.{byKind, stageOf, jobOf}
+use Rattle.job.specs.Lent.{noTables, rowLent}
 use Rattle.judge.specs.declared.CallName.{CallName}
 use Rattle.judge.specs.declared.Lengths.{Lengths}
 use Rattle.judge.specs.Judge.{entriesOf, lentBy}
@@ -25,7 +26,7 @@ kindOf Kind.Point = joiner.Point
 
 -- The tables that a row reading is lent. The others go unread.
 abbrev pub lent : List ℕ → List ℕ → List ℕ → Tables
-lent faces curves points = tablesOf [] [] [] [] [] [] [] [] [] [] [] [] [] [] [] [] faces curves points
+lent faces curves points = rowLent noTables faces curves points
 
 -- How many of a kind are numbered.
 abbrev pub numberedOf : Job → Kind → ℕ

@@ -25,12 +25,13 @@ use Rattle.maxima.specs.declared.Most.{Most}
 use Rattle.maxima.specs.Maxima.{accepted, refused, mostComponents}
 use Rattle.maxima.proofs.MaximaLaws.{most-accepted, most-refused}
 use Rattle.service.specs.Exports.{exported, export, ExportedMost, exportedMost, exportMost, exportedWriting, exportWriting, exportedReading, exportReading}
-use Rattle.joiner.specs.Job.{Kind, Face, Curve, Point, Tables}
+use Rattle.joiner.specs.Job.{Kind, Tables}
 use Rattle.joiner.specs.Calls.{Call, reading, answer}
 use Rattle.joiner.specs.Entries.{CallStep}
 use Rattle.job.specs.declared.Job.{Job}
 use Rattle.job.specs.declared.Stage.{Stage}
-use Rattle.job.specs.Jobs.{anyCuts, jobOf, stateOf, tablesOf}
+use Rattle.job.specs.Jobs.{anyCuts, jobOf, stateOf}
+use Rattle.job.specs.Lent.{rowLent}
 use Rattle.job_numbers.specs.Numbers.{jobIn, keptNumbers}
 use Rattle.totals.specs.declared.Totals.{Totals}
 use Rattle.strain_calls.specs.Tables.{TotalTables}
@@ -120,8 +121,7 @@ module _ (ns : List ℕ) (other : Stage) (cx cy cz : List ℕ) (w : TotalTables)
 -- all tables, the closed rows being these
 abbrev around : Tables → List ℕ → List ℕ → List ℕ → Tables
 around t fs cs ps =
-    tablesOf (t .ticks) (t .blocks) (t .links Face) (t .links Curve) (t .keys Face) (t .keys Curve) (t .keys Point) (t .rows Face) (t .rows Curve) (t .rows Point)
-    (t .numbers Face) (t .numbers Curve) (t .numbers Point) (t .firsts Face) (t .firsts Curve) (t .firsts Point) fs cs ps
+    rowLent t fs cs ps
 
 module _ (j : Job) (κ : Kind) (n : ℕ) (fs cs ps : List ℕ) (r : ℕ) (part : List ℕ)
     (s : anyCuts (λ cx cy cz. anyTables (λ t. CallStep (stateOf j cx cy cz (around t fs cs ps)) (reading κ n) (answer r 0 part) (stateOf j cx cy cz (around t fs cs ps))))) where

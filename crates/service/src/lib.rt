@@ -16,6 +16,7 @@ ghost use Rattle.joiner.specs.Job.{Face, Curve, Point};
 ghost use Rattle.joiner.specs.Calls.{enrol, join, cross, point, look};
 ghost use Rattle.job.specs.declared.Stage.{Stage};
 ghost use Rattle.job.specs.Jobs.{toldBy, tablesOf};
+ghost use Rattle.job.specs.Lent.{crossLent, enrolLent, lookLent, pointLent, seamLent};
 ghost use Rattle.strain_calls.specs.Tables.{totalTables};
 ghost use Rattle.cells.specs.Box.{triple};
 ghost use Rattle.labeller.specs.Labelling.{labelling};
@@ -203,14 +204,10 @@ pub extern "C" fn tugrelis_enrol(
     map: &[u32],
 ) -> u32
     ensures { λ r. ⌜ anyTables (λ t. ExportedStep (now (job .entry)) (now (job .exit)) Stage.Closed (now (cx .entry)) (now (cy .entry)) (now (cz .entry))
-        (tablesOf (now (ticks .entry)) (now (blocks .entry)) (now («face_links» .entry)) (now («curve_links» .entry))
-        (now («face_keys» .entry)) (now («curve_keys» .entry)) (t .keys Point) (now («face_rows» .entry)) (now («curve_rows» .entry)) (t .rows Point)
-        (t .numbers Face) (t .numbers Curve) (t .numbers Point) (t .firsts Face) (t .firsts Curve) (t .firsts Point)
-        (t .listed Face) (t .listed Curve) (t .listed Point))
-        (tablesOf (now (ticks .exit)) (now (blocks .exit)) (now («face_links» .exit)) (now («curve_links» .exit))
-        (now («face_keys» .exit)) (now («curve_keys» .exit)) (t .keys Point) (now («face_rows» .exit)) (now («curve_rows» .exit)) (t .rows Point)
-        (t .numbers Face) (t .numbers Curve) (t .numbers Point) (t .firsts Face) (t .firsts Curve) (t .firsts Point)
-        (t .listed Face) (t .listed Curve) (t .listed Point))
+        (enrolLent t (now (ticks .entry)) (now (blocks .entry)) (now («face_links» .entry)) (now («curve_links» .entry)) (now («face_keys» .entry))
+        (now («curve_keys» .entry)) (now («face_rows» .entry)) (now («curve_rows» .entry)))
+        (enrolLent t (now (ticks .exit)) (now (blocks .exit)) (now («face_links» .exit)) (now («curve_links» .exit)) (now («face_keys» .exit)) (now («curve_keys» .exit))
+        (now («face_rows» .exit)) (now («curve_rows» .exit)))
         (enrol block (now (map .entry))) r) ⌝ }
 {
     let joining = Joining {
@@ -253,14 +250,8 @@ pub extern "C" fn tugrelis_seam(
     upper_map: &[u32],
 ) -> u32
     ensures { λ r. ⌜ anyTables (λ t. ExportedStep (now (job .entry)) (now (job .exit)) Stage.Closed (now (cx .entry)) (now (cy .entry)) (now (cz .entry))
-        (tablesOf (now (ticks .entry)) (now (blocks .entry)) (now («face_links» .entry)) (now («curve_links» .entry))
-        (t .keys Face) (t .keys Curve) (t .keys Point) (t .rows Face) (t .rows Curve) (t .rows Point)
-        (t .numbers Face) (t .numbers Curve) (t .numbers Point) (t .firsts Face) (t .firsts Curve) (t .firsts Point)
-        (t .listed Face) (t .listed Curve) (t .listed Point))
-        (tablesOf (now (ticks .exit)) (now (blocks .entry)) (now («face_links» .exit)) (now («curve_links» .exit))
-        (t .keys Face) (t .keys Curve) (t .keys Point) (t .rows Face) (t .rows Curve) (t .rows Point)
-        (t .numbers Face) (t .numbers Curve) (t .numbers Point) (t .firsts Face) (t .firsts Curve) (t .firsts Point)
-        (t .listed Face) (t .listed Curve) (t .listed Point))
+        (seamLent t (now (ticks .entry)) (now (blocks .entry)) (now («face_links» .entry)) (now («curve_links» .entry)))
+        (seamLent t (now (ticks .exit)) (now (blocks .entry)) (now («face_links» .exit)) (now («curve_links» .exit)))
         (join lower upper (now («lower_map» .entry)) (now («upper_map» .entry))) r) ⌝ }
 {
     let joining = Joining {
@@ -309,14 +300,12 @@ pub extern "C" fn tugrelis_crossing(
     map: &[u32],
 ) -> u32
     ensures { λ r. ⌜ anyTables (λ t. ExportedStep (now (job .entry)) (now (job .exit)) Stage.Closed (now (cx .entry)) (now (cy .entry)) (now (cz .entry))
-        (tablesOf (now (ticks .entry)) (now (blocks .entry)) (now («face_links» .entry)) (now («curve_links» .entry))
-        (now («face_keys» .entry)) (now («curve_keys» .entry)) (t .keys Point) (now («face_rows» .entry)) (now («curve_rows» .entry)) (t .rows Point)
-        (now («face_numbers» .entry)) (now («curve_numbers» .entry)) (t .numbers Point) (now («face_firsts» .entry)) (now («curve_firsts» .entry)) (t .firsts Point)
-        (now («face_listed» .entry)) (now («curve_listed» .entry)) (t .listed Point))
-        (tablesOf (now (ticks .exit)) (now (blocks .entry)) (now («face_links» .exit)) (now («curve_links» .exit))
-        (now («face_keys» .entry)) (now («curve_keys» .entry)) (t .keys Point) (now («face_rows» .entry)) (now («curve_rows» .entry)) (t .rows Point)
-        (now («face_numbers» .exit)) (now («curve_numbers» .exit)) (t .numbers Point) (now («face_firsts» .exit)) (now («curve_firsts» .exit)) (t .firsts Point)
-        (now («face_listed» .exit)) (now («curve_listed» .exit)) (t .listed Point))
+        (crossLent t (now (ticks .entry)) (now (blocks .entry)) (now («face_links» .entry)) (now («curve_links» .entry)) (now («face_keys» .entry))
+        (now («curve_keys» .entry)) (now («face_rows» .entry)) (now («curve_rows» .entry)) (now («face_numbers» .entry)) (now («curve_numbers» .entry))
+        (now («face_firsts» .entry)) (now («curve_firsts» .entry)) (now («face_listed» .entry)) (now («curve_listed» .entry)))
+        (crossLent t (now (ticks .exit)) (now (blocks .entry)) (now («face_links» .exit)) (now («curve_links» .exit)) (now («face_keys» .entry))
+        (now («curve_keys» .entry)) (now («face_rows» .entry)) (now («curve_rows» .entry)) (now («face_numbers» .exit)) (now («curve_numbers» .exit))
+        (now («face_firsts» .exit)) (now («curve_firsts» .exit)) (now («face_listed» .exit)) (now («curve_listed» .exit)))
         (cross block (now (map .entry))) r) ⌝ }
 {
     let joining = Joining {
@@ -367,14 +356,10 @@ pub extern "C" fn tugrelis_point(
     map: &[u32],
 ) -> u32
     ensures { λ r. ⌜ anyTables (λ t. ExportedStep (now (job .entry)) (now (job .exit)) Stage.Closed (now (cx .entry)) (now (cy .entry)) (now (cz .entry))
-        (tablesOf (now (ticks .entry)) (now (blocks .entry)) (t .links Face) (t .links Curve)
-        (t .keys Face) (t .keys Curve) (now («point_keys» .entry)) (t .rows Face) (t .rows Curve) (now («point_rows» .entry))
-        (t .numbers Face) (now («curve_numbers» .entry)) (now («point_numbers» .entry)) (t .firsts Face) (t .firsts Curve) (now («point_firsts» .entry))
-        (t .listed Face) (t .listed Curve) (now («point_listed» .entry)))
-        (tablesOf (now (ticks .exit)) (now (blocks .entry)) (t .links Face) (t .links Curve)
-        (t .keys Face) (t .keys Curve) (now («point_keys» .exit)) (t .rows Face) (t .rows Curve) (now («point_rows» .exit))
-        (t .numbers Face) (now («curve_numbers» .entry)) (now («point_numbers» .exit)) (t .firsts Face) (t .firsts Curve) (now («point_firsts» .exit))
-        (t .listed Face) (t .listed Curve) (now («point_listed» .exit)))
+        (pointLent t (now (ticks .entry)) (now (blocks .entry)) (now («point_keys» .entry)) (now («point_rows» .entry)) (now («curve_numbers» .entry))
+        (now («point_numbers» .entry)) (now («point_firsts» .entry)) (now («point_listed» .entry)))
+        (pointLent t (now (ticks .exit)) (now (blocks .entry)) (now («point_keys» .exit)) (now («point_rows» .exit)) (now («curve_numbers» .entry))
+        (now («point_numbers» .exit)) (now («point_firsts» .exit)) (now («point_listed» .exit)))
         (point block (now (map .entry))) r) ⌝ }
 {
     let joining = Joining {
@@ -420,10 +405,7 @@ pub extern "C" fn tugrelis_lookup(
     number: &mut u32,
 ) -> u32
     ensures { λ r. ⌜ anyTables (λ t. ExportedLookup (now (job .entry)) Stage.Enrol (now (cx .entry)) (now (cy .entry)) (now (cz .entry))
-        (tablesOf (now (ticks .entry)) (now (blocks .entry)) (t .links Face) (t .links Curve)
-        (t .keys Face) (t .keys Curve) (t .keys Point) (t .rows Face) (t .rows Curve) (t .rows Point)
-        (now («face_numbers» .entry)) (now («curve_numbers» .entry)) (t .numbers Point) (t .firsts Face) (t .firsts Curve) (now («point_firsts» .entry))
-        (t .listed Face) (t .listed Curve) (t .listed Point))
+        (lookLent t (now (ticks .entry)) (now (blocks .entry)) (now («face_numbers» .entry)) (now («curve_numbers» .entry)) (now («point_firsts» .entry)))
         (look block (now (map .entry)) (triple x y z)) r (now (number .entry)) (now (number .exit))) ⌝ }
 {
     let joining = Joining {

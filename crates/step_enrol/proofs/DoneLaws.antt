@@ -29,7 +29,8 @@ use Rattle.pass_enrol.specs.Enrolment.{Lies, keyIn, Firsts}
 use Rattle.pass_enrol.proofs.KeyLaws.{lies-told, enrolled-keys, stored-firsts}
 use Rattle.pass_enrol.proofs.RowLaws.{enrolled-faces, enrolled-curves}
 use Rattle.job.specs.declared.Job.{Job}
-use Rattle.job.specs.Jobs.{byKind, toldOf, jobOf, tablesOf, stateOf}
+use Rattle.job.specs.Jobs.{byKind, toldOf, jobOf, stateOf}
+use Rattle.job.specs.Lent.{noTables, enrolLent}
 use Rattle.judge.specs.declared.CallName.{CallName}
 use Rattle.judge.specs.declared.Lengths.{Lengths}
 use Rattle.stages.specs.Advanced.{Advanced}
@@ -79,7 +80,7 @@ kind-rows v r b m j shift from count l n ks R ks′ e =
 -- ---- the ways of `act`
 
 abbrev pub lentTables : List ℕ → List ℕ → List ℕ → List ℕ → List ℕ → List ℕ → List ℕ → List ℕ → Tables
-lentTables tk bl fl cl fk ck fr cr = tablesOf tk bl fl cl fk ck [] fr cr [] [] [] [] [] [] [] [] [] []
+lentTables tk bl fl cl fk ck fr cr = enrolLent noTables tk bl fl cl fk ck fr cr
 
 module _ (j : Job) (cx cy cz tk bl fl cl fk ck fr cr : List ℕ) (b : ℕ) (m : List ℕ) (p : Plan) (R : Ready (stateOf j cx cy cz (lentTables tk bl fl cl fk ck fr cr)) b m p) where
   abbrev before : State

@@ -17,7 +17,8 @@ ghost use Rattle.lists.specs.Lists.{overlay};
 ghost use Rattle.cells.specs.Box.{triple};
 ghost use Rattle.joiner.specs.Calls.{enrol, answer};
 ghost use Rattle.joiner.specs.Entries.{EnrolDone, CallStep};
-ghost use Rattle.job.specs.Jobs.{tablesOf, stateOf};
+ghost use Rattle.job.specs.Jobs.{stateOf};
+ghost use Rattle.job.specs.Lent.{noTables, enrolLent};
 ghost use Rattle.step_enrol.specs.Inner.{KindReady, KindDone, blockNumbers, Ready};
 
 // What an enrolment answers: the number of its refusal, 0 for none, and the job.
@@ -82,16 +83,16 @@ fn act(
     plan: Plan,
 ) -> Job
     requires { ⌜ Ready (stateOf job (now cx) (now cy) (now cz)
-        (tablesOf (now ticks) (now blocks) (now «face_links») (now «curve_links») (now «face_keys») (now «curve_keys») [] (now «face_rows») (now «curve_rows») [] [] [] [] [] [] [] [] [] []))
+        (enrolLent noTables (now ticks) (now blocks) (now «face_links») (now «curve_links») (now «face_keys») (now «curve_keys») (now «face_rows») (now «curve_rows»)))
         block (now m) plan ⌝ }
     ensures { λ r. ⌜ EnrolDone
         (stateOf job (now (cx .entry)) (now (cy .entry)) (now (cz .entry))
-        (tablesOf (now (ticks .entry)) (now (blocks .entry)) (now («face_links» .entry)) (now («curve_links» .entry)) (now («face_keys» .entry)) (now («curve_keys» .entry)) []
-        (now («face_rows» .entry)) (now («curve_rows» .entry)) [] [] [] [] [] [] [] [] [] []))
+        (enrolLent noTables (now (ticks .entry)) (now (blocks .entry)) (now («face_links» .entry)) (now («curve_links» .entry)) (now («face_keys» .entry))
+        (now («curve_keys» .entry)) (now («face_rows» .entry)) (now («curve_rows» .entry))))
         block (now (m .entry))
         (stateOf r (now (cx .entry)) (now (cy .entry)) (now (cz .entry))
-        (tablesOf (now (ticks .exit)) (now (blocks .exit)) (now («face_links» .exit)) (now («curve_links» .exit)) (now («face_keys» .exit)) (now («curve_keys» .exit)) []
-        (now («face_rows» .exit)) (now («curve_rows» .exit)) [] [] [] [] [] [] [] [] [] [])) ⌝ }
+        (enrolLent noTables (now (ticks .exit)) (now (blocks .exit)) (now («face_links» .exit)) (now («curve_links» .exit)) (now («face_keys» .exit))
+        (now («curve_keys» .exit)) (now («face_rows» .exit)) (now («curve_rows» .exit)))) ⌝ }
 {
     let b = block as usize;
     let step = 6 * b;
@@ -153,12 +154,12 @@ pub fn enrol(
 ) -> Enrolled
     ensures { λ r. ⌜ CallStep
         (stateOf job (now (cx .entry)) (now (cy .entry)) (now (cz .entry))
-        (tablesOf (now (ticks .entry)) (now (blocks .entry)) (now («face_links» .entry)) (now («curve_links» .entry)) (now («face_keys» .entry)) (now («curve_keys» .entry)) []
-        (now («face_rows» .entry)) (now («curve_rows» .entry)) [] [] [] [] [] [] [] [] [] []))
+        (enrolLent noTables (now (ticks .entry)) (now (blocks .entry)) (now («face_links» .entry)) (now («curve_links» .entry)) (now («face_keys» .entry))
+        (now («curve_keys» .entry)) (now («face_rows» .entry)) (now («curve_rows» .entry))))
         (enrol block (now (m .entry))) (answer (r .refusal) 0 [])
         (stateOf (r .job) (now (cx .entry)) (now (cy .entry)) (now (cz .entry))
-        (tablesOf (now (ticks .exit)) (now (blocks .exit)) (now («face_links» .exit)) (now («curve_links» .exit)) (now («face_keys» .exit)) (now («curve_keys» .exit)) []
-        (now («face_rows» .exit)) (now («curve_rows» .exit)) [] [] [] [] [] [] [] [] [] [])) ⌝ }
+        (enrolLent noTables (now (ticks .exit)) (now (blocks .exit)) (now («face_links» .exit)) (now («curve_links» .exit)) (now («face_keys» .exit))
+        (now («curve_keys» .exit)) (now («face_rows» .exit)) (now («curve_rows» .exit)))) ⌝ }
 {
     let lengths = lengths_of(
         ticks.len(),

@@ -2,18 +2,19 @@
 -- Assumes nothing.
 use mathlib.Core.Path.{_≡_}
 use mathlib.Core.Bool.{true, false}
-use mathlib.Core.List.{List, []}
+use mathlib.Core.List.{List}
 use Prim.Native.Nat.{ℕ}
 use Rattle.joiner.specs.Job.{Point, Closed, Tables, sameStage}
 use Rattle.joiner.specs.Calls.{point}
 use Rattle.joiner.specs.Declines.{adds, refusal}
 use Rattle.kind_numbers.specs.Numbered.{Numbered}
 use Rattle.job.specs.declared.Job.{Job}
-use Rattle.job.specs.Jobs.{stageOf, tablesOf, stateOf}
+use Rattle.job.specs.Jobs.{stageOf, stateOf}
+use Rattle.job.specs.Lent.{noTables, pointLent}
 
 -- The tables that a point step is lent. The others go unread.
 abbrev pub lent : List ℕ → List ℕ → List ℕ → List ℕ → List ℕ → List ℕ → List ℕ → List ℕ → Tables
-lent ticks blocks curves keys rows numbers firsts listed = tablesOf ticks blocks [] [] [] [] keys [] [] rows [] curves numbers [] [] firsts [] [] listed
+lent ticks blocks curves keys rows numbers firsts listed = pointLent noTables ticks blocks keys rows curves numbers firsts listed
 
 -- The step is not refused, and finds so many points.
 pub record Ready (j : Job) (cx cy cz : List ℕ) (t : Tables) (b : ℕ) (m : List ℕ) (points : ℕ) : Type 0 where

@@ -1,35 +1,25 @@
 -- A call and the tables that it is not lent.
 -- Assumes nothing.
-use mathlib.Core.List.{[]}
 use Rattle.joiner.specs.Job.{Face, Curve, Point, Tables, State}
 use Rattle.joiner.specs.Calls.{Call, enrol, join, cross, point, look, reading}
-use Rattle.job.specs.Jobs.{tablesOf}
+use Rattle.job.specs.Lent.{crossLent, enrolLent, lookLent, pointLent, rowLent, seamLent}
 
 -- The tables that a call is lent (`lentTo` of the joiner) out of t, every other table out of o.
 abbrev pub tablesAround : Call → Tables → Tables → Tables
 tablesAround (enrol b m) o t =
-    tablesOf (t .ticks) (t .blocks) (t .links Face) (t .links Curve) (t .keys Face) (t .keys Curve) (o .keys Point) (t .rows Face) (t .rows Curve) (o .rows Point)
-    (o .numbers Face) (o .numbers Curve) (o .numbers Point) (o .firsts Face) (o .firsts Curve) (o .firsts Point) (o .listed Face) (o .listed Curve) (o .listed Point)
+    enrolLent o (t .ticks) (t .blocks) (t .links Face) (t .links Curve) (t .keys Face) (t .keys Curve) (t .rows Face) (t .rows Curve)
 tablesAround (join b c m n) o t =
-    tablesOf (t .ticks) (t .blocks) (t .links Face) (t .links Curve) (o .keys Face) (o .keys Curve) (o .keys Point) (o .rows Face) (o .rows Curve) (o .rows Point)
-    (o .numbers Face) (o .numbers Curve) (o .numbers Point) (o .firsts Face) (o .firsts Curve) (o .firsts Point) (o .listed Face) (o .listed Curve) (o .listed Point)
+    seamLent o (t .ticks) (t .blocks) (t .links Face) (t .links Curve)
 tablesAround (cross b m) o t =
-    tablesOf (t .ticks) (t .blocks) (t .links Face) (t .links Curve) (t .keys Face) (t .keys Curve) (o .keys Point) (t .rows Face) (t .rows Curve) (o .rows Point)
-    (t .numbers Face) (t .numbers Curve) (o .numbers Point) (t .firsts Face) (t .firsts Curve) (o .firsts Point) (t .listed Face) (t .listed Curve) (o .listed Point)
+    crossLent o (t .ticks) (t .blocks) (t .links Face) (t .links Curve) (t .keys Face) (t .keys Curve) (t .rows Face) (t .rows Curve) (t .numbers Face) (t .numbers Curve)
+    (t .firsts Face) (t .firsts Curve) (t .listed Face) (t .listed Curve)
 tablesAround (point b m) o t =
-    tablesOf (t .ticks) (t .blocks) (o .links Face) (o .links Curve) (o .keys Face) (o .keys Curve) (t .keys Point) (o .rows Face) (o .rows Curve) (t .rows Point)
-    (o .numbers Face) (t .numbers Curve) (t .numbers Point) (o .firsts Face) (o .firsts Curve) (t .firsts Point) (o .listed Face) (o .listed Curve) (t .listed Point)
+    pointLent o (t .ticks) (t .blocks) (t .keys Point) (t .rows Point) (t .numbers Curve) (t .numbers Point) (t .firsts Point) (t .listed Point)
 tablesAround (look b m c) o t =
-    tablesOf (t .ticks) (t .blocks) (o .links Face) (o .links Curve) (o .keys Face) (o .keys Curve) (o .keys Point) (o .rows Face) (o .rows Curve) (o .rows Point)
-    (t .numbers Face) (t .numbers Curve) (o .numbers Point) (o .firsts Face) (o .firsts Curve) (t .firsts Point) (o .listed Face) (o .listed Curve) (o .listed Point)
+    lookLent o (t .ticks) (t .blocks) (t .numbers Face) (t .numbers Curve) (t .firsts Point)
 tablesAround (reading κ n) o t =
-    tablesOf (o .ticks) (o .blocks) (o .links Face) (o .links Curve) (o .keys Face) (o .keys Curve) (o .keys Point) (o .rows Face) (o .rows Curve) (o .rows Point)
-    (o .numbers Face) (o .numbers Curve) (o .numbers Point) (o .firsts Face) (o .firsts Curve) (o .firsts Point) (t .listed Face) (t .listed Curve) (t .listed Point)
+    rowLent o (t .listed Face) (t .listed Curve) (t .listed Point)
 
 -- The state whose job and lent tables are those of s.
 abbrev pub around : Call → Tables → State → State
 around c o s = record { job = s .job; tables = tablesAround c o (s .tables) }
-
--- Empty tables: what an entry's contract has for a table that the entry is not lent.
-abbrev pub noTables : Tables
-noTables = tablesOf [] [] [] [] [] [] [] [] [] [] [] [] [] [] [] [] [] [] []

@@ -12,7 +12,8 @@ use Rattle.joiner.specs.Statement.{Entry, Run, Fair, Labelling, Measured}
 use Rattle.joiner.proofs.Statement3.{statement3}
 use Rattle.strain_calls.specs.Tables.{TotalTables}
 use Rattle.strain_calls.specs.Entries.{TotalsOpening}
-use Rattle.theory_frames.specs.Frames.{noTables}
+use Rattle.job.specs.Lent.{noTables}
+use Rattle.theory_frames.specs.Frames.{}
 use Rattle.theory_frames.proofs.FrameLaws.{framed}
 use Rattle.theory_service.specs.Contracts.{Held, stateIn, CalledEntry, enrolled, joined, crossed, pointed, looked, read, OpenedBy, opened, Calls, none, next}
 

@@ -10,6 +10,7 @@ use Rattle.joiner.specs.Entries.{CallStep}
 use Rattle.joiner.specs.Statement.{Entry}
 use Rattle.job.specs.declared.Job.{Job}
 use Rattle.job.specs.Jobs.{toldBy, tablesOf, stateOf, anyCuts}
+use Rattle.job.specs.Lent.{noTables, crossLent, enrolLent, lookLent, pointLent, rowLent, seamLent}
 use Rattle.strain_calls.specs.Tables.{TotalTables}
 use Rattle.strain_calls.specs.Entries.{TotalsOpening}
 
@@ -38,47 +39,47 @@ pub data CalledEntry : Held → Call → Answer → Held → Type 0 where
   -- `enrol`
   enrolled : {j j′ : Job} {b r : ℕ} {m : List ℕ} {cx cy cz ticks blocks fl cl fk ck pk fr cr pr fn cn pn ff cf pf fs cs ps
       ticks′ blocks′ fl′ cl′ fk′ ck′ fr′ cr′ : List ℕ}
-      → CallStep (stateOf j cx cy cz (tablesOf ticks blocks fl cl fk ck [] fr cr [] [] [] [] [] [] [] [] [] []))
+      → CallStep (stateOf j cx cy cz (enrolLent noTables ticks blocks fl cl fk ck fr cr))
       (enrol b m) (answer r 0 [])
-      (stateOf j′ cx cy cz (tablesOf ticks′ blocks′ fl′ cl′ fk′ ck′ [] fr′ cr′ [] [] [] [] [] [] [] [] [] []))
+      (stateOf j′ cx cy cz (enrolLent noTables ticks′ blocks′ fl′ cl′ fk′ ck′ fr′ cr′))
       → CalledEntry (held j cx cy cz ticks blocks fl cl fk ck pk fr cr pr fn cn pn ff cf pf fs cs ps) (enrol b m) (answer r 0 [])
       (held j′ cx cy cz ticks′ blocks′ fl′ cl′ fk′ ck′ pk fr′ cr′ pr fn cn pn ff cf pf fs cs ps)
   -- `seam`
   joined : {j j′ : Job} {b c r : ℕ} {m n : List ℕ} {cx cy cz ticks blocks fl cl fk ck pk fr cr pr fn cn pn ff cf pf fs cs ps
       ticks′ fl′ cl′ : List ℕ}
-      → CallStep (stateOf j cx cy cz (tablesOf ticks blocks fl cl [] [] [] [] [] [] [] [] [] [] [] [] [] [] []))
+      → CallStep (stateOf j cx cy cz (seamLent noTables ticks blocks fl cl))
       (join b c m n) (answer r 0 [])
-      (stateOf j′ cx cy cz (tablesOf ticks′ blocks fl′ cl′ [] [] [] [] [] [] [] [] [] [] [] [] [] [] []))
+      (stateOf j′ cx cy cz (seamLent noTables ticks′ blocks fl′ cl′))
       → CalledEntry (held j cx cy cz ticks blocks fl cl fk ck pk fr cr pr fn cn pn ff cf pf fs cs ps) (join b c m n) (answer r 0 [])
       (held j′ cx cy cz ticks′ blocks fl′ cl′ fk ck pk fr cr pr fn cn pn ff cf pf fs cs ps)
   -- `crossing`
   crossed : {j j′ : Job} {b r : ℕ} {m : List ℕ} {cx cy cz ticks blocks fl cl fk ck pk fr cr pr fn cn pn ff cf pf fs cs ps
       ticks′ fl′ cl′ fn′ cn′ ff′ cf′ fs′ cs′ : List ℕ}
-      → CallStep (stateOf j cx cy cz (tablesOf ticks blocks fl cl fk ck [] fr cr [] fn cn [] ff cf [] fs cs []))
+      → CallStep (stateOf j cx cy cz (crossLent noTables ticks blocks fl cl fk ck fr cr fn cn ff cf fs cs))
       (cross b m) (answer r 0 [])
-      (stateOf j′ cx cy cz (tablesOf ticks′ blocks fl′ cl′ fk ck [] fr cr [] fn′ cn′ [] ff′ cf′ [] fs′ cs′ []))
+      (stateOf j′ cx cy cz (crossLent noTables ticks′ blocks fl′ cl′ fk ck fr cr fn′ cn′ ff′ cf′ fs′ cs′))
       → CalledEntry (held j cx cy cz ticks blocks fl cl fk ck pk fr cr pr fn cn pn ff cf pf fs cs ps) (cross b m) (answer r 0 [])
       (held j′ cx cy cz ticks′ blocks fl′ cl′ fk ck pk fr cr pr fn′ cn′ pn ff′ cf′ pf fs′ cs′ ps)
   -- `point`
   pointed : {j j′ : Job} {b r : ℕ} {m : List ℕ} {cx cy cz ticks blocks fl cl fk ck pk fr cr pr fn cn pn ff cf pf fs cs ps
       ticks′ pk′ pr′ pn′ pf′ ps′ : List ℕ}
-      → CallStep (stateOf j cx cy cz (tablesOf ticks blocks [] [] [] [] pk [] [] pr [] cn pn [] [] pf [] [] ps))
+      → CallStep (stateOf j cx cy cz (pointLent noTables ticks blocks pk pr cn pn pf ps))
       (point b m) (answer r 0 [])
-      (stateOf j′ cx cy cz (tablesOf ticks′ blocks [] [] [] [] pk′ [] [] pr′ [] cn pn′ [] [] pf′ [] [] ps′))
+      (stateOf j′ cx cy cz (pointLent noTables ticks′ blocks pk′ pr′ cn pn′ pf′ ps′))
       → CalledEntry (held j cx cy cz ticks blocks fl cl fk ck pk fr cr pr fn cn pn ff cf pf fs cs ps) (point b m) (answer r 0 [])
       (held j′ cx cy cz ticks′ blocks fl cl fk ck pk′ fr cr pr′ fn cn pn′ ff cf pf′ fs cs ps′)
   -- `lookup`, which changes nothing
   looked : {j : Job} {b r v : ℕ} {m : List ℕ} {c : Triple} {cx cy cz ticks blocks fl cl fk ck pk fr cr pr fn cn pn ff cf pf fs cs ps : List ℕ}
-      → CallStep (stateOf j cx cy cz (tablesOf ticks blocks [] [] [] [] [] [] [] [] fn cn [] [] [] pf [] [] []))
+      → CallStep (stateOf j cx cy cz (lookLent noTables ticks blocks fn cn pf))
       (look b m c) (answer r v [])
-      (stateOf j cx cy cz (tablesOf ticks blocks [] [] [] [] [] [] [] [] fn cn [] [] [] pf [] [] []))
+      (stateOf j cx cy cz (lookLent noTables ticks blocks fn cn pf))
       → CalledEntry (held j cx cy cz ticks blocks fl cl fk ck pk fr cr pr fn cn pn ff cf pf fs cs ps) (look b m c) (answer r v [])
       (held j cx cy cz ticks blocks fl cl fk ck pk fr cr pr fn cn pn ff cf pf fs cs ps)
   -- `row`, which changes nothing either, and is not lent the cut lists
   read : {j : Job} {κ : Kind} {n r : ℕ} {p : List ℕ} {cx cy cz ticks blocks fl cl fk ck pk fr cr pr fn cn pn ff cf pf fs cs ps : List ℕ}
-      → anyCuts (λ cx′ cy′ cz′. CallStep (stateOf j cx′ cy′ cz′ (tablesOf [] [] [] [] [] [] [] [] [] [] [] [] [] [] [] [] fs cs ps))
+      → anyCuts (λ cx′ cy′ cz′. CallStep (stateOf j cx′ cy′ cz′ (rowLent noTables fs cs ps))
       (reading κ n) (answer r 0 p)
-      (stateOf j cx′ cy′ cz′ (tablesOf [] [] [] [] [] [] [] [] [] [] [] [] [] [] [] [] fs cs ps)))
+      (stateOf j cx′ cy′ cz′ (rowLent noTables fs cs ps)))
       → CalledEntry (held j cx cy cz ticks blocks fl cl fk ck pk fr cr pr fn cn pn ff cf pf fs cs ps) (reading κ n) (answer r 0 p)
       (held j cx cy cz ticks blocks fl cl fk ck pk fr cr pr fn cn pn ff cf pf fs cs ps)
 
