@@ -49,9 +49,13 @@ blockSides k = each (λ a. intervals (cuts k a))
 unfoldable pub blocks : Cutting → ℕ
 blocks k = volume (blockSides k)
 
--- Each cut list keeps its rule, and there are "at most 16,384" blocks. Refusal 2, bad cut, denies it.
+-- The most blocks of a cutting: "at most 16,384".
+abbrev pub mostBlocks : ℕ
+mostBlocks = 16384
+
+-- Each cut list keeps its rule, and there are at most so many blocks. Refusal 2, bad cut, denies it.
 unfoldable pub goodCut : Cutting → Bool
-goodCut k = cutList (k .extents .x) (k .cx) && cutList (k .extents .y) (k .cy) && cutList (k .extents .z) (k .cz) && leb (blocks k) 16384
+goodCut k = cutList (k .extents .x) (k .cx) && cutList (k .extents .y) (k .cy) && cutList (k .extents .z) (k .cz) && leb (blocks k) mostBlocks
 
 -- The interval of block b on an axis.
 unfoldable pub interval : Cutting → ℕ → Axis → ℕ

@@ -18,7 +18,7 @@ use Rattle.cutting.specs.Cutting.{Cutting, blockCodes, blockExtents, blocks, em
 use Rattle.cutting.specs.Nodes.{part, uncutMap}
 use Rattle.joiner.specs.Book.{Book, begun, uncut}
 use Rattle.joiner.specs.Entries.{allTrays, lookedUp}
-use Rattle.joiner.specs.Job.{Kind, State, Told, lengthsFit, orderOf, stageNumber, width}
+use Rattle.joiner.specs.Job.{Closed, Kind, State, Told, lengthsFit, orderOf, stageNumber, width}
 use Rattle.joiner.specs.Sheets.{ClosedJob, Sheet}
 use Rattle.joiner.specs.Stages.{codeIn, codesOf, hasCell, local, lowestBlock}
 use Rattle.joiner.specs.Statement.{Labelling, Uncut}
@@ -89,8 +89,8 @@ module _ (e : Triple) (codes : List ℕ) (s : State) (J : ClosedJob e codes s) w
       let w = simulated (J .told) (J .own) (passed-open .0) (passed-open .1) labellings (begun (J .told)) (J .begin) (J .calls) (begun-sim (J .told) (J .lent) (J .begin) (J .own) (J .opened) labellings) (J .run) (J .fair) in
       (w .0, subst (Sim (J .told) (J .own) (passed-open .0) (passed-open .1) labellings (w .0)) (J .left) (w .1))
 
-  four : stageNumber (end .0 .stage) ≡ 4
-  four = ap stageNumber (sym (end .1 .inv .stage) ∙ J .closed) ∙ (unfold stageNumber in refl)
+  four : stageNumber (end .0 .stage) ≡ stageNumber Closed
+  four = ap stageNumber (sym (end .1 .inv .stage) ∙ J .closed)
 
   volume-is : uncut (end .0) ≡ labels e codes
   volume-is =

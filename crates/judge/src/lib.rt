@@ -16,6 +16,7 @@ use job::link_trays;
 use job::row_tray;
 use job::same_stage;
 use job::tallies_fit;
+use joiner::NUMBERS_PER_BLOCK;
 use pass_survey::Survey;
 use pass_survey::survey_map;
 use refusals::BAD_CUT;
@@ -35,7 +36,7 @@ ghost use lib.Dec.{eqb, leb};
 ghost use lib.ListN.{getD, length};
 ghost use Rattle.cells.specs.Extents.{Sized};
 ghost use Rattle.cells.specs.Grid.{cells};
-ghost use Rattle.cutting.specs.Cutting.{intervals};
+ghost use Rattle.cutting.specs.Cutting.{intervals, mostBlocks};
 ghost use Rattle.blocks.specs.Blocks.{sizeOf};
 ghost use Rattle.joiner.specs.Job.{Face, Curve, Point, lengthsFit};
 ghost use Rattle.job.specs.Jobs.{anyCuts, stageOf, jobOf};
@@ -184,7 +185,7 @@ fn points_fit(job: Job, z: Lengths) -> bool
 
 // Whether the tables that a call is lent have the stated lengths: those of a seam.
 fn seam_lent(count: usize, job: Job, z: Lengths) -> bool
-    requires { ⌜ count ≤ 16384 ⌝ }
+    requires { ⌜ count ≤ mostBlocks ⌝ }
     ensures { λ r. ⌜ r ≡ lengthsFit (lentBy CallName.Seam count (entriesOf job) z) ⌝ }
 {
     both(
@@ -200,7 +201,7 @@ fn seam_lent(count: usize, job: Job, z: Lengths) -> bool
 
 // .. of an enrolment.
 fn enrol_lent(count: usize, job: Job, z: Lengths) -> bool
-    requires { ⌜ count ≤ 16384 ⌝ }
+    requires { ⌜ count ≤ mostBlocks ⌝ }
     ensures { λ r. ⌜ r ≡ lengthsFit (lentBy CallName.Enrol count (entriesOf job) z) ⌝ }
 {
     both(
@@ -214,7 +215,7 @@ fn enrol_lent(count: usize, job: Job, z: Lengths) -> bool
 
 // .. of a crossing.
 fn crossing_lent(count: usize, job: Job, z: Lengths) -> bool
-    requires { ⌜ count ≤ 16384 ⌝ }
+    requires { ⌜ count ≤ mostBlocks ⌝ }
     ensures { λ r. ⌜ r ≡ lengthsFit (lentBy CallName.Crossing count (entriesOf job) z) ⌝ }
 {
     both(
@@ -225,7 +226,7 @@ fn crossing_lent(count: usize, job: Job, z: Lengths) -> bool
 
 // .. of a point step.
 fn points_lent(count: usize, job: Job, z: Lengths) -> bool
-    requires { ⌜ count ≤ 16384 ⌝ }
+    requires { ⌜ count ≤ mostBlocks ⌝ }
     ensures { λ r. ⌜ r ≡ lengthsFit (lentBy CallName.Points count (entriesOf job) z) ⌝ }
 {
     both(
@@ -239,7 +240,7 @@ fn points_lent(count: usize, job: Job, z: Lengths) -> bool
 
 // .. of a lookup.
 fn lookup_lent(count: usize, job: Job, z: Lengths) -> bool
-    requires { ⌜ count ≤ 16384 ⌝ }
+    requires { ⌜ count ≤ mostBlocks ⌝ }
     ensures { λ r. ⌜ r ≡ lengthsFit (lentBy CallName.Lookup count (entriesOf job) z) ⌝ }
 {
     both(
@@ -269,7 +270,7 @@ fn row_lent(count: usize, job: Job, z: Lengths) -> bool
 
 // .. of an opening, which is lent all.
 fn open_lent(count: usize, job: Job, z: Lengths) -> bool
-    requires { ⌜ count ≤ 16384 ⌝ }
+    requires { ⌜ count ≤ mostBlocks ⌝ }
     ensures { λ r. ⌜ r ≡ lengthsFit (lentBy CallName.Open count (entriesOf job) z) ⌝ }
 {
     both(crossing_lent(count, job, z), points_fit(job, z))
@@ -277,7 +278,7 @@ fn open_lent(count: usize, job: Job, z: Lengths) -> bool
 
 // .. of any call, of a job of so many blocks. Not an entry.
 pub fn lent_fits(call: CallName, count: usize, job: Job, z: Lengths) -> bool
-    requires { ⌜ count ≤ 16384 ⌝ }
+    requires { ⌜ count ≤ mostBlocks ⌝ }
     ensures { λ r. ⌜ r ≡ lengthsFit (lentBy call count (entriesOf job) z) ⌝ }
 {
     match call {
@@ -318,7 +319,7 @@ pub fn at(table: &[u32], i: usize) -> u32
 pub fn entry_of(table: &[u32], b: u32) -> Entry
     ensures { λ r. ⌜ r ≡ entryOf (now (table .entry)) b ⌝ }
 {
-    let i = 5 * b as usize;
+    let i = NUMBERS_PER_BLOCK * b as usize;
     Entry {
         faces: at(table, i),
         curves: at(table, i + 1),
@@ -412,7 +413,7 @@ fn stage_of(call: CallName) -> Stage
 
 // 6: whether the map of so many cells and the tables have the stated lengths. Not an entry.
 pub fn fits(call: CallName, count: usize, block: Block, job: Job, z: Lengths, length: usize) -> bool
-    requires { ⌜ (count ≤ 16384) × Sized 64 (sizeOf block) ⌝ }
+    requires { ⌜ (count ≤ mostBlocks) × Sized 64 (sizeOf block) ⌝ }
     ensures { λ r. ⌜ r ≡ fitsIn call count (sizeOf block) (entriesOf job) z length ⌝ }
 {
     if !map_fits(block, length) {
@@ -505,7 +506,7 @@ pub fn advance(
     curves: u32,
     points: u32,
 ) -> Job
-    requires { ⌜ (step < length (now ticks)) × (intervals (now cx) * intervals (now cy) * intervals (now cz) ≤ 16384) ⌝ }
+    requires { ⌜ (step < length (now ticks)) × (intervals (now cx) * intervals (now cy) * intervals (now cz) ≤ mostBlocks) ⌝ }
     requires { ⌜ (job .faces + faces ≤ job .«face_entries») × (job .curves + curves ≤ job .«curve_entries») × (job .points + points ≤ job .«point_entries») ⌝ }
     ensures { λ r. ⌜ Advanced job (now (cx .entry)) (now (cy .entry)) (now (cz .entry)) (now (ticks .entry)) (now (ticks .exit)) step faces curves points r ⌝ }
 {

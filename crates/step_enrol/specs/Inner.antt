@@ -10,7 +10,7 @@ use Rattle.lists.specs.Lists.{overlay}
 use Rattle.cells.specs.Box.{Triple}
 use Rattle.cells.specs.Grid.{cells}
 use Rattle.labels.specs.Components.{largest}
-use Rattle.cutting.specs.Cutting.{blockExtents}
+use Rattle.cutting.specs.Cutting.{blockExtents, mostBlocks}
 use Rattle.joiner.specs.Job.{Kind, State}
 use Rattle.joiner.specs.Job as joiner
 use Rattle.joiner.specs.Stages.{enrolStep}
@@ -77,7 +77,7 @@ blockNumbers p face curve i = getD (p .faces ∷ p .curves ∷ p .points ∷ fac
 pub record KindReady (v : Triple) (r : Block) (b : ℕ) (m : List ℕ) (j shift from count links keys rows : ℕ) : Type 0 where
   pub lies : Lies v r
   pub size : length m ≡ cells (sizeOf r)
-  pub block : b < 16384
+  pub block : b < mostBlocks
   pub below : j ≤ 2
   pub most : count ≡ largest (sizeOf r) m j
   pub on-links : from + count ≤ links

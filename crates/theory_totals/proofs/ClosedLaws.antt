@@ -30,7 +30,7 @@ use Rattle.cutting.proofs.CutLaws.{embed-order}
 use Rattle.joiner.specs.Book.{Book, uncut}
 use Rattle.joiner.specs.Declines.{finalOf}
 use Rattle.joiner.specs.Entries.{cellNumber, lookedUp}
-use Rattle.joiner.specs.Job.{Face, Point, State, Told, Tables, stageNumber}
+use Rattle.joiner.specs.Job.{Face, Point, State, Told, Tables, stageNumber, Closed}
 use Rattle.joiner.specs.Stages.{hasCell, local, lowestBlock}
 use Rattle.joiner.specs.Statement.{Labelling}
 use Rattle.joiner.proofs.Codes.{has-held, lowest-has}
@@ -113,7 +113,7 @@ unfolding ownFace faceAt
 own-face e s g p t = rw t
 
 module _ (o : Told) (own : ℕ → List ℕ) (ext : offSize 1024 (o .cutting .extents) ≡ false) (good : goodCut (o .cutting) ≡ true)
-    (lab : (b : ℕ) → b < blocks (o .cutting) → Labelling (blockExtents (o .cutting) b) (own b)) (B : Book) (s : State) (S : Sim o own ext good lab B s) (four : stageNumber (B .stage) ≡ 4)
+    (lab : (b : ℕ) → b < blocks (o .cutting) → Labelling (blockExtents (o .cutting) b) (own b)) (B : Book) (s : State) (S : Sim o own ext good lab B s) (four : stageNumber (B .stage) ≡ stageNumber Closed)
     (values : ℕ → List Float) (kinds : ℕ → List ℕ) where
   abbrev k : Cutting
   k = o .cutting

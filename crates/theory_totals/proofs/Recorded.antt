@@ -22,7 +22,7 @@ use Rattle.labels.specs.Components.{component}
 use Rattle.cutting.specs.Cutting.{Cutting, blocks, goodCut, blockExtents}
 use Rattle.joiner.specs.Book.{Book, uncut}
 use Rattle.joiner.specs.Declines.{numberStands}
-use Rattle.joiner.specs.Job.{Face, State, Told, Tables, countOf, fromOf, lengthsFit, stageNumber}
+use Rattle.joiner.specs.Job.{Face, State, Told, Tables, countOf, fromOf, lengthsFit, stageNumber, Closed}
 use Rattle.joiner.specs.Statement.{Labelling}
 use Rattle.joiner.proofs.Linking.{number-stands}
 use Rattle.joiner.proofs.Simulation.{Sim, enrolled-block}
@@ -88,7 +88,7 @@ opened-empty o lent w s v P = subst (Emptied o) (sym (P .totals)) (zeroed-empty 
 -- The tables w hold what the blocks have brought that have come by the book R, in their order, added to the tables v that the opening left.
 pub record Recorded (o : Told) (own : ℕ → List ℕ) (v : TotalTables) (B : Book) (s : State) (R : ReadingBook) (w : TotalTables) : Type 0 where
   -- before the job is closed none have come
-  pub early : stageNumber (B .stage) ≢ 4 → R .came ≡ []
+  pub early : stageNumber (B .stage) ≢ stageNumber Closed → R .came ≡ []
   pub long : length (w .came) ≡ blocks (o .cutting)
   pub ticks : (b : ℕ) → hasCome w b ≡ isIn (R .came) b
   pub sums : w .sums ≡ sumsOver (o .cutting) (broughtTo (s .tables) own (R .values) (R .kinds)) (v .sums) (R .came)
@@ -102,7 +102,7 @@ pub record Recorded (o : Told) (own : ℕ → List ℕ) (v : TotalTables) (B : B
 
 module _ (o : Told) (own : ℕ → List ℕ) (ext : offSize 1024 (o .cutting .extents) ≡ false) (good : goodCut (o .cutting) ≡ true)
     (lab : (b : ℕ) → b < blocks (o .cutting) → Labelling (blockExtents (o .cutting) b) (own b)) (v : TotalTables) (Z : Emptied o v) (B : Book) (s : State) (S : Sim o own ext good lab B s)
-    (R : ReadingBook) (w : TotalTables) (Q : Recorded o own v B s R w) (four : stageNumber (B .stage) ≡ 4) where
+    (R : ReadingBook) (w : TotalTables) (Q : Recorded o own v B s R w) (four : stageNumber (B .stage) ≡ stageNumber Closed) where
   abbrev k : Cutting
   k = o .cutting
 

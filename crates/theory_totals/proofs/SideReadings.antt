@@ -28,7 +28,7 @@ use Rattle.cutting.proofs.RenameLaws.{keep-map}
 use Rattle.cutting.proofs.BlockLaws.{voxel-same, face-row}
 use Rattle.cutting.proofs.CutLaws.{embed-order, embed-up}
 use Rattle.joiner.specs.Book.{Book, uncut}
-use Rattle.joiner.specs.Job.{State, Told, stageNumber}
+use Rattle.joiner.specs.Job.{Closed, State, Told, stageNumber}
 use Rattle.joiner.specs.Stages.{codesOf, hasCell, local, lowestBlock}
 use Rattle.joiner.specs.Statement.{Labelling}
 use Rattle.joiner.proofs.Codes.{has-held, lowest-has}
@@ -166,7 +166,7 @@ module _ (k : Cutting) (good : goodCut k ≡ true) (codes : List ℕ) (b : ℕ) 
 -- ---- a closed job
 
 module _ (o : Told) (own : ℕ → List ℕ) (ext : offSize 1024 (o .cutting .extents) ≡ false) (good : goodCut (o .cutting) ≡ true)
-    (lab : (b : ℕ) → b < blocks (o .cutting) → Labelling (blockExtents (o .cutting) b) (own b)) (B : Book) (s : State) (S : Sim o own ext good lab B s) (four : stageNumber (B .stage) ≡ 4)
+    (lab : (b : ℕ) → b < blocks (o .cutting) → Labelling (blockExtents (o .cutting) b) (own b)) (B : Book) (s : State) (S : Sim o own ext good lab B s) (four : stageNumber (B .stage) ≡ stageNumber Closed)
     (values : ℕ → List Float) (kinds : ℕ → List ℕ) (n side : ℕ) (hn : 0 < n) (hs : side ≤ 1) where
   abbrev k : Cutting
   k = o .cutting
