@@ -13,7 +13,7 @@ use lib.Seq.{drop-cons}
 use borrow.Author.Tests.{ltb-true, leb-true, eqb-true, not-true, not-false, lt-ltb, le-ltb, le-leb, lt-leb, eq-eqb, ne-eqb}
 use Rattle.cells.specs.Box.{X, Y, Z, triple, volume, place}
 use Rattle.cells.specs.Grid.{sides}
-use Rattle.cutting.specs.Cutting.{Cutting, ascends, cutList, goodCut, intervals, lowEnd, highEnd, blockSides, blocks, interval, origin, blockExtents, follows, sameInterval, seam, mostBlocks}
+use Rattle.cutting.specs.Cutting.{Cutting, ascends, cutList, goodCut, intervals, lowEnd, highEnd, blockSides, blocks, interval, origin, blockExtents, follows, sameInterval, seam, mostBlocks, FewBlocks}
 use Rattle.joiner.specs.Stages.{seamAxis}
 use Rattle.blocks.specs.Blocks.{cutOf, anyExtents, Tells, inOn, hasIn, sideOf, placeOf, beside}
 use Rattle.blocks.specs.declared.Block.{Block}
@@ -108,7 +108,7 @@ unfolding blocks volume blockSides
 blocks-are k = refl
 
 -- x, y and z are the intervals of the lists
-module _ (cx cy cz : List ℕ) (x y : ℕ) (ex : x ≡ intervals cx) (ey : y ≡ intervals cy) (h : intervals cx * intervals cy * intervals cz ≤ mostBlocks) where
+module _ (cx cy cz : List ℕ) (x y : ℕ) (ex : x ≡ intervals cx) (ey : y ≡ intervals cy) (h : FewBlocks cx cy cz) where
   pub layer-few : x * y ≤ mostBlocks
   layer-few = rw (ex, ey) (omega (arith, mul-le-mul {n₁ = intervals cx * intervals cy} {m₁ = 1} {n₂ = intervals cx * intervals cy} (omega arith) (intervals-low cz)))
 

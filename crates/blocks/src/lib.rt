@@ -7,7 +7,7 @@ ghost use lib.Dec.{eqb, leb, ltb};
 ghost use Rattle.cells.specs.Box.{Axis, triple, coord};
 ghost use Rattle.cells.specs.Extents.{Sized};
 ghost use Rattle.cells.specs.Grid.{sides};
-ghost use Rattle.cutting.specs.Cutting.{cutList, goodCut, intervals, lowEnd, highEnd, blocks, seam, mostBlocks};
+ghost use Rattle.cutting.specs.Cutting.{cutList, goodCut, intervals, lowEnd, highEnd, blocks, seam, mostBlocks, FewBlocks};
 ghost use Rattle.joiner.specs.Stages.{seamAxis};
 ghost use Rattle.blocks.specs.Blocks.{cutOf, anyExtents, sizeOf, Tells, hasIn, localIn, shiftIn, embedIn, sideOf, placeOf, beside};
 
@@ -92,7 +92,7 @@ pub fn good_cut(nx: u32, ny: u32, nz: u32, cx: &[u32], cy: &[u32], cz: &[u32]) -
 
 // How many blocks there are. Not an entry.
 pub fn block_count(cx: &[u32], cy: &[u32], cz: &[u32]) -> usize
-    requires { ⌜ intervals (now cx) * intervals (now cy) * intervals (now cz) ≤ mostBlocks ⌝ }
+    requires { ⌜ FewBlocks (now cx) (now cy) (now cz) ⌝ }
     ensures { λ r. ⌜ anyExtents (now (cx .entry)) (now (cy .entry)) (now (cz .entry)) (λ k. r ≡ blocks k) ⌝ }
 {
     intervals(cx) * intervals(cy) * intervals(cz)

@@ -139,7 +139,11 @@ pub fn block_trays(blocks: usize, ticks: usize, numbers: usize) -> bool
     ensures { λ r. ⌜ r ≡ lengthsFit (blockLengths blocks ticks numbers) ⌝ }
 {
     let n = blocks as u64;
-    also(also(true, numbers, NUMBERS_PER_BLOCK as u64 * n), ticks, TICKS_PER_BLOCK as u64 * n)
+    also(
+        also(true, numbers, NUMBERS_PER_BLOCK as u64 * n),
+        ticks,
+        TICKS_PER_BLOCK as u64 * n,
+    )
 }
 
 // The length of a table with one place for each entry.

@@ -29,8 +29,3 @@ pub key-order : (p q b c : ℕ) → b < keyBase → c < keyBase → keyOf p b < 
 unfolding keyOf
 key-order p q b c hb hc h =
     by-test (ltb p q) (λ t. inl (ltb-true p q t)) (λ t. let l : q ≤ p = ltb-false p q t in let e : p ≡ q = omega arith in inr (e, omega arith))
-
--- a key has room in 64 bits
-pub key-fits : (p b : ℕ) → p < 8589934592 → b < keyBase → keyOf p b < 18446744073709551616
-unfolding keyOf
-key-fits p b hp hb = omega arith

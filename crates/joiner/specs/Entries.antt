@@ -176,7 +176,7 @@ pub record EnrolledKind (s t : State) (b : ℕ) (m : List ℕ) (κ : Kind) : Typ
       ≡ overlay (s .tables .rows κ) (width κ * s .job .sofar κ)
       (λ i. enrolledRow (s .job .told .cutting) (s .job .sofar Face) b m κ (suc (i / width κ)) (i % width κ)) (width κ * adds s (enrol b m) κ)
 
--- The block's five numbers.
+-- The numbers of a block.
 unfoldable pub blockEntry : State → ℕ → List ℕ → ℕ → ℕ
 blockEntry s b m i =
     getD (largest (blockExtents (s .job .told .cutting) b) m 2 ∷ largest (blockExtents (s .job .told .cutting) b) m 1 ∷

@@ -16,7 +16,7 @@ use Rattle.cells.specs.Extents.{Sized, offSize}
 use Rattle.cells.specs.Grid.{cells}
 use Rattle.extents.proofs.SizeLaws.{sized-of}
 use Rattle.labels.specs.Components.{largest}
-use Rattle.cutting.specs.Cutting.{Cutting, intervals, blocks, blockExtents, goodCut, mostBlocks}
+use Rattle.cutting.specs.Cutting.{Cutting, blocks, blockExtents, goodCut, mostBlocks, FewBlocks}
 use Rattle.joiner.specs.Job.{Kind, Face, Curve, Point, Told, Tables, State, Tray, sameStage, countOf, fromOf, ticked, lengthsFit, blockTrays, linkTrays, foundTrays, numberTrays, firstTrays, listedTrays, kindTrays, numbersPerBlock}
 use Rattle.joiner.specs.Job as joiner
 use Rattle.joiner.specs.Stages.{nextAfter}
@@ -198,7 +198,7 @@ module _ (j : Job) (cx cy cz : List ℕ) (s : joiner.Stage) where
 -- ---- a block of a good cut
 
 module _ (k : Cutting) (good : goodCut k ≡ true) where
-  pub few-of : intervals (k .cx) * intervals (k .cy) * intervals (k .cz) ≤ mostBlocks
+  pub few-of : FewBlocks (k .cx) (k .cy) (k .cz)
   few-of = good-few k good
 
   pub count-few : (count : ℕ) → count ≡ blocks k → count ≤ mostBlocks
@@ -438,7 +438,7 @@ module _ (j : Job) (cx cy cz ticks : List ℕ) (c : CallName) (z : Lengths) (b s
     begun : FirstTests (jobOf j cx cy cz) (stageFor c) × (b < blocks cut-as)
     begun = reached-passed (jobOf j cx cy cz) (stageFor c) ticks b step (sym first-is ∙ q)
 
-    pub begun-few : intervals cx * intervals cy * intervals cz ≤ mostBlocks
+    pub begun-few : FewBlocks cx cy cz
     begun-few = few-of cut-as (begun .0 .good)
 
     module _ (r : Block) (T : anyExtents cx cy cz (λ k. Tells k b r)) (i : ℕ) (many : anyExtents cx cy cz (λ k. i ≡ blocks k)) where

@@ -36,7 +36,7 @@ ghost use lib.Dec.{eqb, leb};
 ghost use lib.ListN.{getD, length};
 ghost use Rattle.cells.specs.Extents.{Sized};
 ghost use Rattle.cells.specs.Grid.{cells};
-ghost use Rattle.cutting.specs.Cutting.{intervals, mostBlocks};
+ghost use Rattle.cutting.specs.Cutting.{mostBlocks, FewBlocks};
 ghost use Rattle.blocks.specs.Blocks.{sizeOf};
 ghost use Rattle.joiner.specs.Job.{Face, Curve, Point, lengthsFit};
 ghost use Rattle.job.specs.Jobs.{anyCuts, stageOf, jobOf};
@@ -506,7 +506,7 @@ pub fn advance(
     curves: u32,
     points: u32,
 ) -> Job
-    requires { ⌜ (step < length (now ticks)) × (intervals (now cx) * intervals (now cy) * intervals (now cz) ≤ mostBlocks) ⌝ }
+    requires { ⌜ (step < length (now ticks)) × FewBlocks (now cx) (now cy) (now cz) ⌝ }
     requires { ⌜ (job .faces + faces ≤ job .«face_entries») × (job .curves + curves ≤ job .«curve_entries») × (job .points + points ≤ job .«point_entries») ⌝ }
     ensures { λ r. ⌜ Advanced job (now (cx .entry)) (now (cy .entry)) (now (cz .entry)) (now (ticks .entry)) (now (ticks .exit)) step faces curves points r ⌝ }
 {

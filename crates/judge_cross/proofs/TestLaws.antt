@@ -3,12 +3,12 @@
 use mathlib.Core.Path.{_≡_, refl, sym, ap, _∙_}
 use mathlib.Core.Bool.{Bool, true, false, not, cond, _&&_, _||_}
 use mathlib.Core.List.{List, [], _∷_, map}
-use Prim.Native.Nat.{ℕ, _*_, _≤_}
+use Prim.Native.Nat.{ℕ, _≤_}
 use lib.Dec.{eqb}
 use lib.ListN.{length}
 use borrow.Author.Tests.{eq-eqb, ne-eqb}
 use Rattle.lists.specs.Lists.{consecutive, allOf}
-use Rattle.cutting.specs.Cutting.{Cutting, intervals, blocks, blockExtents, mostBlocks}
+use Rattle.cutting.specs.Cutting.{Cutting, blocks, blockExtents, mostBlocks, FewBlocks}
 use Rattle.joiner.specs.Job.{Kind, Face, Curve, State, ticked}
 use Rattle.joiner.specs.Job as joiner
 use Rattle.joiner.specs.Stages.{finished, stepsOf, crossingStep}
@@ -48,7 +48,7 @@ module _ (j : Job) (cx cy cz ticks : List ℕ) (z : Lengths) (table rows fl cl :
 
   module _ (q : r ≡ 0) where
     -- what `block_count` requires
-    pub cross-few : intervals cx * intervals cy * intervals cz ≤ mostBlocks
+    pub cross-few : FewBlocks cx cy cz
     cross-few = few-of (toldOf j cx cy cz .cutting) (judged-passed (jobOf j cx cy cz) ticks CallName.Crossing z b step table m (sym e ∙ q) .first .good)
 
     module _ (i : ℕ) (many : i ≡ blocks (toldOf j cx cy cz .cutting)) where

@@ -13,7 +13,7 @@ use Rattle.lists.proofs.Cases.{and-first, and-second}
 use Rattle.cells.specs.Box.{Triple, triple, volume}
 use Rattle.cells.specs.Extents.{Sized, offSize}
 use Rattle.cells.specs.Grid.{cells}
-use Rattle.cutting.specs.Cutting.{Cutting, intervals, blocks, blockExtents, goodCut, mostBlocks}
+use Rattle.cutting.specs.Cutting.{Cutting, blocks, blockExtents, goodCut, mostBlocks, FewBlocks}
 use Rattle.joiner.specs.Job.{Face, Closed, tray, lengthsFit, Tables, State, sameStage, countOf, fromOf, numberTrays, numbersPerBlock}
 use Rattle.joiner.specs.Declines.{talliesFit, mapStands, numberStands}
 use Rattle.joiner.proofs.Passed.{fits-at, numbered-fits}
@@ -151,7 +151,7 @@ module _ (j : Job) (cx cy cz came : List ℕ) (b n : ℕ) (e : n ≡ reachedOf (
   passed = reached-passed (jobOf j cx cy cz) Closed came b b (sym e ∙ q)
 
   -- what `block_count` requires
-  pub judge-few : intervals cx * intervals cy * intervals cz ≤ mostBlocks
+  pub judge-few : FewBlocks cx cy cz
   judge-few = few-of cut-as (passed .0 .good)
 
   module _ (r : Block) (T : anyExtents cx cy cz (λ k. Tells k b r)) (i : ℕ) (c : anyExtents cx cy cz (λ k. i ≡ blocks k)) where

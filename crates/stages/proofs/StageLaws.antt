@@ -11,7 +11,7 @@ use lib.Dec.{eqb, ltb}
 use lib.ListN.{length, List·getD-eq-default}
 use borrow.Author.Tests.{ltb-true, ltb-false, eqb-true, eqb-false, not-true, not-false, lt-ltb, le-ltb, eq-eqb, ne-eqb}
 use Rattle.cells.specs.Box.{place}
-use Rattle.cutting.specs.Cutting.{Cutting, intervals, blockSides, blocks, interval, mostBlocks}
+use Rattle.cutting.specs.Cutting.{Cutting, intervals, blockSides, blocks, interval, mostBlocks, FewBlocks}
 use Rattle.joiner.specs.Job.{Tables, ticked, ticksPerBlock}
 use Rattle.joiner.specs.Job as joiner
 use Rattle.joiner.specs.Stages.{stepsOf, nextStage, finished, nextAfter}
@@ -150,7 +150,7 @@ module _ (cx cy cz l : List ℕ) where
 abbrev Counted : List ℕ → List ℕ → List ℕ → ℕ → Type 0
 Counted cx cy cz n = anyExtents cx cy cz (λ k. n ≡ blocks k)
 
-pub few-blocks : (cx cy cz : List ℕ) (n : ℕ) → Counted cx cy cz n → intervals cx * intervals cy * intervals cz ≤ mostBlocks → n ≤ mostBlocks
+pub few-blocks : (cx cy cz : List ℕ) (n : ℕ) → Counted cx cy cz n → FewBlocks cx cy cz → n ≤ mostBlocks
 few-blocks cx cy cz n e h = omega (arith, e 0 0 0, blocks-are (cutOf 0 0 0 cx cy cz))
 
 module _ (cx cy cz l : List ℕ) (stage : Stage) where

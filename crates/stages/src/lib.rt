@@ -9,7 +9,7 @@ ghost use mathlib.Core.Path.{_≡_};
 ghost use mathlib.Core.Bool.{not, _||_};
 ghost use Prim.Native.Nat.{suc, _*_, _≤_, _<_};
 ghost use lib.Dec.{ltb};
-ghost use Rattle.cutting.specs.Cutting.{intervals, mostBlocks};
+ghost use Rattle.cutting.specs.Cutting.{intervals, mostBlocks, FewBlocks};
 ghost use Rattle.joiner.specs.Job.{Enrol, ticksPerBlock};
 ghost use Rattle.joiner.specs.Stages.{nextStage, finished, nextAfter};
 ghost use Rattle.stages.specs.Ticks.{tickedIn, tickedTo, seamsTicked, seamsTickedTo};
@@ -87,7 +87,7 @@ fn seams_ticked(ticks: &[u32], cx: &[u32], cy: &[u32], cz: &[u32], blocks: usize
 
 // Whether every step of a stage is ticked. A closed job has none. Not an entry.
 pub fn finished(stage: Stage, ticks: &[u32], cx: &[u32], cy: &[u32], cz: &[u32]) -> bool
-    requires { ⌜ intervals (now cx) * intervals (now cy) * intervals (now cz) ≤ mostBlocks ⌝ }
+    requires { ⌜ FewBlocks (now cx) (now cy) (now cz) ⌝ }
     ensures { λ r. ⌜ anyExtents (now (cx .entry)) (now (cy .entry)) (now (cz .entry)) (λ k. r ≡ finished k (tickedIn (now (ticks .entry))) (stageOf stage)) ⌝ }
 {
     let blocks = block_count(cx, cy, cz);
@@ -102,7 +102,7 @@ pub fn finished(stage: Stage, ticks: &[u32], cx: &[u32], cy: &[u32], cz: &[u32])
 
 // "A stage without steps is passed over": one block has no seams.
 fn after_enrol(cx: &[u32], cy: &[u32], cz: &[u32]) -> Stage
-    requires { ⌜ intervals (now cx) * intervals (now cy) * intervals (now cz) ≤ mostBlocks ⌝ }
+    requires { ⌜ FewBlocks (now cx) (now cy) (now cz) ⌝ }
     ensures { λ r. ⌜ anyExtents (now (cx .entry)) (now (cy .entry)) (now (cz .entry)) (λ k. stageOf r ≡ nextStage k Enrol) ⌝ }
 {
     if block_count(cx, cy, cz) == 1 {
@@ -113,7 +113,7 @@ fn after_enrol(cx: &[u32], cy: &[u32], cz: &[u32]) -> Stage
 
 // The stage that follows a finished one.
 fn after(stage: Stage, cx: &[u32], cy: &[u32], cz: &[u32]) -> Stage
-    requires { ⌜ intervals (now cx) * intervals (now cy) * intervals (now cz) ≤ mostBlocks ⌝ }
+    requires { ⌜ FewBlocks (now cx) (now cy) (now cz) ⌝ }
     ensures { λ r. ⌜ anyExtents (now (cx .entry)) (now (cy .entry)) (now (cz .entry)) (λ k. stageOf r ≡ nextStage k (stageOf stage)) ⌝ }
 {
     match stage {
@@ -127,7 +127,7 @@ fn after(stage: Stage, cx: &[u32], cy: &[u32], cz: &[u32]) -> Stage
 
 // The stage after a step was ticked. Not an entry.
 pub fn next_stage(stage: Stage, ticks: &[u32], cx: &[u32], cy: &[u32], cz: &[u32]) -> Stage
-    requires { ⌜ intervals (now cx) * intervals (now cy) * intervals (now cz) ≤ mostBlocks ⌝ }
+    requires { ⌜ FewBlocks (now cx) (now cy) (now cz) ⌝ }
     ensures { λ r. ⌜ anyExtents (now (cx .entry)) (now (cy .entry)) (now (cz .entry)) (λ k. stageOf r ≡ nextAfter k (tickedIn (now (ticks .entry))) (stageOf stage)) ⌝ }
 {
     if finished(stage, ticks, cx, cy, cz) {

@@ -17,7 +17,7 @@ use Rattle.cells.specs.Box.{Triple, triple}
 use Rattle.cells.specs.Extents.{Sized}
 use Rattle.cells.specs.Grid.{cells}
 use Rattle.labels.specs.Components.{largest}
-use Rattle.cutting.specs.Cutting.{Cutting, intervals, blocks, blockExtents, mostBlocks}
+use Rattle.cutting.specs.Cutting.{Cutting, blocks, blockExtents, mostBlocks, FewBlocks}
 use Rattle.joiner.specs.Job.{Kind, Face, Curve, Point, Enrol, Tables, State, ticked, blockTrays, linkTrays, foundTrays, numbersPerBlock, ticksPerBlock}
 use Rattle.joiner.specs.Stages.{enrolStep}
 use Rattle.joiner.specs.Calls.{enrol, answer, full, overfull}
@@ -40,7 +40,7 @@ use Rattle.pass_survey.specs.declared.Survey.{Survey}
 use Rattle.step_enrol.specs.declared.Plan.{Plan}
 use Rattle.step_enrol.specs.Inner.{lentLengths, lateOf, refusalOf, Judged, Ready, blockNumbers, KindReady, KindDone}
 
--- ---- the five numbers of a block
+-- ---- the numbers of a block
 
 pub block-put : (xs : List ℕ) (b : ℕ) (p : Plan) (face curve : ℕ)
     → set (set (set (set (set xs (numbersPerBlock * b) (p .faces)) (numbersPerBlock * b + 1) (p .curves)) (numbersPerBlock * b + 2) (p .points)) (numbersPerBlock * b + 3) face) (numbersPerBlock * b + 4) curve ≡ overlay xs (numbersPerBlock * b) (blockNumbers p face curve) numbersPerBlock
@@ -201,7 +201,7 @@ module _ (j : Job) (cx cy cz tk bl fl cl fk ck fr cr : List ℕ) (b : ℕ) (m : 
   act-block = (omega (arith, begun .1, count-few cut-of (begun .0 .good) (blocks cut-of) refl), omega (arith, begun .1, long .on-blocks))
 
   -- .. and `advance`
-  pub act-advance : ((enrolStep b < length tk) × (intervals cx * intervals cy * intervals cz ≤ mostBlocks))
+  pub act-advance : ((enrolStep b < length tk) × FewBlocks cx cy cz)
       × ((j .faces + p .faces ≤ j .«face_entries») × (j .curves + p .curves ≤ j .«curve_entries») × (j .points + 0 ≤ j .«point_entries»))
   act-advance = ((omega (arith, begun .1, long .on-ticks), few-of cut-of (begun .0 .good)), (room Face, room Curve, room Point))
 

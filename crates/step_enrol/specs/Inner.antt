@@ -69,7 +69,7 @@ pub record Ready (s : State) (b : ℕ) (m : List ℕ) (p : Plan) : Type 0 where
   pub accepted : refusal s (enrol b m) ≡ 0
   pub plan : Planned (s .job) b m p
 
--- The block's five numbers, the joiner's `blockEntry`.
+-- The numbers of a block, the joiner's `blockEntry`.
 unfoldable pub blockNumbers : Plan → ℕ → ℕ → ℕ → ℕ
 blockNumbers p face curve i = getD (p .faces ∷ p .curves ∷ p .points ∷ face ∷ curve ∷ []) i 0
 

@@ -13,7 +13,7 @@ use Rattle.lists.proofs.Overlay.{length-overlay}
 use Rattle.cells.specs.Box.{triple}
 use Rattle.cells.specs.Grid.{cells}
 use Rattle.extents.proofs.SizeLaws.{sized-of}
-use Rattle.cutting.specs.Cutting.{Cutting, intervals, blocks, mostBlocks}
+use Rattle.cutting.specs.Cutting.{Cutting, blocks, mostBlocks, FewBlocks}
 use Rattle.joiner.specs.Job.{Kind, Face, Curve, Point, Closed, State, sameStage, stageNumber, keyOf, fromOf, blockTrays, numberTrays, foundTrays, firstTrays, listedTrays, kindTrays, ticksPerBlock}
 use Rattle.joiner.specs.Job as joiner
 use Rattle.joiner.specs.Stages.{pointStep}
@@ -99,7 +99,7 @@ module _ (j : Job) (cx cy cz ticks table curves keys rows numbers firsts listed 
     room = rw (R .counted) (points-room (before .job .told .entries) (before .job .sofar) (adds before (point b m)) (call-facts .room))
 
     -- what `advance` requires
-    pub accept-advance : ((pointStep b < length ticks) × (intervals cx * intervals cy * intervals cz ≤ mostBlocks))
+    pub accept-advance : ((pointStep b < length ticks) × FewBlocks cx cy cz)
         × ((j .faces + 0 ≤ j .«face_entries») × (j .curves + 0 ≤ j .«curve_entries») × (j .points + points ≤ j .«point_entries»))
     accept-advance =
         let h : (κ : Kind) → before .job .sofar κ ≤ before .job .told .entries κ = tally-fits (before .job) (call-facts .tallies) in

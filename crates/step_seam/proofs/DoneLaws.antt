@@ -14,7 +14,7 @@ use Rattle.union_find.specs.Links.{root, Rooted}
 use Rattle.cells.specs.Extents.{Sized}
 use Rattle.labels.specs.Components.{largest}
 use Rattle.labels.proofs.CountLaws.{largest-bound}
-use Rattle.cutting.specs.Cutting.{Cutting, intervals, blocks, blockExtents, mostBlocks}
+use Rattle.cutting.specs.Cutting.{Cutting, blocks, blockExtents, FewBlocks}
 use Rattle.joiner.specs.Job.{Kind, Face, Curve, Point, State, orderOf, fromOf, blockTrays, linkTrays, ticksPerBlock}
 use Rattle.joiner.specs.Stages.{seamAxis, seamStep}
 use Rattle.joiner.specs.Calls.{join, answer}
@@ -56,7 +56,7 @@ module _ (j : Job) (cx cy cz ticks blocks′ faces curves : List ℕ) (b c : ℕ
     call-facts : Passed before (join b c m n)
     call-facts = passed before (join b c m n) acc
 
-    pub seam-few : intervals cx * intervals cy * intervals cz ≤ mostBlocks
+    pub seam-few : FewBlocks cx cy cz
     seam-few = few-of k (call-facts .cut)
 
     pub low-sized : (r : Block) → Tells k b r → Sized 64 (sizeOf r)

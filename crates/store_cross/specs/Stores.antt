@@ -5,7 +5,7 @@ use Prim.Native.Nat.{ℕ, _*_, _≤_, _<_}
 use lib.ListN.{length}
 use Rattle.closure.specs.Joined.{Edge}
 use Rattle.union_find.specs.Links.{root}
-use Rattle.cutting.specs.Cutting.{Cutting, intervals, blockExtents, mostBlocks}
+use Rattle.cutting.specs.Cutting.{Cutting, blockExtents, FewBlocks}
 use Rattle.joiner.specs.Job.{Curve}
 use Rattle.joiner.specs.Job as joiner
 use Rattle.joiner.specs.Stages.{crossingStep}
@@ -23,7 +23,7 @@ edgesOf k table links b m = crossEdges (blockExtents k b) m 1 (root links) (entr
 -- What the tick and the joins require, of a job in which no tally changes.
 pub record JoinReady (k : Cutting) (ticks table faces curves : List ℕ) (b : ℕ) (m : List ℕ) : Type 0 where
   pub within : crossingStep b < length ticks
-  pub few : intervals (k .cx) * intervals (k .cy) * intervals (k .cz) ≤ mostBlocks
+  pub few : FewBlocks (k .cx) (k .cy) (k .cz)
   pub trays : Trays (blockExtents k b) m 1 faces (entryOf table b .«face_from») curves (entryOf table b .«curve_from»)
 
 pub record TalliesFit (j : joiner.Job) : Type 0 where

@@ -112,19 +112,19 @@ module _ (o : Told) (own : ℕ → List ℕ) (ext : offSize 1024 (o .cutting .ex
     abbrev K : OneCall o own ext good lab B s S e
     K = one-call o own ext good lab B s S e P fair
 
-    four-of : stageNumber (B .stage) ≡ stageNumber Closed → refusal s (e .call) ≡ 0 → stageNumber (stageOf (e .call)) ≡ stageNumber Closed
-    four-of h r = sym (ap stageNumber (book-stage o own ext good lab B s S (e .call) r)) ∙ h
+    call-closed : stageNumber (B .stage) ≡ stageNumber Closed → refusal s (e .call) ≡ 0 → stageNumber (stageOf (e .call)) ≡ stageNumber Closed
+    call-closed h r = sym (ap stageNumber (book-stage o own ext good lab B s S (e .call) r)) ∙ h
 
     book-still : stageNumber (B .stage) ≡ stageNumber Closed → turned B (e .call) ≡ B
     unfolding turned
     book-still h =
         picked (λ (X : Book). X ≡ B) (accepts B (e .call)) (bookAfter B (e .call)) B
-        (λ t. still-book B (e .call) (four-of h (sym (P .told) ∙ K .agrees .judged .1 t))) (λ t. refl)
+        (λ t. still-book B (e .call) (call-closed h (sym (P .told) ∙ K .agrees .judged .1 t))) (λ t. refl)
 
     state-still : stageNumber (B .stage) ≡ stageNumber Closed → e .after ≡ s
     state-still h =
         by-test (eqb (refusal s (e .call)) 0)
-        (λ t. let r = eqb-true _ _ t in still-state s (e .after) (e .call) (e .answer) (four-of h r) (P .accepted r))
+        (λ t. let r = eqb-true _ _ t in still-state s (e .after) (e .call) (e .answer) (call-closed h r) (P .accepted r))
         (λ t. P .declined (eqb-false _ _ t) .1)
 
     -- A call of statement 3 leaves the readings as they are.

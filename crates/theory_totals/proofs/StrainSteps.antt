@@ -49,10 +49,10 @@ use Rattle.theory_totals.proofs.Recorded.{Emptied, Recorded, totals-sta
 -- ---- small laws
 
 -- both calls go to a closed job
-pub stage-four : (k : Cutting) (x : Stage) (come : ℕ → Bool) (c : StrainCall) → inStage k x come c ≡ true → stageNumber x ≡ stageNumber Closed
+pub stage-closed : (k : Cutting) (x : Stage) (come : ℕ → Bool) (c : StrainCall) → inStage k x come c ≡ true → stageNumber x ≡ stageNumber Closed
 unfolding sameStage
-stage-four k x come (strain b m values kinds) t = eqb-true (stageNumber x) (stageNumber Closed) t
-stage-four k x come (total n) t = eqb-true (stageNumber x) (stageNumber Closed) (and-first (eqb (stageNumber x) (stageNumber Closed)) (allCome k come) t)
+stage-closed k x come (strain b m values kinds) t = eqb-true (stageNumber x) (stageNumber Closed) t
+stage-closed k x come (total n) t = eqb-true (stageNumber x) (stageNumber Closed) (and-first (eqb (stageNumber x) (stageNumber Closed)) (allCome k come) t)
 
 -- the entries of a list and one more
 in-last : (l : List ℕ) (b i : ℕ) → isIn (l ++ (b ∷ [])) i ≡ (eqb b i || isIn l i)
@@ -117,7 +117,7 @@ module _ (o : Told) (own : ℕ → List ℕ) (ext : offSize 1024 (o .cutting .ex
   module _ (c : StrainCall) where
     -- the stage, where 3 is not given
     closed-of : not (inStage (s .job .told .cutting) (s .job .stage) (hasCome w) c) ≡ false → stageNumber (B .stage) ≡ stageNumber Closed
-    closed-of t = ap stageNumber (sym (I .stage)) ∙ stage-four (s .job .told .cutting) (s .job .stage) (hasCome w) c (not-false _ t)
+    closed-of t = ap stageNumber (sym (I .stage)) ∙ stage-closed (s .job .told .cutting) (s .job .stage) (hasCome w) c (not-false _ t)
 
     alongside : Alongside (standsIn (strainDeclines s w c)) (standsIn (strainBookDeclines B R c))
     unfolding strainDeclines strainBookDeclines standsIn number
