@@ -9,7 +9,7 @@ use borrow.Author.Tests.{leb-true, ltb-true}
 use Rattle.cells.specs.Box.{Triple, Axis, X, Y, Z, coord, each, index}
 use Rattle.cells.specs.Extents.{Sized}
 use Rattle.cells.specs.Grid.{sides}
-use Rattle.cutting.specs.Cutting.{Cutting, cutList, goodCut, intervals, blocks, blockExtents, embed}
+use Rattle.cutting.specs.Cutting.{Cutting, cutList, goodCut, blocks, blockExtents, embed, mostBlocks, FewBlocks}
 use Rattle.joiner.specs.Stages.{hasOn, hasCell, local}
 use Rattle.blocks.specs.Blocks.{originOf, sizeOf, Tells, inOn, hasIn, localIn, shiftIn, embedIn}
 use Rattle.blocks.specs.declared.Block.{Block}
@@ -19,10 +19,10 @@ use Rattle.cutting.proofs.CutLaws.{block-sized, block-ends, shiftInto, shift-in
 use Rattle.blocks.proofs.CodeLaws.{blocks-are}
 
 -- what `block_count` requires
-pub good-few : (k : Cutting) → goodCut k ≡ true → intervals (k .cx) * intervals (k .cy) * intervals (k .cz) ≤ 16384
+pub good-few : (k : Cutting) → goodCut k ≡ true → FewBlocks (k .cx) (k .cy) (k .cz)
 unfolding goodCut
 good-few k t =
-    omega (arith, sym (blocks-are k), leb-true (blocks k) 16384 (and-second (cutList (k .extents .x) (k .cx) && cutList (k .extents .y) (k .cy) && cutList (k .extents .z) (k .cz)) (leb (blocks k) 16384) t))
+    omega (arith, sym (blocks-are k), leb-true (blocks k) mostBlocks (and-second (cutList (k .extents .x) (k .cx) && cutList (k .extents .y) (k .cy) && cutList (k .extents .z) (k .cz)) (leb (blocks k) mostBlocks) t))
 
 -- ---- what `hasIn` says on each axis
 

@@ -13,7 +13,7 @@ use lib.Seq.{drop-cons}
 use borrow.Author.Tests.{ltb-true, leb-true, eqb-true, not-true, not-false, lt-ltb, le-ltb, le-leb, lt-leb, eq-eqb, ne-eqb}
 use Rattle.cells.specs.Box.{X, Y, Z, triple, volume, place}
 use Rattle.cells.specs.Grid.{sides}
-use Rattle.cutting.specs.Cutting.{Cutting, ascends, cutList, goodCut, intervals, lowEnd, highEnd, blockSides, blocks, interval, origin, blockExtents, follows, sameInterval, seam}
+use Rattle.cutting.specs.Cutting.{Cutting, ascends, cutList, goodCut, intervals, lowEnd, highEnd, blockSides, blocks, interval, origin, blockExtents, follows, sameInterval, seam, mostBlocks, FewBlocks}
 use Rattle.joiner.specs.Stages.{seamAxis}
 use Rattle.blocks.specs.Blocks.{cutOf, anyExtents, Tells, inOn, hasIn, sideOf, placeOf, beside}
 use Rattle.blocks.specs.declared.Block.{Block}
@@ -87,20 +87,20 @@ unfolding intervals
 intervals-low c = omega arith
 
 module _ (x y z : ℕ) (hx : 0 < x) (hy : 0 < y) (hz : 0 < z) where
-  pub many-x : 16384 < x → false ≡ leb (x * y * z) 16384
-  many-x h = sym (lt-leb (x * y * z) 16384 (mul-le-mul (mul-le-mul {n₁ = 16385} {m₁ = 1} h hy) hz))
+  pub many-x : mostBlocks < x → false ≡ leb (x * y * z) mostBlocks
+  many-x h = sym (lt-leb (x * y * z) mostBlocks (mul-le-mul (mul-le-mul {n₁ = suc mostBlocks} {m₁ = 1} h hy) hz))
 
-  pub many-y : 16384 < y → false ≡ leb (x * y * z) 16384
-  many-y h = sym (lt-leb (x * y * z) 16384 (mul-le-mul (mul-le-mul {n₁ = 1} {m₁ = 16385} hx h) hz))
+  pub many-y : mostBlocks < y → false ≡ leb (x * y * z) mostBlocks
+  many-y h = sym (lt-leb (x * y * z) mostBlocks (mul-le-mul (mul-le-mul {n₁ = 1} {m₁ = suc mostBlocks} hx h) hz))
 
-  pub many-z : 16384 < z → false ≡ leb (x * y * z) 16384
-  many-z h = sym (lt-leb (x * y * z) 16384 (mul-le-mul {m₁ = 16385} (mul-le-mul {n₁ = 1} {m₁ = 1} hx hy) h))
+  pub many-z : mostBlocks < z → false ≡ leb (x * y * z) mostBlocks
+  many-z h = sym (lt-leb (x * y * z) mostBlocks (mul-le-mul {m₁ = suc mostBlocks} (mul-le-mul {n₁ = 1} {m₁ = 1} hx hy) h))
 
 -- products of intervals stay small
-pub layer-room : (x y : ℕ) → x ≤ 16384 → y ≤ 16384 → x * y ≤ 16384 * 16384
+pub layer-room : (x y : ℕ) → x ≤ mostBlocks → y ≤ mostBlocks → x * y ≤ mostBlocks * mostBlocks
 layer-room x y hx hy = mul-le-mul hx hy
 
-pub room : (x y z : ℕ) → x ≤ 16384 → y ≤ 16384 → z ≤ 16384 → x * y * z ≤ 16384 * 16384 * 16384
+pub room : (x y z : ℕ) → x ≤ mostBlocks → y ≤ mostBlocks → z ≤ mostBlocks → x * y * z ≤ mostBlocks * mostBlocks * mostBlocks
 room x y z hx hy hz = mul-le-mul (layer-room x y hx hy) hz
 
 pub blocks-are : (k : Cutting) → blocks k ≡ intervals (k .cx) * intervals (k .cy) * intervals (k .cz)
@@ -108,11 +108,11 @@ unfolding blocks volume blockSides
 blocks-are k = refl
 
 -- x, y and z are the intervals of the lists
-module _ (cx cy cz : List ℕ) (x y : ℕ) (ex : x ≡ intervals cx) (ey : y ≡ intervals cy) (h : intervals cx * intervals cy * intervals cz ≤ 16384) where
-  pub layer-few : x * y ≤ 16384
+module _ (cx cy cz : List ℕ) (x y : ℕ) (ex : x ≡ intervals cx) (ey : y ≡ intervals cy) (h : FewBlocks cx cy cz) where
+  pub layer-few : x * y ≤ mostBlocks
   layer-few = rw (ex, ey) (omega (arith, mul-le-mul {n₁ = intervals cx * intervals cy} {m₁ = 1} {n₂ = intervals cx * intervals cy} (omega arith) (intervals-low cz)))
 
-  pub count-few : (z : ℕ) → z ≡ intervals cz → x * y * z ≤ 16384
+  pub count-few : (z : ℕ) → z ≡ intervals cz → x * y * z ≤ mostBlocks
   count-few z ez = rw (ex, ey, ez) h
 
 pub count-is : (k : Cutting) (x y z : ℕ) → x ≡ intervals (k .cx) → y ≡ intervals (k .cy) → z ≡ intervals (k .cz) → x * y * z ≡ blocks k
@@ -133,7 +133,7 @@ module _ (k : Cutting) (r : Bool) (e : r ≡ cutList (k .extents .x) (k .cx)) wh
       unfolding goodCut
       good-z o = rw (sym e ∙ not-false r n, sym f ∙ not-false s m, sym g ∙ not-true t o)
 
-      pub good-all : not t ≡ false → (x y z : ℕ) (u : Bool) → x ≡ intervals (k .cx) → y ≡ intervals (k .cy) → z ≡ intervals (k .cz) → u ≡ leb (x * y * z) 16384 → u ≡ goodCut k
+      pub good-all : not t ≡ false → (x y z : ℕ) (u : Bool) → x ≡ intervals (k .cx) → y ≡ intervals (k .cy) → z ≡ intervals (k .cz) → u ≡ leb (x * y * z) mostBlocks → u ≡ goodCut k
       unfolding goodCut
       good-all o x y z u ex ey ez h = h ∙ rw (sym e ∙ not-false r n, sym f ∙ not-false s m, sym g ∙ not-false t o, sym (count-is k x y z ex ey ez))
 

@@ -1,4 +1,5 @@
 // Blocks, seams and cells by the cut lists that every call lends. All but `block_count`, `local` and `embed` answer for every input.
+use cutting::MOST_BLOCKS;
 ghost use mathlib.Core.Path.{_≡_};
 ghost use mathlib.Core.Bool.{true, _&&_};
 ghost use Prim.Native.Nat.{suc, _+_, _-_, _*_, _≤_, _<_};
@@ -6,7 +7,7 @@ ghost use lib.Dec.{eqb, leb, ltb};
 ghost use Rattle.cells.specs.Box.{Axis, triple, coord};
 ghost use Rattle.cells.specs.Extents.{Sized};
 ghost use Rattle.cells.specs.Grid.{sides};
-ghost use Rattle.cutting.specs.Cutting.{cutList, goodCut, intervals, lowEnd, highEnd, blocks, seam};
+ghost use Rattle.cutting.specs.Cutting.{cutList, goodCut, intervals, lowEnd, highEnd, blocks, seam, mostBlocks, FewBlocks};
 ghost use Rattle.joiner.specs.Stages.{seamAxis};
 ghost use Rattle.blocks.specs.Blocks.{cutOf, anyExtents, sizeOf, Tells, hasIn, localIn, shiftIn, embedIn, sideOf, placeOf, beside};
 
@@ -56,24 +57,24 @@ pub fn intervals(c: &[u32]) -> usize
     if n < 2 { 1 } else { n - 1 }
 }
 
-// Whether x, y and z intervals make at most 16,384 blocks.
+// Whether x, y and z intervals make at most `mostBlocks` blocks.
 fn few(x: usize, y: usize, z: usize) -> bool
     requires { ⌜ (0 < x) × (0 < y) × (0 < z) ⌝ }
-    ensures { λ r. ⌜ r ≡ leb (x * y * z) 16384 ⌝ }
+    ensures { λ r. ⌜ r ≡ leb (x * y * z) mostBlocks ⌝ }
 {
-    if x > 16384 {
+    if x > MOST_BLOCKS {
         return false;
     }
-    if y > 16384 {
+    if y > MOST_BLOCKS {
         return false;
     }
-    if z > 16384 {
+    if z > MOST_BLOCKS {
         return false;
     }
-    x * y * z <= 16384
+    x * y * z <= MOST_BLOCKS
 }
 
-// Whether each cut list keeps its rule, and the blocks are at most 16,384.
+// Whether each cut list keeps its rule, and the blocks are at most `mostBlocks`.
 pub fn good_cut(nx: u32, ny: u32, nz: u32, cx: &[u32], cy: &[u32], cz: &[u32]) -> bool
     ensures { λ r. ⌜ r ≡ goodCut (cutOf nx ny nz (now (cx .entry)) (now (cy .entry)) (now (cz .entry))) ⌝ }
 {
@@ -91,7 +92,7 @@ pub fn good_cut(nx: u32, ny: u32, nz: u32, cx: &[u32], cy: &[u32], cz: &[u32]) -
 
 // How many blocks there are. Not an entry.
 pub fn block_count(cx: &[u32], cy: &[u32], cz: &[u32]) -> usize
-    requires { ⌜ intervals (now cx) * intervals (now cy) * intervals (now cz) ≤ 16384 ⌝ }
+    requires { ⌜ FewBlocks (now cx) (now cy) (now cz) ⌝ }
     ensures { λ r. ⌜ anyExtents (now (cx .entry)) (now (cy .entry)) (now (cz .entry)) (λ k. r ≡ blocks k) ⌝ }
 {
     intervals(cx) * intervals(cy) * intervals(cz)

@@ -10,7 +10,7 @@ use borrow.Author.Tests.{eqb-true, leb-true, leb-false, ltb-true, ltb-false}
 use Rattle.cells.specs.Box.{Triple, Axis, X, Y, Z, coord, each, stride, index, place}
 use Rattle.cells.specs.Extents.{Sized}
 use Rattle.cells.specs.Grid.{sides, cells, parity, order, along, upperNeighbours}
-use Rattle.cutting.specs.Cutting.{Cutting, cuts, ascends, cutList, intervals, lowEnd, highEnd, blockSides, blocks, goodCut, interval, origin, blockExtents, embed}
+use Rattle.cutting.specs.Cutting.{Cutting, cuts, ascends, cutList, intervals, lowEnd, highEnd, blockSides, blocks, mostBlocks, goodCut, interval, origin, blockExtents, embed}
 use Rattle.cutting.specs.Nodes.{Held}
 use Rattle.lists.proofs.Cases.{by-test, and-first, and-second}
 use Rattle.cells.proofs.BoxLaws.{Inside, index-place, place-index, place-inside, index-inside, Before, layer, line, cell, before-index, place-before, raised, lowered, index-raised, index-lowered, coord-each, same-triple}
@@ -110,7 +110,7 @@ cut-on k t a = go a
     cz = cutList (k .extents .z) (k .cz)
 
     three : (cx && cy && cz) ≡ true
-    three = and-first (cx && cy && cz) (leb (blocks k) 16384) t
+    three = and-first (cx && cy && cz) (leb (blocks k) mostBlocks) t
 
     go : (a : Axis) → cutList (coord (k .extents) a) (cuts k a) ≡ true
     go X = and-first cx cy (and-first (cx && cy) cz three)

@@ -2,7 +2,7 @@
 -- Assumes nothing.
 use mathlib.Core.Bool.{Bool, false, _&&_, _||_}
 use mathlib.Core.List.{List, [], _∷_}
-use Prim.Native.Nat.{ℕ, suc, _+_, _-_, _*_, max}
+use Prim.Native.Nat.{ℕ, suc, _+_, _-_, _*_, _≤_, max}
 use lib.Dec.{leb, ltb, eqb}
 use lib.ListN.{getD, length}
 use Rattle.lists.specs.Lists.{tabulate}
@@ -49,9 +49,17 @@ blockSides k = each (λ a. intervals (cuts k a))
 unfoldable pub blocks : Cutting → ℕ
 blocks k = volume (blockSides k)
 
--- Each cut list keeps its rule, and there are "at most 16,384" blocks. Refusal 2, bad cut, denies it.
+-- The most blocks of a cutting: "at most 16,384".
+abbrev pub mostBlocks : ℕ
+mostBlocks = 16384
+
+-- The blocks of three cut lists are at most so many.
+abbrev pub FewBlocks : List ℕ → List ℕ → List ℕ → Type 0
+FewBlocks cx cy cz = intervals cx * intervals cy * intervals cz ≤ mostBlocks
+
+-- Each cut list keeps its rule, and there are at most so many blocks. Refusal 2, bad cut, denies it.
 unfoldable pub goodCut : Cutting → Bool
-goodCut k = cutList (k .extents .x) (k .cx) && cutList (k .extents .y) (k .cy) && cutList (k .extents .z) (k .cz) && leb (blocks k) 16384
+goodCut k = cutList (k .extents .x) (k .cx) && cutList (k .extents .y) (k .cy) && cutList (k .extents .z) (k .cz) && leb (blocks k) mostBlocks
 
 -- The interval of block b on an axis.
 unfoldable pub interval : Cutting → ℕ → Axis → ℕ

@@ -3,7 +3,7 @@
 use mathlib.Core.List.{List, [], _∷_}
 use Prim.Native.Nat.{ℕ, _*_}
 use Rattle.cells.specs.Box.{triple}
-use Rattle.joiner.specs.Job.{Kind, Face, Curve, Point, Told, Tables, State, Tray, tray}
+use Rattle.joiner.specs.Job.{Kind, Face, Curve, Point, Told, Tables, State, Tray, tray, numbersPerBlock, ticksPerBlock}
 use Rattle.joiner.specs.Job as joiner
 use Rattle.joiner.specs.Entries.{Unopened}
 use Rattle.job.specs.declared.Stage.{Stage}
@@ -93,7 +93,7 @@ NoJob j = (o : Told) (t : Tables) → Unopened o t (stateOf j (o .cutting .cx) (
 
 -- Those of b blocks.
 abbrev pub blockLengths : ℕ → ℕ → ℕ → List Tray
-blockLengths b ticks numbers = tray ticks (6 * b) ∷ tray numbers (5 * b) ∷ []
+blockLengths b ticks numbers = tray ticks (ticksPerBlock * b) ∷ tray numbers (numbersPerBlock * b) ∷ []
 
 -- The links, of so many faces and curves.
 abbrev pub linkLengths : ℕ → ℕ → ℕ → ℕ → List Tray

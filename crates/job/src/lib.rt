@@ -1,9 +1,12 @@
 // The job of a joining: what the opening was told, the stage and the tallies. It is handed from step to step by value.
+use joiner::NUMBERS_PER_BLOCK;
+use joiner::TICKS_PER_BLOCK;
 ghost use mathlib.Core.Path.{_≡_};
 ghost use mathlib.Core.Bool.{_&&_};
 ghost use mathlib.Core.List.{[], _∷_};
 ghost use Prim.Native.Nat.{_*_, _≤_};
 ghost use lib.Dec.{eqb, leb};
+ghost use Rattle.cutting.specs.Cutting.{mostBlocks};
 ghost use Rattle.joiner.specs.Job.{stageNumber, sameStage, tray, lengthsFit};
 ghost use Rattle.joiner.specs.Declines.{talliesFit};
 ghost use Rattle.job.specs.Jobs.{stageOf, jobOf, freshJob, anyCuts, NoJob, blockLengths, linkLengths, foundLengths, kindLengths, totalLengths};
@@ -130,13 +133,17 @@ fn places(width: u8, entries: u32) -> u64
     (width as u64) * (entries as u64)
 }
 
-// The lengths of the tables of blocks: six ticks and five numbers for each. Not an entry.
+// The lengths of the tables of blocks: ticks and numbers for each. Not an entry.
 pub fn block_trays(blocks: usize, ticks: usize, numbers: usize) -> bool
-    requires { ⌜ blocks ≤ 16384 ⌝ }
+    requires { ⌜ blocks ≤ mostBlocks ⌝ }
     ensures { λ r. ⌜ r ≡ lengthsFit (blockLengths blocks ticks numbers) ⌝ }
 {
     let n = blocks as u64;
-    also(also(true, numbers, 5 * n), ticks, 6 * n)
+    also(
+        also(true, numbers, NUMBERS_PER_BLOCK as u64 * n),
+        ticks,
+        TICKS_PER_BLOCK as u64 * n,
+    )
 }
 
 // The length of a table with one place for each entry.

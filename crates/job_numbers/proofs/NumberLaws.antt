@@ -12,7 +12,7 @@ use Rattle.job.specs.Jobs.{stageOf}
 use Rattle.job_numbers.specs.Numbers.{jobAt, stageIn, jobIn, numbersOf, keptNumbers}
 
 stage-back : (s other : Stage) → stageIn (stageNumber (stageOf s)) other ≡ s
-unfolding stageIn stageNumber
+unfolding stageIn
 stage-back Stage.Enrol other = refl
 stage-back Stage.Seam other = refl
 stage-back Stage.Crossing other = refl

@@ -17,7 +17,7 @@ use Rattle.joiner.specs.Book.{Book, bookAdds}
 use Rattle.joiner.specs.Calls.{Call, full, layersDiffer, overfull, placed, repeated, stageOf}
 use Rattle.joiner.specs.Declines.{adds, declines, refusal}
 use Rattle.joiner.specs.Entries.{Ticked, same}
-use Rattle.joiner.specs.Job.{Closed, Crossing, Curve, Enrol, Face, Kind, Point, Points, Seam, Stage, State, Told, sameStage, stageNumber, ticked}
+use Rattle.joiner.specs.Job.{Closed, Crossing, Curve, Enrol, Face, Kind, Point, Points, Seam, Stage, State, Told, sameStage, stageNumber, ticked, ticksPerBlock}
 use Rattle.joiner.specs.Stages.{finished, nextAfter, nextStage, stepsOf}
 use Rattle.lists.proofs.Cases.{by-test, neither}
 use Rattle.lists.proofs.Tests.{all-same}
@@ -42,7 +42,7 @@ next-same k f g s h = ap (λ (t : Bool). cond t (nextStage k s) s) (all-same f g
 -- ---- what every accepted step keeps
 
 module _ (o : Told) (own : ℕ → List ℕ) (B : Book) (s t : State) (I : Inv o own B s) (c : Call) (step : ℕ) (T : Ticked s t c step) (maps : ℕ → List ℕ)
-    (inside : step < 6 * blocks (o .cutting)) (room : full (s .job .told .entries) (s .job .sofar) (adds s c) ≡ false) (same : (κ : Kind) → adds s c κ ≡ bookAdds B c κ) where
+    (inside : step < ticksPerBlock * blocks (o .cutting)) (room : full (s .job .told .entries) (s .job .sofar) (adds s c) ≡ false) (same : (κ : Kind) → adds s c κ ≡ bookAdds B c κ) where
   pub told-kept : t .job .told ≡ o
   told-kept = T .told ∙ I .told
 

@@ -20,7 +20,7 @@ use Rattle.joiner.specs.Book.{Book, bookAdds, bookAfter, entered}
 use Rattle.joiner.specs.Calls.{Call, cross, point}
 use Rattle.joiner.specs.Declines.{adds}
 use Rattle.joiner.specs.Entries.{AtCrossing, CrossingDone, KeptNumbers, Merged, NumberedKind, PointDone, heads, joinedRow, leads, throughLinks}
-use Rattle.joiner.specs.Job.{Closed, Crossing, Curve, Face, Kind, Point, Points, Stage, State, Tables, Told, node, stageNumber}
+use Rattle.joiner.specs.Job.{Closed, Crossing, Curve, Face, Kind, Point, Points, Seam, Stage, State, Tables, Told, node, stageNumber, ticksPerBlock}
 use Rattle.joiner.specs.Stages.{crossingStep, pointStep, seamStep, stepsOf}
 use Rattle.lists.proofs.Cases.{by-test}
 use Rattle.lists.proofs.Lists.{consecutive-in, length-keep, length-consecutive, map-same}
@@ -46,13 +46,12 @@ stage-is q s =
     by-test (eqb (stageNumber s) (stageNumber q)) (λ t. inl (stage-same s q (eqb-true _ _ t))) (λ t. inr (λ e. eqb-false (stageNumber s) (stageNumber q) t (ap stageNumber e)))
 
 cross-step-same : (b c : ℕ) → crossingStep b ≡ crossingStep c → b ≡ c
-unfolding crossingStep
 cross-step-same b c e = omega arith
 
 module _ (o : Told) (own : ℕ → List ℕ) (good : goodCut (o .cutting) ≡ true) (B : Book) (s : State) (I : Inv o own B s) (every : (b : ℕ) → b < blocks (o .cutting) → In o own B b) where
   -- ---- after the seams no seam is added
 
-  module _ (t : State) (c : Call) (st : ℕ) (L : Later o own good B s I every t c st) (late : 1 < stepStage st) where
+  module _ (t : State) (c : Call) (st : ℕ) (L : Later o own good B s I every t c st) (late : stageNumber Seam < stepStage st) where
     seam-done : (d : Edge) → List·Memᴰ (seamStep (o .cutting) d) (st ∷ B .done) → List·Memᴰ (seamStep (o .cutting) d) (B .done)
     seam-done d m = go (List·Memᴰ·cases-cons m)
       where
@@ -147,8 +146,7 @@ module _ (o : Told) (own : ℕ → List ℕ) (good : goodCut (o .cutting) ≡ tr
           listed-long = λ κ. lengths κ (numbers₁ κ) .listed ∙ I .sizes .listed-long κ;
         }
 
-    low₁ : st₁ < 6 * blocks (o .cutting)
-    unfolding crossingStep
+    low₁ : st₁ < ticksPerBlock * blocks (o .cutting)
     low₁ = omega (arith, hb)
 
     L₁ : Later o own good B s I every t c₁ st₁
@@ -170,7 +168,7 @@ module _ (o : Told) (own : ℕ → List ℕ) (good : goodCut (o .cutting) ≡ tr
     abbrev B₁ : Book
     B₁ = after o own good B s I every t c₁ st₁ L₁
 
-    late₁ : 1 < stepStage st₁
+    late₁ : stageNumber Seam < stepStage st₁
     late₁ = omega (arith, crossing-level b)
 
     curves₁ : Connected (t .tables .links Curve) (t .job .sofar Curve) (EdgeDone o own B₁ t Curve)
@@ -248,8 +246,7 @@ module _ (o : Told) (own : ℕ → List ℕ) (good : goodCut (o .cutting) ≡ tr
           listed-long = elim [ Face ↦ ap length (D .faces .1 .listed) ∙ I .sizes .listed-long Face | Curve ↦ ap length (D .curves .1 .listed) ∙ I .sizes .listed-long Curve | Point ↦ points₂ .listed ∙ I .sizes .listed-long Point ];
         }
 
-    low₂ : st₂ < 6 * blocks (o .cutting)
-    unfolding pointStep
+    low₂ : st₂ < ticksPerBlock * blocks (o .cutting)
     low₂ = omega (arith, hb)
 
     L₂ : Later o own good B s I every t c₂ st₂
@@ -271,7 +268,7 @@ module _ (o : Told) (own : ℕ → List ℕ) (good : goodCut (o .cutting) ≡ tr
     abbrev B₂ : Book
     B₂ = after o own good B s I every t c₂ st₂ L₂
 
-    late₂ : 1 < stepStage st₂
+    late₂ : stageNumber Seam < stepStage st₂
     late₂ = omega (arith, point-level b)
 
     roots₂ : (x : ℕ) → root (t .tables .links Face) x ≡ root (s .tables .links Face) x

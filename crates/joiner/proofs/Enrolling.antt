@@ -19,12 +19,12 @@ use Rattle.union_find.specs.Links.{parent, root, soundAt}
 use Rattle.labels.specs.Components.{component, firstCell, largest}
 use Rattle.labels.specs.Number.{numbered}
 use Rattle.labels.specs.Numbering.{Numbering}
-use Rattle.cutting.specs.Cutting.{Cutting, blockExtents, blocks, cutList, embed, goodCut, sameInterval}
+use Rattle.cutting.specs.Cutting.{Cutting, blockExtents, blocks, cutList, embed, goodCut, mostBlocks, sameInterval}
 use Rattle.joiner.specs.Book.{Book, bookAdds, bookAfter, entered}
 use Rattle.joiner.specs.Calls.{Call, enrol}
 use Rattle.joiner.specs.Declines.{adds}
 use Rattle.joiner.specs.Entries.{EnrolDone, EnrolledKind, Ticked, blockEntry, enrolledKey, enrolledRow, firstOf, same}
-use Rattle.joiner.specs.Job.{Curve, Enrol, Face, Kind, Point, Stage, State, Told, column, countOf, firstAt, fromOf, keyOf, node, orderOf, stageNumber, width}
+use Rattle.joiner.specs.Job.{Curve, Enrol, Face, Kind, Point, Stage, State, Told, column, countOf, firstAt, fromOf, keyPosition, node, numbersPerBlock, orderOf, stageNumber, ticksPerBlock, width}
 use Rattle.joiner.specs.Stages.{crossingStep, enrolStep, seamStep, stepsOf}
 use Rattle.joiner.specs.Statement.{Labelling}
 use Rattle.lists.proofs.Cases.{and-second, by-test, picked}
@@ -37,18 +37,15 @@ use Rattle.labels.proofs.LabelLaws.{labels-numbering}
 use Rattle.joiner.proofs.Accepted.{progress-kept, room-kept, sofar-kept, stage-kept, ticks-kept, told-kept}
 use Rattle.joiner.proofs.Classes.{order-small}
 use Rattle.joiner.proofs.Inv.{EdgeDone, In, Inv, Kept, Numbered}
+use Rattle.joiner.proofs.Keys.{key-first}
 use Rattle.joiner.proofs.Progress.{crossing-level, seam-level, stepStage, steps-level}
 use Rattle.joiner.proofs.Roots.{Connected, together-keeps}
 use Rattle.joiner.proofs.Sizes.{Sizes}
 use Rattle.joiner.proofs.Passed.{Passed}
 
-pub blocks-most : (k : Cutting) → goodCut k ≡ true → blocks k ≤ 16384
+pub blocks-most : (k : Cutting) → goodCut k ≡ true → blocks k ≤ mostBlocks
 unfolding goodCut
-blocks-most k t = leb-true (blocks k) 16384 (and-second (cutList (k .extents .x) (k .cx) && cutList (k .extents .y) (k .cy) && cutList (k .extents .z) (k .cz)) (leb (blocks k) 16384) t)
-
-pub key-first : (p b : ℕ) → b < 16384 → keyOf p b / 16384 ≡ p
-unfolding keyOf
-key-first p b h = omega arith
+blocks-most k t = leb-true (blocks k) mostBlocks (and-second (cutList (k .extents .x) (k .cx) && cutList (k .extents .y) (k .cy) && cutList (k .extents .z) (k .cz)) (leb (blocks k) mostBlocks) t)
 
 pub row-place : (w x n i : ℕ) → x < n → i < w → w * x + i < w * n
 row-place w x n i h k = let d : x * w + i < n * w = digits-lt h k in omega arith
@@ -93,15 +90,15 @@ first-is k b m l κ n h0 hn = go (component (blockExtents k b) m (orderOf κ) n)
 
 -- ---- the block table with one block written
 
-module _ (xs : List ℕ) (b n : ℕ) (f : ℕ → ℕ) (hb : b < n) (long : length xs ≡ 5 * n) where
-  column-new : (i : ℕ) → i < 5 → getD (overlay xs (5 * b) f 5) (5 * b + i) 0 ≡ f i
-  column-new i h = overlay-at xs (5 * b) f 5 i h (omega arith)
+module _ (xs : List ℕ) (b n : ℕ) (f : ℕ → ℕ) (hb : b < n) (long : length xs ≡ numbersPerBlock * n) where
+  column-new : (i : ℕ) → i < numbersPerBlock → getD (overlay xs (numbersPerBlock * b) f numbersPerBlock) (numbersPerBlock * b + i) 0 ≡ f i
+  column-new i h = overlay-at xs (numbersPerBlock * b) f numbersPerBlock i h (omega arith)
 
-  column-old : (c i : ℕ) → i < 5 → c ≢ b → getD (overlay xs (5 * b) f 5) (5 * c + i) 0 ≡ getD xs (5 * c + i) 0
+  column-old : (c i : ℕ) → i < numbersPerBlock → c ≢ b → getD (overlay xs (numbersPerBlock * b) f numbersPerBlock) (numbersPerBlock * c + i) 0 ≡ getD xs (numbersPerBlock * c + i) 0
   column-old c i h d =
       by-test (ltb c b)
-      (λ t. let l : c < b = ltb-true c b t in overlay-before xs (5 * b) f 5 (5 * c + i) (omega arith))
-      (λ t. let l : b ≤ c = ltb-false c b t in overlay-behind xs (5 * b) f 5 (5 * c + i) (omega arith))
+      (λ t. let l : c < b = ltb-true c b t in overlay-before xs (numbersPerBlock * b) f numbersPerBlock (numbersPerBlock * c + i) (omega arith))
+      (λ t. let l : b ≤ c = ltb-false c b t in overlay-behind xs (numbersPerBlock * b) f numbersPerBlock (numbersPerBlock * c + i) (omega arith))
 
 module _ (o : Told) (own : ℕ → List ℕ) (good : goodCut (o .cutting) ≡ true) (lab : (b : ℕ) → b < blocks (o .cutting) → Labelling (blockExtents (o .cutting) b) (own b)) (B : Book) (s t : State) (I : Inv o own B s)
     (b : ℕ) (hb : b < blocks (o .cutting)) (at-enrol : B .stage ≡ Enrol) (fresh : ¬ In o own B b) (D : EnrolDone s b (own b) t)
@@ -111,12 +108,11 @@ module _ (o : Told) (own : ℕ → List ℕ) (good : goodCut (o .cutting) ≡ tr
 
   -- which blocks are enrolled afterwards
   in-cases : (c : ℕ) → List·Memᴰ (enrolStep c) (enrolStep b ∷ B .done) → (c ≡ b) ⊎ ((c ≢ b) × In o own B c)
-  unfolding enrolStep
   in-cases c m =
       by-test (eqb c b) (λ q. inl (eqb-true c b q))
       (λ q. inr (eqb-false c b q, go (List·Memᴰ·cases-cons m) (eqb-false c b q)))
     where
-      go : (6 * c ≡ 6 * b) ⊎ List·Memᴰ (6 * c) (B .done) → c ≢ b → List·Memᴰ (6 * c) (B .done)
+      go : (enrolStep c ≡ enrolStep b) ⊎ List·Memᴰ (enrolStep c) (B .done) → c ≢ b → List·Memᴰ (enrolStep c) (B .done)
       go (inl e) n = absurd (n (omega arith))
       go (inr i) n = i
 
@@ -125,8 +121,7 @@ module _ (o : Told) (own : ℕ → List ℕ) (good : goodCut (o .cutting) ≡ tr
   unfolding adds
   adds-is = (ap (λ (z : Told). largest (blockExtents (z .cutting) b) (own b) 2) (I .told), ap (λ (z : Told). largest (blockExtents (z .cutting) b) (own b) 1) (I .told))
 
-  step-low : enrolStep b < 6 * blocks (o .cutting)
-  unfolding enrolStep
+  step-low : enrolStep b < ticksPerBlock * blocks (o .cutting)
   step-low = omega (arith, hb)
 
   -- there is room for it
@@ -134,11 +129,11 @@ module _ (o : Told) (own : ℕ → List ℕ) (good : goodCut (o .cutting) ≡ tr
   enough κ = omega (arith, room-kept o own B s t I (enrol b (own b)) (enrolStep b) (D .step) (B .maps) step-low (room .room) adds-same κ, adds-same κ, I .sofar κ)
 
   -- the block table
-  new-entry : (i : ℕ) → i < 5 → getD (t .tables .blocks) (5 * b + i) 0 ≡ blockEntry s b (own b) i
-  new-entry i h = ap (λ (l : List ℕ). getD l (5 * b + i) 0) (D .blocks) ∙ column-new (s .tables .blocks) b (blocks (o .cutting)) (blockEntry s b (own b)) hb (I .sizes .blocks-long) i h
+  new-entry : (i : ℕ) → i < numbersPerBlock → getD (t .tables .blocks) (numbersPerBlock * b + i) 0 ≡ blockEntry s b (own b) i
+  new-entry i h = ap (λ (l : List ℕ). getD l (numbersPerBlock * b + i) 0) (D .blocks) ∙ column-new (s .tables .blocks) b (blocks (o .cutting)) (blockEntry s b (own b)) hb (I .sizes .blocks-long) i h
 
-  old-entry : (c i : ℕ) → i < 5 → c ≢ b → getD (t .tables .blocks) (5 * c + i) 0 ≡ getD (s .tables .blocks) (5 * c + i) 0
-  old-entry c i h d = ap (λ (l : List ℕ). getD l (5 * c + i) 0) (D .blocks) ∙ column-old (s .tables .blocks) b (blocks (o .cutting)) (blockEntry s b (own b)) hb (I .sizes .blocks-long) c i h d
+  old-entry : (c i : ℕ) → i < numbersPerBlock → c ≢ b → getD (t .tables .blocks) (numbersPerBlock * c + i) 0 ≡ getD (s .tables .blocks) (numbersPerBlock * c + i) 0
+  old-entry c i h d = ap (λ (l : List ℕ). getD l (numbersPerBlock * c + i) 0) (D .blocks) ∙ column-old (s .tables .blocks) b (blocks (o .cutting)) (blockEntry s b (own b)) hb (I .sizes .blocks-long) c i h d
 
   count-new : (κ : Kind) → countOf (t .tables) κ b ≡ largest (blockExtents (o .cutting) b) (own b) (orderOf κ)
   unfolding countOf blockEntry
@@ -170,18 +165,15 @@ module _ (o : Told) (own : ℕ → List ℕ) (good : goodCut (o .cutting) ≡ tr
   from-old Point h c d = absurd (omega arith)
 
   -- no seam or crossing is done yet
-  no-step : (i : ℕ) → 0 < stepStage i → List·Memᴰ i (enrolStep b ∷ B .done) → ⊥
+  no-step : (i : ℕ) → stageNumber Enrol < stepStage i → List·Memᴰ i (enrolStep b ∷ B .done) → ⊥
   no-step i h m = go (List·Memᴰ·cases-cons m)
     where
-      lev : stepStage (enrolStep b) ≡ 0
-      lev = unfold stageNumber in steps-level (o .cutting) Enrol (unfold stepsOf in Memᴰ·map enrolStep (consecutive-in 0 (blocks (o .cutting)) (omega arith) (omega (arith, hb))))
+      lev : stepStage (enrolStep b) ≡ stageNumber Enrol
+      lev = steps-level (o .cutting) Enrol (unfold stepsOf in Memᴰ·map enrolStep (consecutive-in 0 (blocks (o .cutting)) (omega arith) (omega (arith, hb))))
 
       go : (i ≡ enrolStep b) ⊎ List·Memᴰ i (B .done) → ⊥
       go (inl e) = omega (arith, ap stepStage e, lev)
-      go (inr n) = omega (arith, I .progress .past i n, ap stageNumber at-enrol, zero-stage)
-        where
-          zero-stage : stageNumber Enrol ≡ 0
-          zero-stage = unfold stageNumber in refl
+      go (inr n) = omega (arith, I .progress .past i n, ap stageNumber at-enrol)
 
   module _ (κ : Kind) (lo : 0 < orderOf κ) (E : EnrolledKind s t b (own b) κ) (J : Kept o own B s κ) (n-is : adds s (enrol b (own b)) κ ≡ largest (blockExtents (o .cutting) b) (own b) (orderOf κ))
       (links-long : length (s .tables .links κ) ≡ o .entries κ) (from-new : fromOf (t .tables) κ b ≡ s .job .sofar κ)
@@ -227,26 +219,26 @@ module _ (o : Told) (own : ℕ → List ℕ) (good : goodCut (o .cutting) ≡ tr
     unfolding bookAfter entered B′ firstAt
     seen′ c m hc i h0 hm = go (in-cases c i)
       where
-        enrolled-first : (m : ℕ) → enrolledKey (o .cutting) b (own b) κ m / 16384 ≡ firstOf (o .cutting) b (component (blockExtents (o .cutting) b) (own b) (orderOf κ) m)
+        enrolled-first : (m : ℕ) → keyPosition (enrolledKey (o .cutting) b (own b) κ m) ≡ firstOf (o .cutting) b (component (blockExtents (o .cutting) b) (own b) (orderOf κ) m)
         enrolled-first m = unfold enrolledKey in key-first (firstOf (o .cutting) b (component (blockExtents (o .cutting) b) (own b) (orderOf κ) m)) b (omega (arith, hb, blocks-most (o .cutting) good))
 
-        at-b : (m : ℕ) → 0 < m → m ≤ largest (blockExtents (o .cutting) b) (own b) (orderOf κ) → getD (t .tables .keys κ) (node (t .tables) κ b m) 0 / 16384 ≡ embed (o .cutting) b (firstCell (blockExtents (o .cutting) b) (own b) (orderOf κ) m)
+        at-b : (m : ℕ) → 0 < m → m ≤ largest (blockExtents (o .cutting) b) (own b) (orderOf κ) → keyPosition (getD (t .tables .keys κ) (node (t .tables) κ b m) 0) ≡ embed (o .cutting) b (firstCell (blockExtents (o .cutting) b) (own b) (orderOf κ) m)
         at-b m h0 hm =
             let e : suc (m - 1) ≡ m = omega arith in
-            ap₂ (λ (l : List ℕ) (x : ℕ). getD l x 0 / 16384) (E .keys) (node-new m)
-            ∙ ap (λ (x : ℕ). x / 16384)
+            ap₂ (λ (l : List ℕ) (x : ℕ). keyPosition (getD l x 0)) (E .keys) (node-new m)
+            ∙ ap keyPosition
             (overlay-at (s .tables .keys κ) (s .job .sofar κ) (λ i. enrolledKey (s .job .told .cutting) b (own b) κ (suc i)) (adds s (enrol b (own b)) κ) (m - 1) (omega (arith, n-is)) (omega (arith, I .sizes .keys-long κ, enough κ))
             ∙ ap (λ (z : Told). enrolledKey (z .cutting) b (own b) κ (suc (m - 1))) (I .told)
             ∙ ap (enrolledKey (o .cutting) b (own b) κ) e)
             ∙ enrolled-first m
             ∙ first-is (o .cutting) b (own b) (lab b hb) κ m h0 hm
 
-        go : (c ≡ b) ⊎ ((c ≢ b) × In o own B c) → getD (t .tables .keys κ) (node (t .tables) κ c m) 0 / 16384 ≡ embed (o .cutting) c (firstCell (blockExtents (o .cutting) c) (own c) (orderOf κ) m)
-        go (inl e) = subst (λ (x : ℕ). getD (t .tables .keys κ) (node (t .tables) κ x m) 0 / 16384 ≡ embed (o .cutting) x (firstCell (blockExtents (o .cutting) x) (own x) (orderOf κ) m)) (sym e)
+        go : (c ≡ b) ⊎ ((c ≢ b) × In o own B c) → keyPosition (getD (t .tables .keys κ) (node (t .tables) κ c m) 0) ≡ embed (o .cutting) c (firstCell (blockExtents (o .cutting) c) (own c) (orderOf κ) m)
+        go (inl e) = subst (λ (x : ℕ). keyPosition (getD (t .tables .keys κ) (node (t .tables) κ x m) 0) ≡ embed (o .cutting) x (firstCell (blockExtents (o .cutting) x) (own x) (orderOf κ) m)) (sym e)
             (at-b m h0 (subst (λ (x : ℕ). m ≤ largest (blockExtents (o .cutting) x) (own x) (orderOf κ)) e hm))
         go (inr j) =
-            ap₂ (λ (l : List ℕ) (x : ℕ). getD l x 0 / 16384) (E .keys) (node-old c m (j .0))
-            ∙ ap (λ (x : ℕ). x / 16384) (overlay-before (s .tables .keys κ) (s .job .sofar κ) _ (adds s (enrol b (own b)) κ) (node (s .tables) κ c m) (old-below c m hc (j .1) h0 hm))
+            ap₂ (λ (l : List ℕ) (x : ℕ). keyPosition (getD l x 0)) (E .keys) (node-old c m (j .0))
+            ∙ ap keyPosition (overlay-before (s .tables .keys κ) (s .job .sofar κ) _ (adds s (enrol b (own b)) κ) (node (s .tables) κ c m) (old-below c m hc (j .1) h0 hm))
             ∙ J .seen c m hc (j .1) h0 hm
 
     -- every place is alone
@@ -368,7 +360,7 @@ module _ (o : Told) (own : ℕ → List ℕ) (good : goodCut (o .cutting) ≡ tr
   sizes′ =
       record {
         ticks-long = ap length (D .step .ticks) ∙ length-set (s .tables .ticks) (enrolStep b) 1 ∙ I .sizes .ticks-long;
-        blocks-long = ap length (D .blocks) ∙ length-overlay (s .tables .blocks) (5 * b) (blockEntry s b (own b)) 5 ∙ I .sizes .blocks-long;
+        blocks-long = ap length (D .blocks) ∙ length-overlay (s .tables .blocks) (numbersPerBlock * b) (blockEntry s b (own b)) numbersPerBlock ∙ I .sizes .blocks-long;
         face-links = ap length (D .faces .links) ∙ length-overlay _ _ _ _ ∙ I .sizes .face-links;
         curve-links = ap length (D .curves .links) ∙ length-overlay _ _ _ _ ∙ I .sizes .curve-links;
         keys-long = λ κ. kind-long κ .0;

@@ -21,7 +21,7 @@ use Rattle.joiner.specs.Book.{Book, bookAdds, uncut}
 use Rattle.joiner.specs.Calls.{point}
 use Rattle.joiner.specs.Declines.{adds, finalOf, finalRow, pointCells}
 use Rattle.joiner.specs.Entries.{AtCrossing, AtSeam, NumberedKind, PointDone, enrolledRow, headOf, rank, rowAt, rowFinal, shifted}
-use Rattle.joiner.specs.Job.{Crossing, Curve, Enrol, Face, Kind, Point, Seam, Stage, State, Told, firstAt, fromOf, keyOf, node, orderOf, stageNumber, width}
+use Rattle.joiner.specs.Job.{Crossing, Curve, Enrol, Face, Kind, Point, Points, Seam, State, Told, firstAt, fromOf, keyOf, node, orderOf, stageNumber, width}
 use Rattle.joiner.specs.Stages.{codesOf, crossingStep, enrolStep, pointStep, seamStep, stepsOf}
 use Rattle.joiner.specs.Statement.{Labelling}
 use Rattle.lists.proofs.Lists.{consecutive-in, getD-in, getD-tabulate, map-same, tabulate-same}
@@ -102,24 +102,15 @@ module _ (o : Told) (own : ℕ → List ℕ) (good : goodCut (o .cutting) ≡ tr
           rows = N .listed ∙ tabulate-same (width κ * s .job .numbered κ) _ _ row-here;
         }
 
-  module _ (B : Book) (s : State) (I : Inv o own B s) (late : 3 ≤ stageNumber (B .stage)) where
+  module _ (B : Book) (s : State) (I : Inv o own B s) (late : stageNumber Points ≤ stageNumber (B .stage)) where
     in-all : (b : ℕ) → b < blocks (o .cutting) → In o own B b
-    in-all b hb = I .progress .all-done Enrol (early (B .stage) late) (enrolStep b) (unfold stepsOf in Memᴰ·map enrolStep (consecutive-in 0 (blocks (o .cutting)) (omega arith) (omega (arith, hb))))
-      where
-        early : (x : Stage) → 3 ≤ stageNumber x → stageNumber Enrol < stageNumber x
-        early x h = let e : stageNumber Enrol ≡ 0 = (unfold stageNumber in refl) in omega arith
+    in-all b hb = I .progress .all-done Enrol (omega (arith, late)) (enrolStep b) (unfold stepsOf in Memᴰ·map enrolStep (consecutive-in 0 (blocks (o .cutting)) (omega arith) (omega (arith, hb))))
 
     seams-all : (b c : ℕ) → seam (o .cutting) b c ≡ true → List·Memᴰ (seamStep (o .cutting) (edge b c)) (B .done)
-    seams-all b c z = I .progress .all-done Seam (early (B .stage) late) (seamStep (o .cutting) (edge b c)) (seam-in (o .cutting) b c z)
-      where
-        early : (x : Stage) → 3 ≤ stageNumber x → stageNumber Seam < stageNumber x
-        early x h = let e : stageNumber Seam ≡ 1 = (unfold stageNumber in refl) in omega arith
+    seams-all b c z = I .progress .all-done Seam (omega (arith, late)) (seamStep (o .cutting) (edge b c)) (seam-in (o .cutting) b c z)
 
     crossings-all : (b : ℕ) → b < blocks (o .cutting) → List·Memᴰ (crossingStep b) (B .done)
-    crossings-all b hb = I .progress .all-done Crossing (early (B .stage) late) (crossingStep b) (unfold stepsOf in Memᴰ·map crossingStep (consecutive-in 0 (blocks (o .cutting)) (omega arith) (omega (arith, hb))))
-      where
-        early : (x : Stage) → 3 ≤ stageNumber x → stageNumber Crossing < stageNumber x
-        early x h = let e : stageNumber Crossing ≡ 2 = (unfold stageNumber in refl) in omega arith
+    crossings-all b hb = I .progress .all-done Crossing (omega (arith, late)) (crossingStep b) (unfold stepsOf in Memᴰ·map crossingStep (consecutive-in 0 (blocks (o .cutting)) (omega arith) (omega (arith, hb))))
 
     -- the blocks' maps are those of one volume
     pub part-is : (b : ℕ) → b < blocks (o .cutting) → own b ≡ part (o .cutting) codes b

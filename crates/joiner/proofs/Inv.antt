@@ -168,8 +168,8 @@ module _ (o : Told) (own : ℕ → List ℕ) (ext : offSize 1024 (o .cutting .ex
       (λ i m. le-leb (getD (s .tables .rows Curve) i 0) (s .job .told .entries Face) (omega (arith, rows-in i (omega (arith, consecutive-out 0 (4 * s .job .sofar Curve) m)), tally-in Face)))
 
   -- a stage after Enrol has all blocks enrolled
-  pub enrolled : 0 < stageNumber (B .stage) → (b : ℕ) → b < blocks (o .cutting) → In o own B b
-  enrolled h b hb = I .progress .all-done Enrol (unfold stageNumber in h) (enrolStep b) (unfold stepsOf in Memᴰ·map enrolStep (consecutive-in 0 (blocks (o .cutting)) (omega arith) (omega (arith, hb))))
+  pub enrolled : stageNumber Enrol < stageNumber (B .stage) → (b : ℕ) → b < blocks (o .cutting) → In o own B b
+  enrolled h b hb = I .progress .all-done Enrol h (enrolStep b) (unfold stepsOf in Memᴰ·map enrolStep (consecutive-in 0 (blocks (o .cutting)) (omega arith) (omega (arith, hb))))
 
   repeated-same : (k : Cutting) (f g : ℕ → Bool) → ((i : ℕ) → f i ≡ g i) → (c : Call) → repeated k f c ≡ repeated k g c
   repeated-same k f g h (enrol b m) = h (enrolStep b)
@@ -273,18 +273,18 @@ module _ (o : Told) (own : ℕ → List ℕ) (ext : offSize 1024 (o .cutting .ex
 
   -- ---- call by call
 
-  later : (c : Stage) → 0 < stageNumber c → stageNumber (B .stage) ≡ stageNumber c → 0 < stageNumber (B .stage)
+  later : (c : Stage) → stageNumber Enrol < stageNumber c → stageNumber (B .stage) ≡ stageNumber c → stageNumber Enrol < stageNumber (B .stage)
   later c h e = omega arith
 
   -- a map that the book takes for the block's is the block's own
-  pub own-of : 0 < stageNumber (B .stage) → (b : ℕ) → b < blocks (o .cutting) → (m : List ℕ) → sameRow m (B .maps b) ≡ true → m ≡ own b
+  pub own-of : stageNumber Enrol < stageNumber (B .stage) → (b : ℕ) → b < blocks (o .cutting) → (m : List ℕ) → sameRow m (B .maps b) ≡ true → m ≡ own b
   own-of h b hb m e = same-row m (B .maps b) e ∙ I .maps b hb (enrolled h b hb)
 
   -- a map that the book takes for the block's stands
-  pub fit : (b : ℕ) (m : List ℕ) → b < blocks (o .cutting) → 0 < stageNumber (B .stage) → sameRow m (B .maps b) ≡ true → mapStands s (blockExtents (s .job .told .cutting) b) b m ≡ true
+  pub fit : (b : ℕ) (m : List ℕ) → b < blocks (o .cutting) → stageNumber Enrol < stageNumber (B .stage) → sameRow m (B .maps b) ≡ true → mapStands s (blockExtents (s .job .told .cutting) b) b m ≡ true
   fit b m hb h e = ap₂ (λ (z : Told) (x : List ℕ). mapStands s (blockExtents (z .cutting) b) b x) (I .told) (own-of h b hb m e) ∙ map-stands b hb (enrolled h b hb)
 
-  links-stand : (b : ℕ) → b < blocks (o .cutting) → 0 < stageNumber (B .stage) → linksStand s b ≡ true
+  links-stand : (b : ℕ) → b < blocks (o .cutting) → stageNumber Enrol < stageNumber (B .stage) → linksStand s b ≡ true
   links-stand b hb h = let w = block-in b hb (enrolled h b hb) in block-links s (I .faces .linked .sound) (I .curves .linked .sound) b (w .0) (w .1)
 
   pub enrol-agrees : (b : ℕ) (m : List ℕ) → bringsOwn B (enrol b m) ≡ true → refusal s (enrol b m) ≡ bookRefusal B (enrol b m)
@@ -299,12 +299,12 @@ module _ (o : Told) (own : ℕ → List ℕ) (ext : offSize 1024 (o .cutting .ex
       same Point = unfold adds bookAdds in refl
 
   pub join-agrees : (b c : ℕ) (m n : List ℕ) → bringsOwn B (join b c m n) ≡ true → refusal s (join b c m n) ≡ bookRefusal B (join b c m n)
-  unfolding adds bookAdds stageNumber
+  unfolding adds bookAdds
   join-agrees b c m n e =
       agrees (join b c m n) (λ h. refl)
       (λ h p.
       let l = seam-listed (o .cutting) b c p in
-      let g : 0 < stageNumber (B .stage) = later Seam (omega arith) h in (
+      let g : stageNumber Enrol < stageNumber (B .stage) = later Seam (omega arith) h in (
         and-both (mapStands s (blockExtents (s .job .told .cutting) b) b m) (mapStands s (blockExtents (s .job .told .cutting) c) c n && (linksStand s b && linksStand s c))
             (fit b m (l .0) g (and-first (sameRow m (B .maps b)) (sameRow n (B .maps c)) e))
             (and-both (mapStands s (blockExtents (s .job .told .cutting) c) c n) (linksStand s b && linksStand s c)
@@ -314,7 +314,7 @@ module _ (o : Told) (own : ℕ → List ℕ) (ext : offSize 1024 (o .cutting .ex
       ))
 
   pub cross-agrees : (b : ℕ) (m : List ℕ) → bringsOwn B (cross b m) ≡ true → refusal s (cross b m) ≡ bookRefusal B (cross b m)
-  unfolding adds bookAdds stageNumber
+  unfolding adds bookAdds
   cross-agrees b m e =
       agrees (cross b m) (λ h. refl)
       (λ h p. (
@@ -328,29 +328,28 @@ module _ (o : Told) (own : ℕ → List ℕ) (ext : offSize 1024 (o .cutting .ex
       ))
 
   -- the points that a step finds are those of the uncut volume, and final numbers are those of the closed tables: shown from the numbers of the curves
-  pub point-agrees : (b : ℕ) (m : List ℕ) → bringsOwn B (point b m) ≡ true → (stageNumber (B .stage) ≡ 3 → b < blocks (o .cutting) → m ≡ own b → (κ : Kind) → adds s (point b m) κ ≡ bookAdds B (point b m) κ)
-      → (stageNumber (B .stage) ≡ 3 → b < blocks (o .cutting) → curvesStand s b ≡ true) → refusal s (point b m) ≡ bookRefusal B (point b m)
-  unfolding stageNumber
+  pub point-agrees : (b : ℕ) (m : List ℕ) → bringsOwn B (point b m) ≡ true → (stageNumber (B .stage) ≡ stageNumber Points → b < blocks (o .cutting) → m ≡ own b → (κ : Kind) → adds s (point b m) κ ≡ bookAdds B (point b m) κ)
+      → (stageNumber (B .stage) ≡ stageNumber Points → b < blocks (o .cutting) → curvesStand s b ≡ true) → refusal s (point b m) ≡ bookRefusal B (point b m)
   point-agrees b m e found numbers =
       agrees (point b m) (λ h. refl)
       (λ h p.
-      let g : 0 < stageNumber (B .stage) = later Points (omega arith) h in
+      let g : stageNumber Enrol < stageNumber (B .stage) = later Points (omega arith) h in
       (and-both (mapStands s (blockExtents (s .job .told .cutting) b) b m) (curvesStand s b) (fit b m (ltb-true _ _ p) g e) (numbers h (ltb-true _ _ p)), found h (ltb-true _ _ p) (own-of g b (ltb-true _ _ p) m e)))
 
   pub lookup-agrees : (b : ℕ) (m : List ℕ) (c : Triple) → bringsOwn B (look b m c) ≡ true
-      → (stageNumber (B .stage) ≡ 4 → b < blocks (o .cutting) → hasCell (o .cutting) b c ≡ true → m ≡ own b → lookStands s b m (local (s .job .told .cutting) b c) ≡ true)
+      → (stageNumber (B .stage) ≡ stageNumber Closed → b < blocks (o .cutting) → hasCell (o .cutting) b c ≡ true → m ≡ own b → lookStands s b m (local (s .job .told .cutting) b c) ≡ true)
       → refusal s (look b m c) ≡ bookRefusal B (look b m c)
-  unfolding adds bookAdds stageNumber
+  unfolding adds bookAdds
   lookup-agrees b m c e numbers =
       agrees (look b m c) (λ h. refl)
       (λ h p.
       let hb : b < blocks (o .cutting) = ltb-true _ _ (and-first (ltb b (blocks (o .cutting))) (hasCell (o .cutting) b c) p) in
-      let g : 0 < stageNumber (B .stage) = later Closed (omega arith) h in (
+      let g : stageNumber Enrol < stageNumber (B .stage) = later Closed (omega arith) h in (
         and-both (mapStands s (blockExtents (s .job .told .cutting) b) b m) (lookStands s b m (local (s .job .told .cutting) b c)) (fit b m hb g e)
             (numbers h hb (and-second (ltb b (blocks (o .cutting))) (hasCell (o .cutting) b c) p) (own-of g b hb m e)),
         λ κ. refl,
       ))
 
-  pub reading-agrees : (κ : Kind) (n : ℕ) → (stageNumber (B .stage) ≡ 4 → s .job .numbered κ ≡ uncutCount B κ) → refusal s (reading κ n) ≡ bookRefusal B (reading κ n)
-  unfolding adds bookAdds stageNumber
+  pub reading-agrees : (κ : Kind) (n : ℕ) → (stageNumber (B .stage) ≡ stageNumber Closed → s .job .numbered κ ≡ uncutCount B κ) → refusal s (reading κ n) ≡ bookRefusal B (reading κ n)
+  unfolding adds bookAdds
   reading-agrees κ n total = agrees (reading κ n) (λ h. ap (λ (x : ℕ). ltb 0 n && leb n x) (total h)) (λ h p. (refl, λ κ′. refl))

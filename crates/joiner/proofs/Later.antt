@@ -4,7 +4,7 @@ use mathlib.Core.Bool.{false, true}
 use mathlib.Core.List.{List, List·Memᴰ, List·Memᴰ·tail, _∷_}
 use mathlib.Core.Logic.{_≢_, inl, inr}
 use mathlib.Core.Path.{_∙_, _≡_, ap, ap₂, subst, sym}
-use Prim.Native.Nat.{_*_, _+_, _-_, _/_, _<_, _≤_, suc, ℕ}
+use Prim.Native.Nat.{_*_, _+_, _-_, _<_, _≤_, suc, ℕ}
 use native.Mathlib.Omega.{arith}
 use lib.ListN.{getD}
 use Rattle.lists.specs.Lists.{someOf}
@@ -18,7 +18,7 @@ use Rattle.joiner.specs.Book.{Book, bookAdds, entered}
 use Rattle.joiner.specs.Calls.{Call, differs}
 use Rattle.joiner.specs.Declines.{adds}
 use Rattle.joiner.specs.Entries.{AtCrossing, AtSeam, KeptFound, Ticked, enrolledRow, joinedRow}
-use Rattle.joiner.specs.Job.{Curve, Face, Kind, Point, State, Tables, Told, column, countOf, firstAt, fromOf, node, orderOf, width}
+use Rattle.joiner.specs.Job.{Curve, Face, Kind, Point, State, Tables, Told, column, countOf, firstAt, fromOf, keyPosition, node, numbersPerBlock, orderOf, ticksPerBlock, width}
 use Rattle.joiner.specs.Stages.{seamStep, shared, stepsOf}
 use Rattle.lists.proofs.Table.{at, bothTests, every}
 use Rattle.cells.proofs.BoxLaws.{cell}
@@ -106,7 +106,7 @@ module _ (o : Told) (own : ℕ → List ℕ) (good : goodCut (o .cutting) ≡ tr
     pub no-faces : adds s c Face ≡ 0
     pub no-curves : adds s c Curve ≡ 0
     pub step-in : List·Memᴰ step (stepsOf (o .cutting) (B .stage))
-    pub step-low : step < 6 * blocks (o .cutting)
+    pub step-low : step < ticksPerBlock * blocks (o .cutting)
     pub pass : Passed s c
     pub sizes : Sizes o (t .tables)
 
@@ -119,11 +119,11 @@ module _ (o : Told) (own : ℕ → List ℕ) (good : goodCut (o .cutting) ≡ tr
 
     same-from : (κ : Kind) (b : ℕ) → fromOf (t .tables) κ b ≡ fromOf (s .tables) κ b
     unfolding fromOf
-    same-from κ b = ap (λ (l : List ℕ). getD l (5 * b + (3 + column κ)) 0) (L .same-blocks)
+    same-from κ b = ap (λ (l : List ℕ). getD l (numbersPerBlock * b + (3 + column κ)) 0) (L .same-blocks)
 
     same-count : (κ : Kind) (b : ℕ) → countOf (t .tables) κ b ≡ countOf (s .tables) κ b
     unfolding countOf
-    same-count κ b = ap (λ (l : List ℕ). getD l (5 * b + column κ) 0) (L .same-blocks)
+    same-count κ b = ap (λ (l : List ℕ). getD l (numbersPerBlock * b + column κ) 0) (L .same-blocks)
 
     pub same-node : (κ : Kind) (b m : ℕ) → node (t .tables) κ b m ≡ node (s .tables) κ b m
     unfolding node
@@ -142,7 +142,7 @@ module _ (o : Told) (own : ℕ → List ℕ) (good : goodCut (o .cutting) ≡ tr
           cover = λ x h.
               let w : Numbered o own B s κ x = J .cover x (omega (arith, same-sofar κ z)) in
               record { b = w .b; m = w .m; listed = w .listed; in-book = List·Memᴰ·tail (w .in-book); positive = w .positive; most = w .most; is = w .is ∙ sym (same-node κ (w .b) (w .m)) };
-          seen = λ b m hb i h0 hm. ap₂ (λ (l : List ℕ) (x : ℕ). getD l x 0 / 16384) (F .keys) (same-node κ b m) ∙ J .seen b m hb (every b hb) h0 hm;
+          seen = λ b m hb i h0 hm. ap₂ (λ (l : List ℕ) (x : ℕ). keyPosition (getD l x 0)) (F .keys) (same-node κ b m) ∙ J .seen b m hb (every b hb) h0 hm;
           rows = λ b m i hb j h0 hm hi.
               ap₂ (λ (l : List ℕ) (x : ℕ). getD l (width κ * x + i) 0) (F .rows) (same-node κ b m)
               ∙ J .rows b m i hb (every b hb) h0 hm hi

@@ -1,4 +1,5 @@
 -- The proof of statement 3.
+pub mod Keys
 pub mod Shared
 pub mod Rows
 pub mod RowBounds

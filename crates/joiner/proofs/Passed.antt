@@ -31,7 +31,7 @@ stageAt (suc (suc (suc zero))) = Points
 stageAt (suc (suc (suc (suc n)))) = Closed
 
 stage-at : (s : Stage) → stageAt (stageNumber s) ≡ s
-unfolding stageAt stageNumber
+unfolding stageAt
 stage-at Enrol = refl
 stage-at Seam = refl
 stage-at Crossing = refl

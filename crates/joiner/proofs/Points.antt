@@ -17,7 +17,7 @@ use Rattle.labels.specs.Components.{firstCell, largest, ofOrder}
 use Rattle.cutting.specs.Cutting.{Cutting, blockExtents, blocks, embed, goodCut}
 use Rattle.cutting.specs.Nodes.{uncutMap}
 use Rattle.joiner.specs.Entries.{classOf, rowAt, rowFinal}
-use Rattle.joiner.specs.Job.{Point, Tables, firstAt, keyOf}
+use Rattle.joiner.specs.Job.{Point, Tables, firstAt, keyOf, keyPosition}
 use Rattle.joiner.specs.Stages.{pointStep, shared}
 use Rattle.lists.proofs.Cases.{by-test}
 use Rattle.lists.proofs.Lists.{Ascends, ascends-consecutive, ascends-keep, ascends-le, getD-in, getD-tabulate, keep-in, keep-out}
@@ -28,7 +28,8 @@ use Rattle.labels.proofs.CountLaws.{Somewhere, every-number, firsts-ascend, lar
 use Rattle.labels.proofs.LabelLaws.{labels-numbering, numbered-active, point-alone}
 use Rattle.cutting.proofs.CutLaws.{InBlock, blocks-cover, embed-inside, embed-less, embed-order}
 use Rattle.cutting.proofs.SeamLaws.{point-block}
-use Rattle.joiner.proofs.Enrolling.{blocks-most, key-first, rows-at, rows-before}
+use Rattle.joiner.proofs.Enrolling.{blocks-most, rows-at, rows-before}
+use Rattle.joiner.proofs.Keys.{key-first}
 use Rattle.joiner.proofs.Ranking.{Ranked}
 
 module _ (k : Cutting) (good : goodCut k ≡ true) (codes : List ℕ) where
@@ -88,13 +89,13 @@ module _ (k : Cutting) (good : goodCut k ≡ true) (codes : List ℕ) where
   module _ (t u : Tables) (done : List ℕ) (n b : ℕ) (P : PointsSo t done n) (hb : b < blocks k) (fresh : List·Memᴰ (pointStep b) done → ⊥) (M : MorePoints t u b n) where
     old-first : (x : ℕ) → x < n → firstAt u Point x ≡ firstAt t Point x
     unfolding firstAt
-    old-first x h = ap (λ (l : List ℕ). getD l x 0 / 16384) (M .keys) ∙ ap (λ (y : ℕ). y / 16384) (overlay-before (t .keys Point) n _ (length (pointsOf b)) x h)
+    old-first x h = ap (λ (l : List ℕ). keyPosition (getD l x 0)) (M .keys) ∙ ap keyPosition (overlay-before (t .keys Point) n _ (length (pointsOf b)) x h)
 
     new-first : (i : ℕ) → i < length (pointsOf b) → firstAt u Point (n + i) ≡ embed k b (getD (pointsOf b) i 0)
     unfolding firstAt
     new-first i h =
-        ap (λ (l : List ℕ). getD l (n + i) 0 / 16384) (M .keys)
-        ∙ ap (λ (y : ℕ). y / 16384) (overlay-at (t .keys Point) n (λ i. keyOf (embed k b (getD (pointsOf b) i 0)) b) (length (pointsOf b)) i h (M .keys-room))
+        ap (λ (l : List ℕ). keyPosition (getD l (n + i) 0)) (M .keys)
+        ∙ ap keyPosition (overlay-at (t .keys Point) n (λ i. keyOf (embed k b (getD (pointsOf b) i 0)) b) (length (pointsOf b)) i h (M .keys-room))
         ∙ key-first (embed k b (getD (pointsOf b) i 0)) b (omega (arith, hb, blocks-most k good))
 
     old-at : (x : ℕ) → x < n → PointAt u (pointStep b ∷ done) x
@@ -141,7 +142,6 @@ module _ (k : Cutting) (good : goodCut k ≡ true) (codes : List ℕ) where
         go (inr q) ih = let r = ih q in (suc (r .0), omega (arith, r .1), r .2)
 
     step-same : (c : ℕ) → pointStep c ≡ pointStep b → c ≡ b
-    unfolding pointStep
     step-same c e = omega arith
 
     into′ : (c p : ℕ) → c < blocks k → List·Memᴰ (pointStep c) (pointStep b ∷ done) → List·Memᴰ p (pointsOf c) → (x : ℕ) × (x < n + length (pointsOf b)) × (firstAt u Point x ≡ embed k c p)

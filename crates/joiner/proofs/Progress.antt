@@ -14,41 +14,44 @@ use Rattle.lists.specs.Lists.{allOf, consecutive, isIn, someOf}
 use Rattle.closure.specs.Joined.{Edge}
 use Rattle.cells.specs.Box.{volume}
 use Rattle.cutting.specs.Cutting.{Cutting, blockSides, blocks, intervals}
-use Rattle.joiner.specs.Job.{Closed, Crossing, Enrol, Points, Seam, Stage, stageNumber}
-use Rattle.joiner.specs.Stages.{crossingStep, enrolStep, finished, nextAfter, nextStage, pointStep, seamAxis, seamStep, seams, stepsOf}
+use Rattle.joiner.specs.Job.{Closed, Crossing, Enrol, Points, Seam, Stage, stageNumber, ticksPerBlock}
+use Rattle.joiner.specs.Stages.{crossingStep, crossingTick, enrolStep, finished, nextAfter, nextStage, pointStep, pointTick, seamAxis, seamStep, seams, stepsOf}
 use Rattle.lists.proofs.Cases.{by-test, picked}
 use Rattle.lists.proofs.Lists.{consecutive-in}
 use Rattle.lists.proofs.Tests.{all-in, all-out, in-is, is-in}
 use Rattle.joiner.proofs.SeamSteps.{axis-bound}
 
--- the stage that a step's number belongs to
-unfoldable pub stepStage : ℕ → ℕ
-stepStage i = cond (eqb (i % 6) 0) 0 (cond (eqb (i % 6) 4) 2 (cond (eqb (i % 6) 5) 3 1))
+-- the stage that a tick of a block belongs to, and that of a step's number
+abbrev pub tickStage : ℕ → ℕ
+tickStage r =
+    cond (eqb r 0) (stageNumber Enrol) (cond (eqb r crossingTick) (stageNumber Crossing) (cond (eqb r pointTick) (stageNumber Points) (stageNumber Seam)))
 
-level-at : (i r : ℕ) → i % 6 ≡ r → stepStage i ≡ cond (eqb r 0) 0 (cond (eqb r 4) 2 (cond (eqb r 5) 3 1))
+unfoldable pub stepStage : ℕ → ℕ
+stepStage i = tickStage (i % ticksPerBlock)
+
+level-at : (i r : ℕ) → i % ticksPerBlock ≡ r → stepStage i ≡ tickStage r
 unfolding stepStage
 level-at i r e = rw e refl
 
-pub seam-level : (k : Cutting) (d : Edge) → stepStage (seamStep k d) ≡ 1
+pub seam-level : (k : Cutting) (d : Edge) → stepStage (seamStep k d) ≡ stageNumber Seam
 unfolding seamStep stepStage
 seam-level k d =
     let a = axis-bound k (d .from) (d .to) in
-    rw (ne-eqb ((6 * d .from + seamAxis k (d .from) (d .to)) % 6) 0 (λ e. omega (arith, a)), ne-eqb ((6 * d .from + seamAxis k (d .from) (d .to)) % 6) 4 (λ e. omega (arith, a)), ne-eqb ((6 * d .from + seamAxis k (d .from) (d .to)) % 6) 5 (λ e. omega (arith, a))) refl
+    let r : ℕ = (ticksPerBlock * d .from + seamAxis k (d .from) (d .to)) % ticksPerBlock in
+    rw (ne-eqb r 0 (λ e. omega (arith, a)), ne-eqb r crossingTick (λ e. omega (arith, a)), ne-eqb r pointTick (λ e. omega (arith, a))) refl
 
-pub crossing-level : (b : ℕ) → stepStage (crossingStep b) ≡ 2
-unfolding crossingStep
-crossing-level b = level-at (6 * b + 4) 4 (omega arith)
+pub crossing-level : (b : ℕ) → stepStage (crossingStep b) ≡ stageNumber Crossing
+crossing-level b = level-at (crossingStep b) crossingTick (omega arith)
 
-pub point-level : (b : ℕ) → stepStage (pointStep b) ≡ 3
-unfolding pointStep
-point-level b = level-at (6 * b + 5) 5 (omega arith)
+pub point-level : (b : ℕ) → stepStage (pointStep b) ≡ stageNumber Points
+point-level b = level-at (pointStep b) pointTick (omega arith)
 
 pub steps-level : (k : Cutting) (s : Stage) {i : ℕ} → List·Memᴰ i (stepsOf k s) → stepStage i ≡ stageNumber s
-unfolding stepsOf stageNumber enrolStep crossingStep pointStep
-steps-level k Enrol {i} m = let r = Memᴰ·of-map enrolStep (consecutive 0 (blocks k)) m in ap stepStage (sym (r .2)) ∙ level-at (6 * r .0) 0 (omega arith)
+unfolding stepsOf
+steps-level k Enrol {i} m = let r = Memᴰ·of-map enrolStep (consecutive 0 (blocks k)) m in ap stepStage (sym (r .2)) ∙ level-at (enrolStep (r .0)) 0 (omega arith)
 steps-level k Seam {i} m = let r = Memᴰ·of-map (seamStep k) (seams k) m in ap stepStage (sym (r .2)) ∙ seam-level k (r .0)
-steps-level k Crossing {i} m = let r = Memᴰ·of-map crossingStep (consecutive 0 (blocks k)) m in ap stepStage (sym (r .2)) ∙ level-at (6 * r .0 + 4) 4 (omega arith)
-steps-level k Points {i} m = let r = Memᴰ·of-map pointStep (consecutive 0 (blocks k)) m in ap stepStage (sym (r .2)) ∙ level-at (6 * r .0 + 5) 5 (omega arith)
+steps-level k Crossing {i} m = let r = Memᴰ·of-map crossingStep (consecutive 0 (blocks k)) m in ap stepStage (sym (r .2)) ∙ crossing-level (r .0)
+steps-level k Points {i} m = let r = Memᴰ·of-map pointStep (consecutive 0 (blocks k)) m in ap stepStage (sym (r .2)) ∙ point-level (r .0)
 steps-level k Closed {i} m = absurd (List·Memᴰ·not-nil m)
 
 pub record Progress (k : Cutting) (done : List ℕ) (s : Stage) : Type 0 where
@@ -120,7 +123,7 @@ block-step : (k : Cutting) (f : ℕ → ℕ) → (j : ℕ) × List·Memᴰ j (ma
 block-step k f = (f 0, Memᴰ·map f (consecutive-in 0 (blocks k) (omega arith) (omega (arith, some-block k))))
 
 pub progress-more : (k : Cutting) (done : List ℕ) (s : Stage) → Progress k done s → (i : ℕ) → List·Memᴰ i (stepsOf k s) → Progress k (i ∷ done) (nextAfter k (isIn (i ∷ done)) s)
-unfolding nextAfter stageNumber nextStage stepsOf
+unfolding nextAfter nextStage stepsOf
 progress-more k done s P i hi =
     picked (Progress k (i ∷ done)) (finished k (isIn (i ∷ done)) s) (nextStage k s) s (λ f. go s P hi f) (λ f. stays k done s P i hi f)
   where
@@ -143,7 +146,7 @@ progress-more k done s P i hi =
 -- ---- the start, and the end
 
 pub progress-start : (k : Cutting) → Progress k [] Enrol
-unfolding stageNumber finished
+unfolding finished
 progress-start k = record { past = λ i m. absurd (List·Memᴰ·not-nil m); all-done = λ q l. absurd (omega arith); not-yet = λ n. by-test (allOf (isIn []) (stepsOf k Enrol)) (λ t. absurd (nothing t)) (λ t. t) }
   where
     nothing : allOf (isIn []) (stepsOf k Enrol) ≡ true → ⊥
@@ -151,10 +154,10 @@ progress-start k = record { past = λ i m. absurd (List·Memᴰ·not-nil m); all
 
 -- a stage hasCell a number
 pub closed-is : (s : Stage) → (s ≡ Closed) ⊎ (s ≢ Closed)
-closed-is Enrol = inr (λ e. absurd (unfold stageNumber in omega (arith, ap stageNumber e)))
-closed-is Seam = inr (λ e. absurd (unfold stageNumber in omega (arith, ap stageNumber e)))
-closed-is Crossing = inr (λ e. absurd (unfold stageNumber in omega (arith, ap stageNumber e)))
-closed-is Points = inr (λ e. absurd (unfold stageNumber in omega (arith, ap stageNumber e)))
+closed-is Enrol = inr (λ e. absurd (omega (arith, ap stageNumber e)))
+closed-is Seam = inr (λ e. absurd (omega (arith, ap stageNumber e)))
+closed-is Crossing = inr (λ e. absurd (omega (arith, ap stageNumber e)))
+closed-is Points = inr (λ e. absurd (omega (arith, ap stageNumber e)))
 closed-is Closed = inl refl
 
 no-closed : (k : Cutting) (i : ℕ) → List·Memᴰ i (stepsOf k Closed) → ⊥
@@ -170,10 +173,10 @@ closed-all k done s P = (to, from)
     to e q i m = go (closed-is q)
       where
         below : (q : Stage) → q ≢ Closed → stageNumber q < stageNumber Closed
-        below Enrol n = unfold stageNumber in omega arith
-        below Seam n = unfold stageNumber in omega arith
-        below Crossing n = unfold stageNumber in omega arith
-        below Points n = unfold stageNumber in omega arith
+        below Enrol n = omega arith
+        below Seam n = omega arith
+        below Crossing n = omega arith
+        below Points n = omega arith
         below Closed n = absurd (n refl)
 
         go : (q ≡ Closed) ⊎ (q ≢ Closed) → List·Memᴰ i done

@@ -20,6 +20,7 @@ use Rattle.joiner.specs.Job.{Kind, Tables, firstAt}
 use Rattle.lists.proofs.Cases.{and-both, and-first, and-second, by-test, or-cases, or-left, or-right}
 use Rattle.lists.proofs.Lists.{Ascends, ascends-consecutive, ascends-keep, ascends-le, consecutive-in, consecutive-out, keep-in, keep-out}
 use Rattle.lists.proofs.Tests.{all-in, all-out, first-in, implied, implies, keep-all, keep-same}
+use Rattle.joiner.proofs.Keys.{positions-le, positions-less}
 
 module _ (t : Tables) (κ : Kind) where
   Q : ℕ → ℕ
@@ -64,12 +65,12 @@ module _ (t : Tables) (κ : Kind) where
   -- in the order of keys is in the order of positions
   lex-le : (x y : ℕ) → Sooner x y → firstAt t κ x ≤ firstAt t κ y
   unfolding firstAt Q
-  lex-le x y (earlier a) = omega arith
-  lex-le x y (level a b) = omega arith
+  lex-le x y (earlier a) = positions-le (Q x) (Q y) (omega arith)
+  lex-le x y (level a b) = positions-le (Q x) (Q y) (omega arith)
 
   lex-less : (x y : ℕ) → firstAt t κ x < firstAt t κ y → Sooner x y
   unfolding firstAt Q
-  lex-less x y h = earlier (omega arith)
+  lex-less x y h = earlier (positions-less (Q x) (Q y) h)
 
   -- the first of those in a list that pass a test
   record First (P : ℕ → Bool) (l : List ℕ) : Type 0 where

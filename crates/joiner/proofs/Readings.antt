@@ -21,7 +21,7 @@ use Rattle.cutting.specs.Cutting.{blockExtents, blocks, embed, goodCut}
 use Rattle.joiner.specs.Book.{Book, uncut}
 use Rattle.joiner.specs.Declines.{finalOf}
 use Rattle.joiner.specs.Entries.{bisect, cellNumber, lookedUp, pointNumber, rowTaken}
-use Rattle.joiner.specs.Job.{Curve, Face, Kind, Point, State, Told, orderOf, stageNumber, width}
+use Rattle.joiner.specs.Job.{Curve, Face, Kind, Point, Points, State, Told, orderOf, stageNumber, width}
 use Rattle.joiner.specs.Stages.{codesOf, hasCell, local, shared}
 use Rattle.joiner.specs.Statement.{Labelling}
 use Rattle.lists.proofs.Cases.{and-first, and-second, by-test, picked}
@@ -158,7 +158,7 @@ module _ (e : Triple) (codes xs : List ℕ) (firsts-are : (i : ℕ) → i < larg
 -- ---- a closed job
 
 module _ (o : Told) (own : ℕ → List ℕ) (good : goodCut (o .cutting) ≡ true) (lab : (b : ℕ) → b < blocks (o .cutting) → Labelling (blockExtents (o .cutting) b) (own b)) (B : Book) (s : State) (I : Inv o own B s)
-    (late : 3 ≤ stageNumber (B .stage)) (all-final : (κ : Kind) → Final o own good lab s κ) where
+    (late : stageNumber Points ≤ stageNumber (B .stage)) (all-final : (κ : Kind) → Final o own good lab s κ) where
   abbrev Vm : List ℕ
   Vm = volume-map o own good lab
 

@@ -15,7 +15,7 @@ use Rattle.joiner.specs.Book.{Book, bookAdds, bookAfter, entered}
 use Rattle.joiner.specs.Calls.{Call, differs, join}
 use Rattle.joiner.specs.Declines.{adds}
 use Rattle.joiner.specs.Entries.{AtSeam, Merged, SeamDone, Ticked}
-use Rattle.joiner.specs.Job.{Curve, Face, Kind, Seam, Stage, State, Told, node, stageNumber}
+use Rattle.joiner.specs.Job.{Curve, Face, Kind, Seam, Stage, State, Told, node, stageNumber, ticksPerBlock}
 use Rattle.joiner.specs.Stages.{crossingStep, seamStep, shared, stepsOf}
 use Rattle.lists.proofs.Table.{at, every}
 use Rattle.joiner.proofs.Inv.{EdgeDone, In, Inv, SeamEdge}
@@ -57,7 +57,7 @@ module _ (o : Told) (own : ℕ → List ℕ) (good : goodCut (o .cutting) ≡ tr
         listed-long = λ κ. ap length (D .numbers κ .listed) ∙ I .sizes .listed-long κ;
       }
 
-  step-low′ : st < 6 * blocks (o .cutting)
+  step-low′ : st < ticksPerBlock * blocks (o .cutting)
   unfolding seamStep
   step-low′ = omega (arith, axis-bound (o .cutting) b c, seam-listed (o .cutting) b c z)
 
@@ -80,8 +80,8 @@ module _ (o : Told) (own : ℕ → List ℕ) (good : goodCut (o .cutting) ≡ tr
   abbrev B₀ : Book
   B₀ = after o own good B s I every t call st L
 
-  seam-stage : stageNumber (B .stage) ≡ 1
-  seam-stage = ap stageNumber at-stage ∙ (unfold stageNumber in refl)
+  seam-stage : stageNumber (B .stage) ≡ stageNumber Seam
+  seam-stage = ap stageNumber at-stage
 
   no-cross : (d : ℕ) → List·Memᴰ (crossingStep d) (st ∷ B .done) → ⊥
   no-cross d m = go (List·Memᴰ·cases-cons m)

@@ -18,7 +18,7 @@ use Rattle.cutting.specs.Cutting.{Cutting, blockCodes, blockExtents, blocks, em
 use Rattle.cutting.specs.Nodes.{part, uncutMap}
 use Rattle.joiner.specs.Book.{Book, begun, uncut}
 use Rattle.joiner.specs.Entries.{allTrays, lookedUp}
-use Rattle.joiner.specs.Job.{Kind, State, Told, lengthsFit, orderOf, stageNumber, width}
+use Rattle.joiner.specs.Job.{Closed, Kind, State, Told, lengthsFit, orderOf, stageNumber, width}
 use Rattle.joiner.specs.Sheets.{ClosedJob, Sheet}
 use Rattle.joiner.specs.Stages.{codeIn, codesOf, hasCell, local, lowestBlock}
 use Rattle.joiner.specs.Statement.{Labelling, Uncut}
@@ -89,12 +89,12 @@ module _ (e : Triple) (codes : List ℕ) (s : State) (J : ClosedJob e codes s) w
       let w = simulated (J .told) (J .own) (passed-open .0) (passed-open .1) labellings (begun (J .told)) (J .begin) (J .calls) (begun-sim (J .told) (J .lent) (J .begin) (J .own) (J .opened) labellings) (J .run) (J .fair) in
       (w .0, subst (Sim (J .told) (J .own) (passed-open .0) (passed-open .1) labellings (w .0)) (J .left) (w .1))
 
-  four : stageNumber (end .0 .stage) ≡ 4
-  four = ap stageNumber (sym (end .1 .inv .stage) ∙ J .closed) ∙ (unfold stageNumber in refl)
+  at-closed : stageNumber (end .0 .stage) ≡ stageNumber Closed
+  at-closed = ap stageNumber (sym (end .1 .inv .stage) ∙ J .closed)
 
   volume-is : uncut (end .0) ≡ labels e codes
   volume-is =
-      uncut-is (J .told) (J .own) (passed-open .1) labellings (end .0) s (end .1 .inv) (omega (arith, four))
+      uncut-is (J .told) (J .own) (passed-open .1) labellings (end .0) s (end .1 .inv) (omega (arith, at-closed))
       ∙ ap₂ labels (J .extents) codes-are
 
   told-is : end .0 .told .cutting .extents ≡ e
@@ -105,7 +105,7 @@ module _ (e : Triple) (codes : List ℕ) (s : State) (J : ClosedJob e codes s) w
       → Sheet s κ (largest e (labels e codes) (orderOf κ)) (tabulate (largest e (labels e codes) (orderOf κ)) (λ i. firstCell e (labels e codes) (orderOf κ) (suc i)))
       (tabulate (width κ * largest e (labels e codes) (orderOf κ)) (λ i. getD (componentRow e (labels e codes) (orderOf κ) (suc (i / width κ))) (i % width κ) 0))
   closed-sheet κ =
-      let u : Uncut (end .0) s κ = closed-uncut (J .told) (J .own) (passed-open .0) (passed-open .1) labellings (end .0) s (end .1) four κ in
+      let u : Uncut (end .0) s κ = closed-uncut (J .told) (J .own) (passed-open .0) (passed-open .1) labellings (end .0) s (end .1) at-closed κ in
       let n : s .job .numbered κ ≡ largest e (labels e codes) (orderOf κ) = u .total ∙ ap₂ (λ (x : Triple) (m : List ℕ). largest x m (orderOf κ)) told-is volume-is in
       record {
         count-is = n;
@@ -118,7 +118,7 @@ module _ (e : Triple) (codes : List ℕ) (s : State) (J : ClosedJob e codes s) w
   -- a cell looked up from any block that has it holds what the uncut map has there
   pub closed-lookup : (b : ℕ) (c : Triple) → b < blocks (J .told .cutting) → hasCell (J .told .cutting) b c ≡ true → lookedUp s b (J .own b) c ≡ getD (labels e codes) (index (sides e) c) 0
   closed-lookup b c hb h =
-      cell-read (J .told) (J .own) (passed-open .1) labellings (end .0) s (end .1 .inv) (omega (arith, four)) (finals-at (J .told) (J .own) (passed-open .0) (passed-open .1) labellings (end .0) s (end .1) four) b c hb h
+      cell-read (J .told) (J .own) (passed-open .1) labellings (end .0) s (end .1 .inv) (omega (arith, at-closed)) (finals-at (J .told) (J .own) (passed-open .0) (passed-open .1) labellings (end .0) s (end .1) at-closed) b c hb h
       ∙ ap₂ (λ (x : Triple) (m : List ℕ). getD m (index (sides x) c) 0) told-is volume-is
 
 -- the same sheet for two closed jobs of one volume

@@ -22,7 +22,7 @@ use Rattle.joiner.specs.Book.{Book, accepts, bookAdds, bookAfter, bookAn
 use Rattle.joiner.specs.Calls.{Answer, Call, answer, cross, enrol, join, look, placed, point, reading, repeated, stageOf}
 use Rattle.joiner.specs.Declines.{adds, lookStands, pointCells, refusal}
 use Rattle.joiner.specs.Entries.{CrossingDone, Done, EnrolDone, KeptFound, KeptNumbers, NumberedKind, PointDone, SeamDone, CallStep, lookedUp}
-use Rattle.joiner.specs.Job.{Closed, Crossing, Curve, Enrol, Face, Kind, Point, Points, Seam, Stage, State, Told, countOf, firstAt, orderOf, stageNumber, ticked, width}
+use Rattle.joiner.specs.Job.{Closed, Crossing, Curve, Enrol, Face, Kind, Point, Points, Seam, Stage, State, Told, countOf, firstAt, keyPosition, orderOf, stageNumber, ticked, width}
 use Rattle.joiner.specs.Sheets.{lastState}
 use Rattle.joiner.specs.Stages.{codesOf, crossingStep, enrolStep, finished, hasCell, local, nextAfter, nextStage, pointStep, seamStep, seams, stepsOf}
 use Rattle.joiner.specs.Statement.{Agrees, AllDone, Brings, Entry, Fair, Labelling, Measured, Run, Uncut}
@@ -47,15 +47,15 @@ use Rattle.joiner.proofs.Passed.{passed}
 
 -- ---- the stages after a step
 
-next-enrol : (k : Cutting) (f : ℕ → Bool) → stageNumber (nextAfter k f Enrol) ≤ 2
-unfolding nextAfter nextStage stageNumber
+next-enrol : (k : Cutting) (f : ℕ → Bool) → stageNumber (nextAfter k f Enrol) ≤ stageNumber Crossing
+unfolding nextAfter nextStage
 next-enrol k f =
-    picked (λ (z : Stage). stageNumber z ≤ 2) (finished k f Enrol) (cond (eqb (length (seams k)) 0) Crossing Seam) Enrol
-    (λ t. picked (λ (z : Stage). stageNumber z ≤ 2) (eqb (length (seams k)) 0) Crossing Seam (λ u. omega arith) (λ u. omega arith)) (λ t. omega arith)
+    picked (λ (z : Stage). stageNumber z ≤ stageNumber Crossing) (finished k f Enrol) (cond (eqb (length (seams k)) 0) Crossing Seam) Enrol
+    (λ t. picked (λ (z : Stage). stageNumber z ≤ stageNumber Crossing) (eqb (length (seams k)) 0) Crossing Seam (λ u. omega arith) (λ u. omega arith)) (λ t. omega arith)
 
-next-seam : (k : Cutting) (f : ℕ → Bool) → stageNumber (nextAfter k f Seam) ≤ 2
-unfolding nextAfter nextStage stageNumber
-next-seam k f = picked (λ (z : Stage). stageNumber z ≤ 2) (finished k f Seam) Crossing Seam (λ t. omega arith) (λ t. omega arith)
+next-seam : (k : Cutting) (f : ℕ → Bool) → stageNumber (nextAfter k f Seam) ≤ stageNumber Crossing
+unfolding nextAfter nextStage
+next-seam k f = picked (λ (z : Stage). stageNumber z ≤ stageNumber Crossing) (finished k f Seam) Crossing Seam (λ t. omega arith) (λ t. omega arith)
 
 next-cross : (k : Cutting) (f : ℕ → Bool) → (nextAfter k f Crossing ≡ Crossing) ⊎ (nextAfter k f Crossing ≡ Points)
 unfolding nextAfter nextStage
@@ -65,28 +65,24 @@ next-point : (k : Cutting) (f : ℕ → Bool) → (nextAfter k f Points ≡ Poin
 unfolding nextAfter nextStage
 next-point k f = picked (λ (z : Stage). (z ≡ Points) ⊎ (z ≡ Closed)) (finished k f Points) Closed Points (λ t. inr refl) (λ t. inl refl)
 
-numbers-of : (stageNumber Enrol ≡ 0) × (stageNumber Seam ≡ 1) × (stageNumber Crossing ≡ 2) × (stageNumber Points ≡ 3) × (stageNumber Closed ≡ 4)
-unfolding stageNumber
-numbers-of = (refl, refl, refl, refl, refl)
-
 module _ (o : Told) (own : ℕ → List ℕ) (ext : offSize 1024 (o .cutting .extents) ≡ false) (good : goodCut (o .cutting) ≡ true)
     (lab : (b : ℕ) → b < blocks (o .cutting) → Labelling (blockExtents (o .cutting) b) (own b)) where
   -- what holds between the book and the service after each call
   pub record Sim (B : Book) (s : State) : Type 0 where
     pub inv : Inv o own B s
-    pub final-two : 3 ≤ stageNumber (B .stage) → Final o own good lab s Face × Final o own good lab s Curve
-    pub no-points : stageNumber (B .stage) ≤ 2 → s .job .sofar Point ≡ 0
-    pub some-points : stageNumber (B .stage) ≡ 3 → PointsSo (o .cutting) good (codesOf (o .cutting) own) (s .tables) (B .done) (s .job .sofar Point)
-    pub all-points : stageNumber (B .stage) ≡ 4 → Final o own good lab s Point
+    pub final-two : stageNumber Points ≤ stageNumber (B .stage) → Final o own good lab s Face × Final o own good lab s Curve
+    pub no-points : stageNumber (B .stage) ≤ stageNumber Crossing → s .job .sofar Point ≡ 0
+    pub some-points : stageNumber (B .stage) ≡ stageNumber Points → PointsSo (o .cutting) good (codesOf (o .cutting) own) (s .tables) (B .done) (s .job .sofar Point)
+    pub all-points : stageNumber (B .stage) ≡ stageNumber Closed → Final o own good lab s Point
 
   module _ (B : Book) (s : State) (S : Sim B s) where
-    pub finals-at : stageNumber (B .stage) ≡ 4 → (κ : Kind) → Final o own good lab s κ
+    pub finals-at : stageNumber (B .stage) ≡ stageNumber Closed → (κ : Kind) → Final o own good lab s κ
     finals-at q Face = S .final-two (omega arith) .0
     finals-at q Curve = S .final-two (omega arith) .1
     finals-at q Point = S .all-points q
 
     -- a closed job's tables are the uncut volume's
-    pub closed-uncut : stageNumber (B .stage) ≡ 4 → (κ : Kind) → Uncut B s κ
+    pub closed-uncut : stageNumber (B .stage) ≡ stageNumber Closed → (κ : Kind) → Uncut B s κ
     closed-uncut q κ =
         let f : Final o own good lab s κ = finals-at q κ in
         let u : uncut B ≡ volume-map o own good lab = uncut-is o own good lab B s (S .inv) (omega arith) in
@@ -101,7 +97,7 @@ module _ (o : Told) (own : ℕ → List ℕ) (ext : offSize 1024 (o .cutting .ex
     I = S .inv
 
     -- a closed job's count is the uncut volume's
-    pub total-at : stageNumber (B .stage) ≡ 4 → (κ : Kind) → s .job .numbered κ ≡ uncutCount B κ
+    pub total-at : stageNumber (B .stage) ≡ stageNumber Closed → (κ : Kind) → s .job .numbered κ ≡ uncutCount B κ
     unfolding uncutCount
     total-at q κ = closed-uncut B s S q κ .total
 
@@ -111,10 +107,10 @@ module _ (o : Told) (own : ℕ → List ℕ) (ext : offSize 1024 (o .cutting .ex
     places (cross b m) h = refl
     places (point b m) h = refl
     places (look b m c) h = refl
-    places (reading κ n) h = ap (λ (x : ℕ). ltb 0 n && leb n x) (total-at (h ∙ numbers-of .4) κ)
+    places (reading κ n) h = ap (λ (x : ℕ). ltb 0 n && leb n x) (total-at h κ)
 
     -- after the crossings every block is enrolled
-    pub enrolled-block : 3 ≤ stageNumber (B .stage) → (b : ℕ) → b < blocks (o .cutting) → Enrolled s b Face × Enrolled s b Curve
+    pub enrolled-block : stageNumber Points ≤ stageNumber (B .stage) → (b : ℕ) → b < blocks (o .cutting) → Enrolled s b Face × Enrolled s b Curve
     enrolled-block l b hb = block-in o own ext good lab B s I b hb (enrolled o own ext good lab B s I (omega (arith, l)) b hb)
 
     -- ---- the refusal of a call with its blocks' maps
@@ -126,15 +122,15 @@ module _ (o : Told) (own : ℕ → List ℕ) (ext : offSize 1024 (o .cutting .ex
     own-refused (point b m) e =
         point-agrees o own ext good lab B s I b m e
         (λ h hb q κ.
-        let l : 3 ≤ stageNumber (B .stage) = omega arith in
+        let l : stageNumber Points ≤ stageNumber (B .stage) = omega arith in
         ap (λ (x : List ℕ). adds s (point b x) κ) q ∙ point-adds o own good lab B s I l (S .final-two l .1) b hb κ ∙ ap (λ (x : List ℕ). bookAdds B (point b x) κ) (sym q))
         (λ h hb.
-        let l : 3 ≤ stageNumber (B .stage) = omega arith in
+        let l : stageNumber Points ≤ stageNumber (B .stage) = omega arith in
         curves-stand s b (S .final-two l .1 .within) (enrolled-block l b hb .1))
     own-refused (look b m c) e =
         lookup-agrees o own ext good lab B s I b m c e
         (λ h hb has q.
-        let l : 3 ≤ stageNumber (B .stage) = omega arith in
+        let l : stageNumber Points ≤ stageNumber (B .stage) = omega arith in
         ap₂ (λ (z : Told) (x : List ℕ). lookStands s b x (local (z .cutting) b c)) (I .told) q
         ∙ look-stands s b (own b) (local (o .cutting) b c)
         (subst (λ (z : Told). local (o .cutting) b c < cells (blockExtents (z .cutting) b)) (sym (I .told)) (has-held (o .cutting) good b hb c has .0))
@@ -152,10 +148,10 @@ module _ (o : Told) (own : ℕ → List ℕ) (ext : offSize 1024 (o .cutting .ex
     book-stage c r = sym (I .stage) ∙ passed s c r .stage
 
     -- a block's own map is the one that the book keeps
-    pub maps-at : (b : ℕ) → b < blocks (o .cutting) → 0 < stageNumber (B .stage) → (m : List ℕ) → m ≡ own b → sameRow m (B .maps b) ≡ true
+    pub maps-at : (b : ℕ) → b < blocks (o .cutting) → stageNumber Enrol < stageNumber (B .stage) → (m : List ℕ) → m ≡ own b → sameRow m (B .maps b) ≡ true
     maps-at b hb h m e = ap₂ sameRow e (I .maps b hb (enrolled o own ext good lab B s I h b hb)) ∙ row-same (own b)
 
-    past : (c : Call) → refusal s c ≡ 0 → 0 < stageNumber (stageOf c) → 0 < stageNumber (B .stage)
+    past : (c : Call) → refusal s c ≡ 0 → stageNumber Enrol < stageNumber (stageOf c) → stageNumber Enrol < stageNumber (B .stage)
     past c r h = omega (arith, ap stageNumber (book-stage c r), h)
 
     -- a call in its stage, of blocks that there are, brings what the book takes for its blocks' maps
@@ -164,11 +160,11 @@ module _ (o : Told) (own : ℕ → List ℕ) (ext : offSize 1024 (o .cutting .ex
         ap₂ (λ (z : Told) (x : List ℕ). labelled (blockExtents (z .cutting) b) x) (I .btold) e ∙ labelling-labelled (blockExtents (o .cutting) b) (own b) (lab b (ltb-true _ _ p))
     brings (join b c m n) k q p e =
         let l = seam-listed (o .cutting) b c p in
-        let h : 0 < stageNumber (B .stage) = omega (arith, q, numbers-of .1) in
+        let h : stageNumber Enrol < stageNumber (B .stage) = omega (arith, q) in
         and-both (sameRow m (B .maps b)) (sameRow n (B .maps c)) (maps-at b (l .0) h m (e .0)) (maps-at c (l .1) h n (e .1))
-    brings (cross b m) n q p e = maps-at b (ltb-true _ _ p) (omega (arith, q, numbers-of .2)) m e
-    brings (point b m) n q p e = maps-at b (ltb-true _ _ p) (omega (arith, q, numbers-of .3)) m e
-    brings (look b m c) n q p e = maps-at b (ltb-true _ _ (and-first (ltb b (blocks (o .cutting))) (hasCell (o .cutting) b c) p)) (omega (arith, q, numbers-of .4)) m e
+    brings (cross b m) n q p e = maps-at b (ltb-true _ _ p) (omega (arith, q)) m e
+    brings (point b m) n q p e = maps-at b (ltb-true _ _ p) (omega (arith, q)) m e
+    brings (look b m c) n q p e = maps-at b (ltb-true _ _ (and-first (ltb b (blocks (o .cutting))) (hasCell (o .cutting) b c) p)) (omega (arith, q)) m e
     brings (reading κ n) k q p e = refl
 
     -- the refusal of a call with the blocks' maps
@@ -192,11 +188,11 @@ module _ (o : Told) (own : ℕ → List ℕ) (ext : offSize 1024 (o .cutting .ex
     unfolding bookAfter entered adds
     enrol-sim b t r D =
         let g : B .stage ≡ Enrol = book-stage (enrol b (own b)) r in
-        let z : stageNumber (bookAfter B (enrol b (own b)) .stage) ≤ 2 = subst (λ (x : Stage). stageNumber (nextAfter (B .told .cutting) (isIn (enrolStep b ∷ B .done)) x) ≤ 2) (sym g) (next-enrol (B .told .cutting) (isIn (enrolStep b ∷ B .done))) in
+        let z : stageNumber (bookAfter B (enrol b (own b)) .stage) ≤ stageNumber Crossing = subst (λ (x : Stage). stageNumber (nextAfter (B .told .cutting) (isIn (enrolStep b ∷ B .done)) x) ≤ stageNumber Crossing) (sym g) (next-enrol (B .told .cutting) (isIn (enrolStep b ∷ B .done))) in
         record {
           inv = enrol-keeps o own good lab B s t I b hb g (fresh-at (enrol b (own b)) (enrolStep b) r refl) D (passed s (enrol b (own b)) r) same-adds;
           final-two = λ h. absurd (omega arith);
-          no-points = λ h. D .step .sofar Point ∙ ap (λ (x : ℕ). x + adds s (enrol b (own b)) Point) (S .no-points (omega (arith, ap stageNumber g, numbers-of .0))) ∙ no-more;
+          no-points = λ h. D .step .sofar Point ∙ ap (λ (x : ℕ). x + adds s (enrol b (own b)) Point) (S .no-points (omega (arith, ap stageNumber g))) ∙ no-more;
           some-points = λ h. absurd (omega arith);
           all-points = λ h. absurd (omega arith);
         }
@@ -212,7 +208,7 @@ module _ (o : Told) (own : ℕ → List ℕ) (ext : offSize 1024 (o .cutting .ex
         same-adds Curve = unfold adds bookAdds in ap (λ (z : Told). largest (blockExtents (z .cutting) b) (own b) 1) (I .told ∙ sym (I .btold))
         same-adds Point = unfold adds bookAdds in refl
 
-    all-in-book : (c : Call) → refusal s c ≡ 0 → 0 < stageNumber (stageOf c) → (b : ℕ) → b < blocks (o .cutting) → In o own B b
+    all-in-book : (c : Call) → refusal s c ≡ 0 → stageNumber Enrol < stageNumber (stageOf c) → (b : ℕ) → b < blocks (o .cutting) → In o own B b
     all-in-book c r h = enrolled o own ext good lab B s I (past c r h)
 
     join-sim : (b c : ℕ) (t : State) → refusal s (join b c (own b) (own c)) ≡ 0 → SeamDone s b c (own b) (own c) t → Sim (bookAfter B (join b c (own b) (own c))) t
@@ -220,11 +216,11 @@ module _ (o : Told) (own : ℕ → List ℕ) (ext : offSize 1024 (o .cutting .ex
     join-sim b c t r D =
         let g : B .stage ≡ Seam = book-stage (join b c (own b) (own c)) r in
         let step : ℕ = seamStep (B .told .cutting) (edge b c) in
-        let z : stageNumber (bookAfter B (join b c (own b) (own c)) .stage) ≤ 2 = subst (λ (x : Stage). stageNumber (nextAfter (B .told .cutting) (isIn (step ∷ B .done)) x) ≤ 2) (sym g) (next-seam (B .told .cutting) (isIn (step ∷ B .done))) in
+        let z : stageNumber (bookAfter B (join b c (own b) (own c)) .stage) ≤ stageNumber Crossing = subst (λ (x : Stage). stageNumber (nextAfter (B .told .cutting) (isIn (step ∷ B .done)) x) ≤ stageNumber Crossing) (sym g) (next-seam (B .told .cutting) (isIn (step ∷ B .done))) in
         record {
-          inv = join-keeps o own good B s I (all-in-book (join b c (own b) (own c)) r (omega (arith, numbers-of .1))) t b c (placed-at (join b c (own b) (own c)) r) g D (passed s (join b c (own b) (own c)) r);
+          inv = join-keeps o own good B s I (all-in-book (join b c (own b) (own c)) r (omega arith)) t b c (placed-at (join b c (own b) (own c)) r) g D (passed s (join b c (own b) (own c)) r);
           final-two = λ h. absurd (omega arith);
-          no-points = λ h. D .step .sofar Point ∙ ap (λ (x : ℕ). x + adds s (join b c (own b) (own c)) Point) (S .no-points (omega (arith, ap stageNumber g, numbers-of .1))) ∙ no-more;
+          no-points = λ h. D .step .sofar Point ∙ ap (λ (x : ℕ). x + adds s (join b c (own b) (own c)) Point) (S .no-points (omega (arith, ap stageNumber g))) ∙ no-more;
           some-points = λ h. absurd (omega arith);
           all-points = λ h. absurd (omega arith);
         }
@@ -250,7 +246,7 @@ module _ (o : Told) (own : ℕ → List ℕ) (ext : offSize 1024 (o .cutting .ex
         g = book-stage c₀ r
 
         J : Inv o own (bookAfter B (cross b (own b))) t
-        J = cross-keeps o own good B s I (all-in-book (cross b (own b)) r (omega (arith, numbers-of .2))) t b (ltb-true _ _ (placed-at (cross b (own b)) r)) g D (passed s (cross b (own b)) r)
+        J = cross-keeps o own good B s I (all-in-book (cross b (own b)) r (omega arith)) t b (ltb-true _ _ (placed-at (cross b (own b)) r)) g D (passed s (cross b (own b)) r)
 
         cases : (bookAfter B (cross b (own b)) .stage ≡ Crossing) ⊎ (bookAfter B (cross b (own b)) .stage ≡ Points)
         cases =
@@ -261,24 +257,24 @@ module _ (o : Told) (own : ℕ → List ℕ) (ext : offSize 1024 (o .cutting .ex
         tally κ = D .step .sofar κ ∙ (unfold adds in omega arith)
 
         none : t .job .sofar Point ≡ 0
-        none = tally Point ∙ S .no-points (omega (arith, ap stageNumber g, numbers-of .2))
+        none = tally Point ∙ S .no-points (omega (arith, ap stageNumber g))
 
-        two : 3 ≤ stageNumber (bookAfter B (cross b (own b)) .stage) → (bookAfter B (cross b (own b)) .stage ≡ Crossing) ⊎ (bookAfter B (cross b (own b)) .stage ≡ Points) → Final o own good lab t Face × Final o own good lab t Curve
-        two h (inl e) = absurd (omega (arith, h, ap stageNumber e, numbers-of .2))
+        two : stageNumber Points ≤ stageNumber (bookAfter B (cross b (own b)) .stage) → (bookAfter B (cross b (own b)) .stage ≡ Crossing) ⊎ (bookAfter B (cross b (own b)) .stage ≡ Points) → Final o own good lab t Face × Final o own good lab t Curve
+        two h (inl e) = absurd (omega (arith, h, ap stageNumber e))
         two h (inr e) =
             let N = D .last (J .stage ∙ e) in
             finals o own good lab (bookAfter B (cross b (own b))) t J h s (subst (NumberedKind s t Face) (sym (tally Face)) (N .0), subst (NumberedKind s t Curve) (sym (tally Curve)) (N .1))
 
-        not-closed : stageNumber (bookAfter B (cross b (own b)) .stage) ≡ 4 → (bookAfter B (cross b (own b)) .stage ≡ Crossing) ⊎ (bookAfter B (cross b (own b)) .stage ≡ Points) → ⊥
-        not-closed h (inl e) = omega (arith, h, ap stageNumber e, numbers-of .2)
-        not-closed h (inr e) = omega (arith, h, ap stageNumber e, numbers-of .3)
+        not-closed : stageNumber (bookAfter B (cross b (own b)) .stage) ≡ stageNumber Closed → (bookAfter B (cross b (own b)) .stage ≡ Crossing) ⊎ (bookAfter B (cross b (own b)) .stage ≡ Points) → ⊥
+        not-closed h (inl e) = omega (arith, h, ap stageNumber e)
+        not-closed h (inr e) = omega (arith, h, ap stageNumber e)
 
         no-step : (d : ℕ) → List·Memᴰ (pointStep d) (crossingStep b ∷ B .done) → ⊥
         no-step d m = go (List·Memᴰ·cases-cons m)
           where
             go : (pointStep d ≡ crossingStep b) ⊎ List·Memᴰ (pointStep d) (B .done) → ⊥
             go (inl e) = omega (arith, ap stepStage e, point-level d, crossing-level b)
-            go (inr n) = omega (arith, I .progress .past (pointStep d) n, point-level d, ap stageNumber g, numbers-of .2)
+            go (inr n) = omega (arith, I .progress .past (pointStep d) n, point-level d, ap stageNumber g)
 
     -- what is numbered stays so
     final-kept : (t : State) (κ : Kind) → t .job .sofar κ ≡ s .job .sofar κ → KeptFound s t κ → KeptNumbers s t κ → Final o own good lab s κ → Final o own good lab t κ
@@ -287,7 +283,7 @@ module _ (o : Told) (own : ℕ → List ℕ) (ext : offSize 1024 (o .cutting .ex
         record {
           numbers = λ x hx.
               ap (λ (l : List ℕ). getD l x 0) (N .numbers) ∙ f .numbers x (omega (arith, e))
-              ∙ ap (λ (l : List ℕ). getD (volume-map o own good lab) (getD l x 0 / 16384) 0) (sym (F .keys));
+              ∙ ap (λ (l : List ℕ). getD (volume-map o own good lab) (keyPosition (getD l x 0)) 0) (sym (F .keys));
           within = λ x hx.
               let w = f .within x (omega (arith, e)) in
               let q = ap (λ (l : List ℕ). getD l x 0) (N .numbers) in
@@ -314,8 +310,8 @@ module _ (o : Told) (own : ℕ → List ℕ) (ext : offSize 1024 (o .cutting .ex
         g : B .stage ≡ Points
         g = book-stage c₀ r
 
-        l : 3 ≤ stageNumber (B .stage)
-        l = omega (arith, ap stageNumber g, numbers-of .3)
+        l : stageNumber Points ≤ stageNumber (B .stage)
+        l = omega (arith, ap stageNumber g)
 
         hb : b < blocks (o .cutting)
         hb = ltb-true _ _ (placed-at c₀ r)
@@ -327,23 +323,23 @@ module _ (o : Told) (own : ℕ → List ℕ) (ext : offSize 1024 (o .cutting .ex
         sofar-same κ z = omega (arith, D .step .sofar κ, z)
 
         J : Inv o own (bookAfter B (point b (own b))) t
-        J = point-keeps o own good B s I (all-in-book (point b (own b)) r (omega (arith, numbers-of .3))) t b hb g D (passed s (point b (own b)) r) more
+        J = point-keeps o own good B s I (all-in-book (point b (own b)) r (omega arith)) t b hb g D (passed s (point b (own b)) r) more
 
         cases : (bookAfter B (point b (own b)) .stage ≡ Points) ⊎ (bookAfter B (point b (own b)) .stage ≡ Closed)
         cases =
             subst (λ (x : Stage). (nextAfter (B .told .cutting) (isIn (pointStep b ∷ B .done)) x ≡ Points) ⊎ (nextAfter (B .told .cutting) (isIn (pointStep b ∷ B .done)) x ≡ Closed)) (sym g)
             (next-point (B .told .cutting) (isIn (pointStep b ∷ B .done)))
 
-        not-early : stageNumber (bookAfter B (point b (own b)) .stage) ≤ 2 → (bookAfter B (point b (own b)) .stage ≡ Points) ⊎ (bookAfter B (point b (own b)) .stage ≡ Closed) → ⊥
-        not-early h (inl e) = omega (arith, h, ap stageNumber e, numbers-of .3)
-        not-early h (inr e) = omega (arith, h, ap stageNumber e, numbers-of .4)
+        not-early : stageNumber (bookAfter B (point b (own b)) .stage) ≤ stageNumber Crossing → (bookAfter B (point b (own b)) .stage ≡ Points) ⊎ (bookAfter B (point b (own b)) .stage ≡ Closed) → ⊥
+        not-early h (inl e) = omega (arith, h, ap stageNumber e)
+        not-early h (inr e) = omega (arith, h, ap stageNumber e)
 
-        closed : stageNumber (bookAfter B (point b (own b)) .stage) ≡ 4 → (bookAfter B (point b (own b)) .stage ≡ Points) ⊎ (bookAfter B (point b (own b)) .stage ≡ Closed) → bookAfter B (point b (own b)) .stage ≡ Closed
-        closed h (inl e) = absurd (omega (arith, h, ap stageNumber e, numbers-of .3))
+        closed : stageNumber (bookAfter B (point b (own b)) .stage) ≡ stageNumber Closed → (bookAfter B (point b (own b)) .stage ≡ Points) ⊎ (bookAfter B (point b (own b)) .stage ≡ Closed) → bookAfter B (point b (own b)) .stage ≡ Closed
+        closed h (inl e) = absurd (omega (arith, h, ap stageNumber e))
         closed h (inr e) = e
 
-        every : stageNumber (bookAfter B (point b (own b)) .stage) ≡ 4 → (d : ℕ) → d < blocks (o .cutting) → List·Memᴰ (pointStep d) (bookAfter B (point b (own b)) .done)
-        every h d hd = J .progress .all-done Points (omega (arith, h, numbers-of .3)) (pointStep d) (unfold stepsOf in Memᴰ·map pointStep (consecutive-in 0 (blocks (o .cutting)) (omega arith) (omega (arith, hd))))
+        every : stageNumber (bookAfter B (point b (own b)) .stage) ≡ stageNumber Closed → (d : ℕ) → d < blocks (o .cutting) → List·Memᴰ (pointStep d) (bookAfter B (point b (own b)) .done)
+        every h d hd = J .progress .all-done Points (omega (arith, h)) (pointStep d) (unfold stepsOf in Memᴰ·map pointStep (consecutive-in 0 (blocks (o .cutting)) (omega arith) (omega (arith, hd))))
 
         tally : t .job .sofar Point ≡ s .job .sofar Point + length (pointsOf (o .cutting) good (codesOf (o .cutting) own) b)
         tally = D .step .sofar Point ∙ ap (λ (x : ℕ). s .job .sofar Point + x) (unfold adds in (ap (λ (z : Told). length (pointCells (z .cutting) (s .tables) b (own b))) (I .told) ∙ ap length (cells-final o own good lab B s I l (S .final-two l .1) b hb)))
@@ -354,7 +350,7 @@ module _ (o : Told) (own : ℕ → List ℕ) (ext : offSize 1024 (o .cutting .ex
         so : PointsSo (o .cutting) good (codesOf (o .cutting) own) (t .tables) (bookAfter B (point b (own b)) .done) (t .job .sofar Point)
         so =
             subst (PointsSo (o .cutting) good (codesOf (o .cutting) own) (t .tables) (bookAfter B (point b (own b)) .done)) (sym tally)
-            (points-more (o .cutting) good (codesOf (o .cutting) own) (s .tables) (t .tables) (B .done) (s .job .sofar Point) b (S .some-points (ap stageNumber g ∙ numbers-of .3)) hb (fresh-at c₀ (pointStep b) r refl)
+            (points-more (o .cutting) good (codesOf (o .cutting) own) (s .tables) (t .tables) (B .done) (s .job .sofar Point) b (S .some-points (ap stageNumber g)) hb (fresh-at c₀ (pointStep b) r refl)
             (more-points o own good lab B s I l (S .final-two l .1) b hb t D room))
 
     -- ---- an accepted call
@@ -370,14 +366,14 @@ module _ (o : Told) (own : ℕ → List ℕ) (ext : offSize 1024 (o .cutting .ex
     accepted (cross b m) a t r D e = (D .0, subst (λ (x : List ℕ). refusal s (cross b x) ≡ 0 → CrossingDone s b x t → Sim (bookAfter B (cross b x)) t) (sym e) (cross-sim b t) r (D .1))
     accepted (point b m) a t r D e = (D .0, subst (λ (x : List ℕ). refusal s (point b x) ≡ 0 → PointDone s b x t → Sim (bookAfter B (point b x)) t) (sym e) (point-sim b t) r (D .1))
     accepted (look b m c) a t r D e =
-        let q : stageNumber (B .stage) ≡ 4 = ap stageNumber (book-stage (look b m c) r) ∙ numbers-of .4 in
+        let q : stageNumber (B .stage) ≡ stageNumber Closed = ap stageNumber (book-stage (look b m c) r) in
         let p = placed-at (look b m c) r in (
           D .0 ∙ ap (λ (x : List ℕ). answer 0 (lookedUp s b x c) []) e
               ∙ ap (λ (v : ℕ). answer 0 v []) (cell-read o own good lab B s I (omega arith) (finals-at B s S q) b c (ltb-true _ _ (and-first (ltb b (blocks (o .cutting))) (hasCell (o .cutting) b c) p)) (and-second (ltb b (blocks (o .cutting))) (hasCell (o .cutting) b c) p)),
           subst (Sim B) (sym (D .1)) S,
         )
     accepted (reading κ n) a t r D e =
-        let q : stageNumber (B .stage) ≡ 4 = ap stageNumber (book-stage (reading κ n) r) ∙ numbers-of .4 in
+        let q : stageNumber (B .stage) ≡ stageNumber Closed = ap stageNumber (book-stage (reading κ n) r) in
         let p = placed-at (reading κ n) r in (
           D .0 ∙ ap (λ (l : List ℕ). answer 0 0 l) (row-read o own good lab B s I (omega arith) (finals-at B s S q) κ n (ltb-true _ _ (and-first (ltb 0 n) (leb n (s .job .numbered κ)) p)) (leb-true _ _ (and-second (ltb 0 n) (leb n (s .job .numbered κ)) p))),
           subst (Sim B) (sym (D .1)) S,
@@ -436,7 +432,7 @@ module _ (o : Told) (own : ℕ → List ℕ) (ext : offSize 1024 (o .cutting .ex
           }
         where
           shut : (C : Book) (t : State) (T : Sim C t) → t .job .stage ≡ Closed → (κ : Kind) → Uncut C t κ
-          shut C t T q κ = closed-uncut C t T (ap stageNumber (sym (T .inv .stage) ∙ q) ∙ numbers-of .4) κ
+          shut C t T q κ = closed-uncut C t T (ap stageNumber (sym (T .inv .stage) ∙ q)) κ
 
       pub one-call : OneCall e
       one-call = by-test (eqb (refusal s (e .call)) 0) (λ t. yes (eqb-true _ _ t)) (λ t. no (eqb-false _ _ t))

@@ -11,12 +11,12 @@ use Rattle.cutting.specs.Cutting.{blocks}
 use Rattle.joiner.specs.Calls.{Call, cross, enrol, join, look, point, reading}
 use Rattle.joiner.specs.Declines.{lentTo}
 use Rattle.joiner.specs.Entries.{allTrays}
-use Rattle.joiner.specs.Job.{Curve, Face, Kind, Point, Tables, Told, Tray, blockTrays, firstTrays, lengthsFit, foundTrays, kindTrays, linkTrays, listedTrays, numberTrays, tray, width}
+use Rattle.joiner.specs.Job.{Curve, Face, Kind, Point, Tables, Told, Tray, blockTrays, firstTrays, lengthsFit, foundTrays, kindTrays, linkTrays, listedTrays, numberTrays, tray, width, ticksPerBlock, numbersPerBlock}
 use Rattle.lists.proofs.Cases.{and-both, and-first, and-second}
 
 pub record Sizes (o : Told) (t : Tables) : Type 0 where
-  pub ticks-long : length (t .ticks) ≡ 6 * blocks (o .cutting)
-  pub blocks-long : length (t .blocks) ≡ 5 * blocks (o .cutting)
+  pub ticks-long : length (t .ticks) ≡ ticksPerBlock * blocks (o .cutting)
+  pub blocks-long : length (t .blocks) ≡ numbersPerBlock * blocks (o .cutting)
   pub face-links : length (t .links Face) ≡ o .entries Face
   pub curve-links : length (t .links Curve) ≡ o .entries Curve
   pub keys-long : (κ : Kind) → length (t .keys κ) ≡ o .entries κ
@@ -123,7 +123,7 @@ module _ (o : Told) (t : Tables) where
     where
       from : lengthsFit (blockTrays o t) ≡ true → lengthsFit (linkTrays o t) ≡ true → ((κ : Kind) → KindSizes κ) → Sizes o t
       from b l k =
-          let p : (length (t .ticks) ≡ 6 * blocks (o .cutting)) × (length (t .blocks) ≡ 5 * blocks (o .cutting)) = (unfold blockTrays in fits-two _ _ _ _ b) in
+          let p : (length (t .ticks) ≡ ticksPerBlock * blocks (o .cutting)) × (length (t .blocks) ≡ numbersPerBlock * blocks (o .cutting)) = (unfold blockTrays in fits-two _ _ _ _ b) in
           let q : (length (t .links Face) ≡ o .entries Face) × (length (t .links Curve) ≡ o .entries Curve) = (unfold linkTrays in fits-two _ _ _ _ l) in
           record {
             ticks-long = p .0;

@@ -16,7 +16,7 @@ use Rattle.labels.specs.Number.{numbered}
 use Rattle.cutting.specs.Cutting.{blockExtents, blocks, goodCut}
 use Rattle.joiner.specs.Book.{begun}
 use Rattle.joiner.specs.Entries.{Opened, allTrays, openDeclines, openRefusal}
-use Rattle.joiner.specs.Job.{Curve, Face, Kind, Point, State, Tables, Told, lengthsFit, stageNumber, ticked}
+use Rattle.joiner.specs.Job.{Curve, Face, Kind, Point, State, Tables, Told, lengthsFit, ticked}
 use Rattle.joiner.specs.Statement.{Labelling, Statement3}
 use Rattle.refusals.proofs.RefusalLaws.{given-none}
 use Rattle.joiner.proofs.Inv.{Inv, Kept}
@@ -83,7 +83,7 @@ module _ (o : Told) (lent : Tables) (s : State) (own : ℕ → List ℕ) (P : Op
 -- the book and the service at the start
 pub begun-sim : (o : Told) (lent : Tables) (s : State) (own : ℕ → List ℕ) (P : Opened o lent s) (lab : (b : ℕ) → b < blocks (o .cutting) → Labelling (blockExtents (o .cutting) b) (own b))
     → Sim o own (opened-passed o lent (P .accepted) .0) (opened-passed o lent (P .accepted) .1) lab (begun o) s
-unfolding begun stageNumber
+unfolding begun
 begun-sim o lent s own P lab =
     record {
       inv = started o lent s own P;

@@ -18,7 +18,7 @@ use Rattle.cells.specs.Grid.{sides, order, upperNeighbours}
 use Rattle.cells.specs.Row.{rowOf, sortAscending, padTo}
 use Rattle.labels.specs.Components.{ofOrder, largest, component, componentRow}
 use Rattle.cutting.specs.Cutting.{Cutting, blockExtents, embed, goodCut}
-use Rattle.joiner.specs.Job.{Kind, Face, Curve, Point, orderOf, width, Stage, Enrol, Points, Closed, Told, Job, Tables, State, ticked, node, column, keyOf, firstAt, Tray, lengthsFit, blockTrays, linkTrays, kindTrays}
+use Rattle.joiner.specs.Job.{Kind, Face, Curve, Point, orderOf, width, Stage, Enrol, Points, Closed, Told, Job, Tables, State, ticked, node, column, keyOf, firstAt, Tray, lengthsFit, blockTrays, linkTrays, kindTrays, numbersPerBlock}
 use Rattle.joiner.specs.Stages.{local, shared, enrolStep, seamStep, crossingStep, pointStep, nextAfter}
 use Rattle.joiner.specs.Calls.{Call, enrol, join, cross, point, look, reading, Answer, answer}
 use Rattle.joiner.specs.Declines.{finalOf, finalRow, pointCells, adds, refusal}
@@ -176,7 +176,7 @@ pub record EnrolledKind (s t : State) (b : ℕ) (m : List ℕ) (κ : Kind) : Typ
       ≡ overlay (s .tables .rows κ) (width κ * s .job .sofar κ)
       (λ i. enrolledRow (s .job .told .cutting) (s .job .sofar Face) b m κ (suc (i / width κ)) (i % width κ)) (width κ * adds s (enrol b m) κ)
 
--- The block's five numbers.
+-- The numbers of a block.
 unfoldable pub blockEntry : State → ℕ → List ℕ → ℕ → ℕ
 blockEntry s b m i =
     getD (largest (blockExtents (s .job .told .cutting) b) m 2 ∷ largest (blockExtents (s .job .told .cutting) b) m 1 ∷
@@ -185,7 +185,7 @@ blockEntry s b m i =
 -- "Enrol": the block's numbers and components are written, and nothing else.
 pub record EnrolDone (s : State) (b : ℕ) (m : List ℕ) (t : State) : Type 0 where
   pub step : Ticked s t (enrol b m) (enrolStep b)
-  pub blocks : t .tables .blocks ≡ overlay (s .tables .blocks) (5 * b) (blockEntry s b m) 5
+  pub blocks : t .tables .blocks ≡ overlay (s .tables .blocks) (numbersPerBlock * b) (blockEntry s b m) numbersPerBlock
   pub faces : EnrolledKind s t b m Face
   pub curves : EnrolledKind s t b m Curve
   pub points : KeptFound s t Point

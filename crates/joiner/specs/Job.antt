@@ -5,7 +5,7 @@ use mathlib.Core.List.{List, [], _∷_, _++_}
 use Prim.Native.Nat.{ℕ, _+_, _-_, _*_, _/_}
 use lib.Dec.{eqb}
 use lib.ListN.{getD, length}
-use Rattle.cutting.specs.Cutting.{Cutting, blocks}
+use Rattle.cutting.specs.Cutting.{Cutting, blocks, mostBlocks}
 
 -- What the tables hold: faces, curves, points.
 pub data Kind : Type 0 where
@@ -28,7 +28,7 @@ pub data Stage : Type 0 where
   Enrol Seam Crossing Points Closed : Stage
 
 -- A stage by number, and whether two are one.
-unfoldable pub stageNumber : Stage → ℕ
+abbrev pub stageNumber : Stage → ℕ
 stageNumber Enrol = 0
 stageNumber Seam = 1
 stageNumber Crossing = 2
@@ -54,13 +54,13 @@ pub record Job : Type 0 where
 
 -- The tables, all lent. A component has a place: components of one block stand together, in the order of their numbers.
 pub record Tables : Type 0 where
-  -- six for each block: enrolled; its seam with the next block along x, y, z; crossed; its points found
+  -- `ticksPerBlock` for each block: enrolled; its seam with the next block along x, y, z; crossed; its points found
   pub ticks : List ℕ
-  -- five for each block: its largest face, curve and point number, and the places of its first face and first curve
+  -- `numbersPerBlock` for each block: its largest face, curve and point number, and the places of its first face and first curve
   pub blocks : List ℕ
   -- for each enrolled face and curve: how far back the one stands that it is joined to, 0 where to none before it (none for points)
   pub links : Kind → List ℕ
-  -- for each enrolled or found component: its first position · 16,384 + its block
+  -- for each enrolled or found component: its key, of its first position and its block
   pub keys : Kind → List ℕ
   -- .. and its row: a face's codes, a curve's faces as place + 1, a point's curves by final number
   pub rows : Kind → List ℕ
@@ -79,6 +79,10 @@ pub record State : Type 0 where
 unfoldable pub ticked : Tables → ℕ → Bool
 ticked t i = not (eqb (getD (t .ticks) i 0) 0)
 
+-- The numbers of a block in the block table: its three counts, and where its faces and curves begin.
+abbrev pub numbersPerBlock : ℕ
+numbersPerBlock = 5
+
 -- The columns of the block table.
 abbrev pub column : Kind → ℕ
 column Face = 0
@@ -87,23 +91,31 @@ column Point = 2
 
 -- "Its largest number in each order is its count"; the place of the block's first face or curve.
 unfoldable pub countOf : Tables → Kind → ℕ → ℕ
-countOf t κ b = getD (t .blocks) (5 * b + column κ) 0
+countOf t κ b = getD (t .blocks) (numbersPerBlock * b + column κ) 0
 
 -- .. and the place of its first face or curve (none for points).
 unfoldable pub fromOf : Tables → Kind → ℕ → ℕ
-fromOf t κ b = getD (t .blocks) (5 * b + (3 + column κ)) 0
+fromOf t κ b = getD (t .blocks) (numbersPerBlock * b + (3 + column κ)) 0
 
 -- The place of number n of block b.
 unfoldable pub node : Tables → Kind → ℕ → ℕ → ℕ
 node t κ b n = fromOf t κ b + (n - 1)
 
--- A position in the volume and a block in one number: there are at most 16,384 blocks.
+-- The base of keys. No block of a cutting is as large, so a key has its block below the base and its position above it.
+abbrev pub keyBase : ℕ
+keyBase = mostBlocks
+
+-- A position in the volume and a block in one number: "equal positions go by block".
 unfoldable pub keyOf : ℕ → ℕ → ℕ
-keyOf position b = position * 16384 + b
+keyOf position b = position * keyBase + b
+
+-- The position of a key.
+abbrev pub keyPosition : ℕ → ℕ
+keyPosition key = key / keyBase
 
 -- The first position of the component at place x.
 unfoldable pub firstAt : Tables → Kind → ℕ → ℕ
-firstAt t κ x = getD (t .keys κ) x 0 / 16384
+firstAt t κ x = keyPosition (getD (t .keys κ) x 0)
 
 -- A table's length, and the stated one.
 pub record Tray : Type 0 where
@@ -119,9 +131,13 @@ unfoldable pub lengthsFit : List Tray → Bool
 lengthsFit [] = true
 lengthsFit (t ∷ ts) = eqb (t .has) (t .states) && lengthsFit ts
 
--- The tables of blocks: six ticks and five numbers for each.
+-- The ticks of a block: one for each of its steps (`Stages`).
+abbrev pub ticksPerBlock : ℕ
+ticksPerBlock = 6
+
+-- The tables of blocks: ticks and numbers for each.
 unfoldable pub blockTrays : Told → Tables → List Tray
-blockTrays o t = tray (length (t .ticks)) (6 * blocks (o .cutting)) ∷ tray (length (t .blocks)) (5 * blocks (o .cutting)) ∷ []
+blockTrays o t = tray (length (t .ticks)) (ticksPerBlock * blocks (o .cutting)) ∷ tray (length (t .blocks)) (numbersPerBlock * blocks (o .cutting)) ∷ []
 
 -- The links of faces and curves: one for each entry.
 unfoldable pub linkTrays : Told → Tables → List Tray

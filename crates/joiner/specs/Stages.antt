@@ -10,7 +10,7 @@ use Rattle.closure.specs.Joined.{Edge, edge}
 use Rattle.cells.specs.Box.{Triple, Axis, X, Y, Z, coord, each, volume, index, place}
 use Rattle.cells.specs.Grid.{sides, cells, voxelCell}
 use Rattle.cutting.specs.Cutting.{Cutting, blocks, blockExtents, origin, embed, follows, seam}
-use Rattle.joiner.specs.Job.{Stage, Enrol, Seam, Crossing, Points, Closed}
+use Rattle.joiner.specs.Job.{Stage, Enrol, Seam, Crossing, Points, Closed, ticksPerBlock}
 
 -- The cell at a place of the volume is one of block b's, and its position there.
 unfoldable pub hasOn : Cutting → ℕ → Triple → Axis → Bool
@@ -38,9 +38,9 @@ shared k b c =
 unfoldable pub seams : Cutting → List Edge
 seams k = keep (λ d. seam k (d .from) (d .to)) (products (consecutive 0 (blocks k)) (consecutive 0 (blocks k)))
 
--- Steps have numbers, six for each block: its enrolment, its seams as the lower block along x, y, z, its crossing, its point step.
-unfoldable pub enrolStep : ℕ → ℕ
-enrolStep b = 6 * b
+-- Steps have numbers, `ticksPerBlock` for each block: its enrolment (0), its seams as the lower block along x, y, z (`seamAxis`), its crossing, its point step.
+abbrev pub enrolStep : ℕ → ℕ
+enrolStep b = ticksPerBlock * b
 
 -- The axis of the seam of b and c, as 1, 2 or 3.
 unfoldable pub seamAxis : Cutting → ℕ → ℕ → ℕ
@@ -48,15 +48,21 @@ seamAxis k b c = cond (follows k b c X) 1 (cond (follows k b c Y) 2 3)
 
 -- A seam is a step of its lower block.
 unfoldable pub seamStep : Cutting → Edge → ℕ
-seamStep k d = 6 * d .from + seamAxis k (d .from) (d .to)
+seamStep k d = ticksPerBlock * d .from + seamAxis k (d .from) (d .to)
 
 -- The crossing of block b.
-unfoldable pub crossingStep : ℕ → ℕ
-crossingStep b = 6 * b + 4
+abbrev pub crossingTick : ℕ
+crossingTick = 4
+
+abbrev pub crossingStep : ℕ → ℕ
+crossingStep b = ticksPerBlock * b + crossingTick
 
 -- The point step of block b.
-unfoldable pub pointStep : ℕ → ℕ
-pointStep b = 6 * b + 5
+abbrev pub pointTick : ℕ
+pointTick = 5
+
+abbrev pub pointStep : ℕ → ℕ
+pointStep b = ticksPerBlock * b + pointTick
 
 -- The steps of a stage: "each block once", "each seam once".
 unfoldable pub stepsOf : Cutting → Stage → List ℕ

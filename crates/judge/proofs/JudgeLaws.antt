@@ -16,8 +16,8 @@ use Rattle.cells.specs.Extents.{Sized, offSize}
 use Rattle.cells.specs.Grid.{cells}
 use Rattle.extents.proofs.SizeLaws.{sized-of}
 use Rattle.labels.specs.Components.{largest}
-use Rattle.cutting.specs.Cutting.{Cutting, intervals, blocks, blockExtents, goodCut}
-use Rattle.joiner.specs.Job.{Kind, Face, Curve, Point, Told, Tables, State, Tray, sameStage, countOf, fromOf, ticked, lengthsFit, blockTrays, linkTrays, foundTrays, numberTrays, firstTrays, listedTrays, kindTrays}
+use Rattle.cutting.specs.Cutting.{Cutting, blocks, blockExtents, goodCut, mostBlocks, FewBlocks}
+use Rattle.joiner.specs.Job.{Kind, Face, Curve, Point, Told, Tables, State, Tray, sameStage, countOf, fromOf, ticked, lengthsFit, blockTrays, linkTrays, foundTrays, numberTrays, firstTrays, listedTrays, kindTrays, numbersPerBlock}
 use Rattle.joiner.specs.Job as joiner
 use Rattle.joiner.specs.Stages.{nextAfter}
 use Rattle.joiner.specs.Calls.{Call, enrol, join, cross, point, look, reading, Answer, answer, stageOf, placed, repeated, mapsFit, layersDiffer, full, overfull}
@@ -198,10 +198,10 @@ module _ (j : Job) (cx cy cz : List ℕ) (s : joiner.Stage) where
 -- ---- a block of a good cut
 
 module _ (k : Cutting) (good : goodCut k ≡ true) where
-  pub few-of : intervals (k .cx) * intervals (k .cy) * intervals (k .cz) ≤ 16384
+  pub few-of : FewBlocks (k .cx) (k .cy) (k .cz)
   few-of = good-few k good
 
-  pub count-few : (count : ℕ) → count ≡ blocks k → count ≤ 16384
+  pub count-few : (count : ℕ) → count ≡ blocks k → count ≤ mostBlocks
   count-few count e = rw (e, blocks-are k) few-of
 
   pub block-sized : (b : ℕ) → b < blocks k → (r : Block) → Tells k b r → Sized 64 (sizeOf r)
@@ -229,12 +229,12 @@ map-stands-by e m d faces curves s r f a b c h = rw (← f, ← a, ← b, ← c)
 -- The joiner's test of a map, by the block table.
 pub stands-is : (s : State) (e : Triple) (b : ℕ) (m : List ℕ) → mapStands s e b m ≡ mapStandsIn e (entryOf (s .tables .blocks) b) (s .job .told .entries Face) (s .job .told .entries Curve) m
 unfolding mapStands counted standing countOf fromOf mapStandsIn standsBy entryOf
-stands-is s e b m = rw (let q : 5 * b + 0 ≡ 5 * b = omega arith in q)
+stands-is s e b m = rw (let q : numbersPerBlock * b + 0 ≡ numbersPerBlock * b = omega arith in q)
 
 -- .. and of its links.
 pub links-is : (s : State) (b : ℕ) → linksStand s b ≡ linksStandIn (entryOf (s .tables .blocks) b) (s .tables .links Face) (s .tables .links Curve)
 unfolding linksStand waysStand countOf fromOf linksStandIn entryOf
-links-is s b = rw (let q : 5 * b + 0 ≡ 5 * b = omega arith in q)
+links-is s b = rw (let q : numbersPerBlock * b + 0 ≡ numbersPerBlock * b = omega arith in q)
 
 -- .. and of a final number.
 pub number-is : (s : State) (κ : Kind) (x : ℕ) → numberStands s κ x ≡ numberStandsIn (s .tables .numbers κ) (s .job .numbered κ) x
@@ -438,11 +438,11 @@ module _ (j : Job) (cx cy cz ticks : List ℕ) (c : CallName) (z : Lengths) (b s
     begun : FirstTests (jobOf j cx cy cz) (stageFor c) × (b < blocks cut-as)
     begun = reached-passed (jobOf j cx cy cz) (stageFor c) ticks b step (sym first-is ∙ q)
 
-    pub begun-few : intervals cx * intervals cy * intervals cz ≤ 16384
+    pub begun-few : FewBlocks cx cy cz
     begun-few = few-of cut-as (begun .0 .good)
 
     module _ (r : Block) (T : anyExtents cx cy cz (λ k. Tells k b r)) (i : ℕ) (many : anyExtents cx cy cz (λ k. i ≡ blocks k)) where
-      pub begun-sized : (i ≤ 16384) × Sized 64 (sizeOf r)
+      pub begun-sized : (i ≤ mostBlocks) × Sized 64 (sizeOf r)
       begun-sized = (count-few cut-as (begun .0 .good) i (many (j .nx) (j .ny) (j .nz)), block-sized cut-as (begun .0 .good) b (begun .1) r (T (j .nx) (j .ny) (j .nz)))
 
       module _ (size : ℕ) (u : Bool) (h : u ≡ fitsIn c i (sizeOf r) (entriesOf j) z size) where

@@ -12,7 +12,7 @@ use Rattle.cells.specs.Extents.{offSize}
 use Rattle.cells.specs.Grid.{cells}
 use Rattle.labels.specs.Components.{largest}
 use Rattle.cutting.specs.Cutting.{blocks, blockExtents, goodCut}
-use Rattle.joiner.specs.Job.{Kind, Face, Curve, Point, Tables, State, Tray, tray, sameStage, ticked, lengthsFit}
+use Rattle.joiner.specs.Job.{Kind, Face, Curve, Point, Tables, State, Tray, tray, sameStage, ticked, lengthsFit, numbersPerBlock}
 use Rattle.joiner.specs.Job as joiner
 use Rattle.joiner.specs.Stages.{nextAfter}
 use Rattle.joiner.specs.Calls.{Call, enrol, join, cross, point, look, reading, stageOf, repeated, placed, mapsFit, layersDiffer, full}
@@ -128,11 +128,11 @@ fitsIn c count e n z size = eqb size (cells e) && lengthsFit (lentBy c count n z
 unfoldable pub entryOf : List ℕ → ℕ → Entry
 entryOf blocks b =
     record {
-      faces = getD blocks (5 * b) 0;
-      curves = getD blocks (5 * b + 1) 0;
-      points = getD blocks (5 * b + 2) 0;
-      «face_from» = getD blocks (5 * b + 3) 0;
-      «curve_from» = getD blocks (5 * b + 4) 0;
+      faces = getD blocks (numbersPerBlock * b) 0;
+      curves = getD blocks (numbersPerBlock * b + 1) 0;
+      points = getD blocks (numbersPerBlock * b + 2) 0;
+      «face_from» = getD blocks (numbersPerBlock * b + 3) 0;
+      «curve_from» = getD blocks (numbersPerBlock * b + 4) 0;
     }
 
 -- 8 denies it, by what a survey and the block table tell.

@@ -16,6 +16,7 @@ use job::link_trays;
 use job::row_tray;
 use job::same_stage;
 use job::tallies_fit;
+use joiner::NUMBERS_PER_BLOCK;
 use pass_survey::Survey;
 use pass_survey::survey_map;
 use refusals::BAD_CUT;
@@ -34,6 +35,7 @@ ghost use lib.Dec.{eqb, leb};
 ghost use lib.ListN.{getD, length};
 ghost use Rattle.cells.specs.Extents.{Sized};
 ghost use Rattle.cells.specs.Grid.{cells};
+ghost use Rattle.cutting.specs.Cutting.{mostBlocks};
 ghost use Rattle.blocks.specs.Blocks.{sizeOf};
 ghost use Rattle.joiner.specs.Job.{Face, Curve, Point, lengthsFit};
 ghost use Rattle.job.specs.Jobs.{anyCuts, stageOf, jobOf};
@@ -182,7 +184,7 @@ fn points_fit(job: Job, z: Lengths) -> bool
 
 // Whether the tables that a call is lent have the stated lengths: those of a seam.
 fn seam_lent(count: usize, job: Job, z: Lengths) -> bool
-    requires { ⌜ count ≤ 16384 ⌝ }
+    requires { ⌜ count ≤ mostBlocks ⌝ }
     ensures { λ r. ⌜ r ≡ lengthsFit (lentBy CallName.Seam count (entriesOf job) z) ⌝ }
 {
     both(
@@ -198,7 +200,7 @@ fn seam_lent(count: usize, job: Job, z: Lengths) -> bool
 
 // .. of an enrolment.
 fn enrol_lent(count: usize, job: Job, z: Lengths) -> bool
-    requires { ⌜ count ≤ 16384 ⌝ }
+    requires { ⌜ count ≤ mostBlocks ⌝ }
     ensures { λ r. ⌜ r ≡ lengthsFit (lentBy CallName.Enrol count (entriesOf job) z) ⌝ }
 {
     both(
@@ -212,7 +214,7 @@ fn enrol_lent(count: usize, job: Job, z: Lengths) -> bool
 
 // .. of a crossing.
 fn crossing_lent(count: usize, job: Job, z: Lengths) -> bool
-    requires { ⌜ count ≤ 16384 ⌝ }
+    requires { ⌜ count ≤ mostBlocks ⌝ }
     ensures { λ r. ⌜ r ≡ lengthsFit (lentBy CallName.Crossing count (entriesOf job) z) ⌝ }
 {
     both(
@@ -223,7 +225,7 @@ fn crossing_lent(count: usize, job: Job, z: Lengths) -> bool
 
 // .. of a point step.
 fn points_lent(count: usize, job: Job, z: Lengths) -> bool
-    requires { ⌜ count ≤ 16384 ⌝ }
+    requires { ⌜ count ≤ mostBlocks ⌝ }
     ensures { λ r. ⌜ r ≡ lengthsFit (lentBy CallName.Points count (entriesOf job) z) ⌝ }
 {
     both(
@@ -237,7 +239,7 @@ fn points_lent(count: usize, job: Job, z: Lengths) -> bool
 
 // .. of a lookup.
 fn lookup_lent(count: usize, job: Job, z: Lengths) -> bool
-    requires { ⌜ count ≤ 16384 ⌝ }
+    requires { ⌜ count ≤ mostBlocks ⌝ }
     ensures { λ r. ⌜ r ≡ lengthsFit (lentBy CallName.Lookup count (entriesOf job) z) ⌝ }
 {
     both(
@@ -267,7 +269,7 @@ fn row_lent(count: usize, job: Job, z: Lengths) -> bool
 
 // .. of an opening, which is lent all.
 fn open_lent(count: usize, job: Job, z: Lengths) -> bool
-    requires { ⌜ count ≤ 16384 ⌝ }
+    requires { ⌜ count ≤ mostBlocks ⌝ }
     ensures { λ r. ⌜ r ≡ lengthsFit (lentBy CallName.Open count (entriesOf job) z) ⌝ }
 {
     both(crossing_lent(count, job, z), points_fit(job, z))
@@ -275,7 +277,7 @@ fn open_lent(count: usize, job: Job, z: Lengths) -> bool
 
 // .. of any call, of a job of so many blocks. Not an entry.
 pub fn lent_fits(call: CallName, count: usize, job: Job, z: Lengths) -> bool
-    requires { ⌜ count ≤ 16384 ⌝ }
+    requires { ⌜ count ≤ mostBlocks ⌝ }
     ensures { λ r. ⌜ r ≡ lengthsFit (lentBy call count (entriesOf job) z) ⌝ }
 {
     match call {
@@ -316,7 +318,7 @@ pub fn at(table: &[u32], i: usize) -> u32
 pub fn entry_of(table: &[u32], b: u32) -> Entry
     ensures { λ r. ⌜ r ≡ entryOf (now (table .entry)) b ⌝ }
 {
-    let i = 5 * b as usize;
+    let i = NUMBERS_PER_BLOCK * b as usize;
     Entry {
         faces: at(table, i),
         curves: at(table, i + 1),
@@ -410,7 +412,7 @@ fn stage_of(call: CallName) -> Stage
 
 // 6: whether the map of so many cells and the tables have the stated lengths. Not an entry.
 pub fn fits(call: CallName, count: usize, block: Block, job: Job, z: Lengths, length: usize) -> bool
-    requires { ⌜ (count ≤ 16384) × Sized 64 (sizeOf block) ⌝ }
+    requires { ⌜ (count ≤ mostBlocks) × Sized 64 (sizeOf block) ⌝ }
     ensures { λ r. ⌜ r ≡ fitsIn call count (sizeOf block) (entriesOf job) z length ⌝ }
 {
     if !map_fits(block, length) {

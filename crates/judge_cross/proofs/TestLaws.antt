@@ -3,15 +3,15 @@
 use mathlib.Core.Path.{_≡_, refl, sym, ap, _∙_}
 use mathlib.Core.Bool.{Bool, true, false, not, cond, _&&_, _||_}
 use mathlib.Core.List.{List, [], _∷_, map}
-use Prim.Native.Nat.{ℕ, _+_, _*_, _≤_}
+use Prim.Native.Nat.{ℕ, _≤_}
 use lib.Dec.{eqb}
 use lib.ListN.{length}
 use borrow.Author.Tests.{eq-eqb, ne-eqb}
 use Rattle.lists.specs.Lists.{consecutive, allOf}
-use Rattle.cutting.specs.Cutting.{Cutting, intervals, blocks, blockExtents}
+use Rattle.cutting.specs.Cutting.{Cutting, blocks, blockExtents, mostBlocks, FewBlocks}
 use Rattle.joiner.specs.Job.{Kind, Face, Curve, State, ticked}
 use Rattle.joiner.specs.Job as joiner
-use Rattle.joiner.specs.Stages.{crossingStep, finished, stepsOf}
+use Rattle.joiner.specs.Stages.{finished, stepsOf, crossingStep}
 use Rattle.joiner.specs.Calls.{cross}
 use Rattle.joiner.specs.Declines.{adds, allLinksStand, lastCrossing, linksStand, refusal, rowsStand}
 use Rattle.job.specs.declared.Job.{Job}
@@ -26,18 +26,18 @@ use Rattle.judge_cross.specs.Tests.{crossedBut, lastIn, rowsIn, allReady
 
 -- ---- the last crossing
 
-module _ (ticks : List ℕ) (b x r : ℕ) (e : r ≡ 6 * b + 4) where
-  pub crossed-here : r ≡ 6 * x + 4 → true ≡ crossedBut ticks b x
+module _ (ticks : List ℕ) (b x r : ℕ) (e : r ≡ crossingStep b) where
+  pub crossed-here : r ≡ crossingStep x → true ≡ crossedBut ticks b x
   unfolding crossedBut
-  crossed-here q = rw (eq-eqb (6 * b + 4) (6 * x + 4) (sym e ∙ q))
+  crossed-here q = rw (eq-eqb (crossingStep b) (crossingStep x) (sym e ∙ q))
 
-  pub crossed-else : (r ≡ 6 * x + 4 → ⊥) → (u : Bool) → u ≡ tickedIn ticks (6 * x + 4) → u ≡ crossedBut ticks b x
+  pub crossed-else : (r ≡ crossingStep x → ⊥) → (u : Bool) → u ≡ tickedIn ticks (crossingStep x) → u ≡ crossedBut ticks b x
   unfolding crossedBut
-  crossed-else q u h = rw (ne-eqb (6 * b + 4) (6 * x + 4) (λ p. q (e ∙ p))) h
+  crossed-else q u h = rw (ne-eqb (crossingStep b) (crossingStep x) (λ p. q (e ∙ p))) h
 
 -- ---- the ways of `judge_crossing`
 
-module _ (j : Job) (cx cy cz ticks : List ℕ) (z : Lengths) (table rows fl cl : List ℕ) (b : ℕ) (m : List ℕ) (step r : ℕ) (f : step ≡ 6 * b + 4)
+module _ (j : Job) (cx cy cz ticks : List ℕ) (z : Lengths) (table rows fl cl : List ℕ) (b : ℕ) (m : List ℕ) (step r : ℕ) (f : step ≡ crossingStep b)
     (e : r ≡ judgedOf (jobOf j cx cy cz) ticks table CallName.Crossing z b step m) where
   abbrev Refuses : ℕ → Type 0
   Refuses x = x ≡ refusalOf (jobOf j cx cy cz) ticks z table rows fl cl b m
@@ -48,12 +48,12 @@ module _ (j : Job) (cx cy cz ticks : List ℕ) (z : Lengths) (table rows fl cl :
 
   module _ (q : r ≡ 0) where
     -- what `block_count` requires
-    pub cross-few : intervals cx * intervals cy * intervals cz ≤ 16384
+    pub cross-few : FewBlocks cx cy cz
     cross-few = few-of (toldOf j cx cy cz .cutting) (judged-passed (jobOf j cx cy cz) ticks CallName.Crossing z b step table m (sym e ∙ q) .first .good)
 
     module _ (i : ℕ) (many : i ≡ blocks (toldOf j cx cy cz .cutting)) where
       -- .. and `own_stands`
-      pub cross-count : i ≤ 16384
+      pub cross-count : i ≤ mostBlocks
       cross-count = count-few (toldOf j cx cy cz .cutting) (judged-passed (jobOf j cx cy cz) ticks CallName.Crossing z b step table m (sym e ∙ q) .first .good) i many
 
       module _ (d : Entry) (g : d ≡ entryOf table b) (u : Bool) (h : u ≡ ownStands ticks b i d rows (j .«face_entries») (j .faces) (j .curves) fl cl) where
@@ -79,8 +79,8 @@ module _ (s : State) (b : ℕ) (m : List ℕ) where
   k = s .job .told .cutting
 
   last-is : lastCrossing s b ≡ lastIn (s .tables .ticks) b (blocks k)
-  unfolding lastCrossing finished stepsOf crossingStep ticked tickedIn lastIn crossedBut
-  last-is = all-map (λ i. eqb (6 * b + 4) i || ticked (s .tables) i) (λ x. 6 * x + 4) (consecutive 0 (blocks k))
+  unfolding lastCrossing finished stepsOf ticked tickedIn lastIn crossedBut
+  last-is = all-map (λ i. eqb (crossingStep b) i || ticked (s .tables) i) (λ x. crossingStep x) (consecutive 0 (blocks k))
 
   all-is : cond (lastCrossing s b) (rowsStand s && allLinksStand s) true ≡ numberable (s .tables .ticks) b (blocks k) (s .tables .rows Curve) (s .job .told .entries Face) (s .job .sofar Face) (s .job .sofar Curve) (s .tables .links Face) (s .tables .links Curve)
   unfolding numberable allReady rowsStand rowsIn allLinksStand
@@ -100,7 +100,7 @@ module _ (s : State) (b : ℕ) (m : List ℕ) where
   own-is = rw (links-is s b, all-is)
 
   pub refusal-is : refusal s (cross b m) ≡ refusalOf (s .job) (s .tables .ticks) (lengthsOf (s .tables)) (s .tables .blocks) (s .tables .rows Curve) (s .tables .links Face) (s .tables .links Curve) b m
-  unfolding refusalOf ticked tickedIn crossingStep
+  unfolding refusalOf ticked tickedIn
   refusal-is =
-      refusal-judged s (cross b m) refl b m refl (6 * b + 4) refl refl (linksStand s b && cond (lastCrossing s b) (rowsStand s && allLinksStand s) true) refl ∙
-      rest-none s (cross b m) none-added b (6 * b + 4) m (linksStand s b && cond (lastCrossing s b) (rowsStand s && allLinksStand s) true) false ∙ rw own-is
+      refusal-judged s (cross b m) refl b m refl (crossingStep b) refl refl (linksStand s b && cond (lastCrossing s b) (rowsStand s && allLinksStand s) true) refl ∙
+      rest-none s (cross b m) none-added b (crossingStep b) m (linksStand s b && cond (lastCrossing s b) (rowsStand s && allLinksStand s) true) false ∙ rw own-is

@@ -2,7 +2,7 @@
 -- Assumes nothing.
 use mathlib.Core.Bool.{Bool, true, not, cond, _&&_, _||_}
 use mathlib.Core.List.{List}
-use Prim.Native.Nat.{ℕ, _+_, _*_}
+use Prim.Native.Nat.{ℕ, _*_}
 use lib.Dec.{eqb, leb}
 use lib.ListN.{getD}
 use Rattle.lists.specs.Lists.{consecutive, allOf}
@@ -10,6 +10,7 @@ use Rattle.union_find.specs.Links.{soundBelow}
 use Rattle.cutting.specs.Cutting.{blocks}
 use Rattle.joiner.specs.Job.{Face, Curve}
 use Rattle.joiner.specs.Job as joiner
+use Rattle.joiner.specs.Stages.{crossingStep}
 use Rattle.stages.specs.Ticks.{tickedIn}
 use Rattle.judge.specs.declared.CallName.{CallName}
 use Rattle.judge.specs.declared.Lengths.{Lengths}
@@ -18,7 +19,7 @@ use Rattle.judge.specs.Judge.{firstRefusal, judgedOf, entryOf, linksStandIn}
 
 -- Block x is crossed, or is b.
 unfoldable pub crossedBut : List ℕ → ℕ → ℕ → Bool
-crossedBut ticks b x = eqb (6 * b + 4) (6 * x + 4) || tickedIn ticks (6 * x + 4)
+crossedBut ticks b x = eqb (crossingStep b) (crossingStep x) || tickedIn ticks (crossingStep x)
 
 -- With block b all of so many are crossed: the joiner's `lastCrossing`.
 unfoldable pub lastIn : List ℕ → ℕ → ℕ → Bool
@@ -43,5 +44,5 @@ ownStands ticks b count d rows entries faces curves fl cl = linksStandIn d fl cl
 -- The refusal, 0 for none: the joiner's `refusal`. 9 and 10 cannot stand.
 unfoldable pub refusalOf : joiner.Job → List ℕ → Lengths → List ℕ → List ℕ → List ℕ → List ℕ → ℕ → List ℕ → ℕ
 refusalOf j ticks z table rows fl cl b m =
-    firstRefusal (judgedOf j ticks table CallName.Crossing z b (6 * b + 4) m)
+    firstRefusal (judgedOf j ticks table CallName.Crossing z b (crossingStep b) m)
     (cond (not (ownStands ticks b (blocks (j .told .cutting)) (entryOf table b) rows (j .told .entries Face) (j .sofar Face) (j .sofar Curve) fl cl)) 8 0)

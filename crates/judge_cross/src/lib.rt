@@ -1,6 +1,8 @@
 // The tests of a crossing step: the judge's, then the links of the block's faces and curves, and with the last block all links and rows.
 use blocks::block_count;
 use job::Job;
+use joiner::CROSSING_TICK;
+use joiner::TICKS_PER_BLOCK;
 use judge::CallName;
 use judge::Entry;
 use judge::Lengths;
@@ -15,22 +17,24 @@ ghost use mathlib.Core.Path.{_≡_};
 ghost use Prim.Native.Nat.{_+_, _*_, _≤_, _<_};
 ghost use lib.Dec.{leb};
 ghost use lib.ListN.{getD};
+ghost use Rattle.cutting.specs.Cutting.{mostBlocks};
+ghost use Rattle.joiner.specs.Stages.{crossingStep};
 ghost use Rattle.job.specs.Jobs.{jobOf};
 ghost use Rattle.judge_cross.specs.Tests.{crossedBut, lastIn, rowsIn, allReady, numberable, ownStands, refusalOf};
 
 // The number of a crossing's step.
 pub fn step_of(b: u32) -> usize
-    ensures { λ r. ⌜ r ≡ 6 * b + 4 ⌝ }
+    ensures { λ r. ⌜ r ≡ crossingStep b ⌝ }
 {
-    6 * b as usize + 4
+    TICKS_PER_BLOCK * b as usize + CROSSING_TICK
 }
 
 // Whether block x is crossed, or is b.
 fn crossed_but(ticks: &[u32], b: u32, x: usize) -> bool
-    requires { ⌜ x < 16384 ⌝ }
+    requires { ⌜ x < mostBlocks ⌝ }
     ensures { λ r. ⌜ r ≡ crossedBut (now (ticks .entry)) b x ⌝ }
 {
-    let step = 6 * x + 4;
+    let step = TICKS_PER_BLOCK * x + CROSSING_TICK;
     if step_of(b) == step {
         return true;
     }
@@ -39,7 +43,7 @@ fn crossed_but(ticks: &[u32], b: u32, x: usize) -> bool
 
 // Whether with block b all blocks are crossed.
 fn last_crossing(ticks: &[u32], b: u32, blocks: usize) -> bool
-    requires { ⌜ blocks ≤ 16384 ⌝ }
+    requires { ⌜ blocks ≤ mostBlocks ⌝ }
     ensures { λ r. ⌜ r ≡ lastIn (now (ticks .entry)) b blocks ⌝ }
 {
     for x in 0..blocks {
@@ -99,7 +103,7 @@ fn rows_ready(
     face_links: &[u32],
     curve_links: &[u32],
 ) -> bool
-    requires { ⌜ blocks ≤ 16384 ⌝ }
+    requires { ⌜ blocks ≤ mostBlocks ⌝ }
     ensures { λ r. ⌜ r ≡ numberable (now (ticks .entry)) b blocks (now (rows .entry)) (job .«face_entries») (job .faces) (job .curves) (now («face_links» .entry)) (now («curve_links» .entry)) ⌝ }
 {
     if last_crossing(ticks, b, blocks) {
@@ -126,7 +130,7 @@ fn own_stands(
     face_links: &[u32],
     curve_links: &[u32],
 ) -> bool
-    requires { ⌜ blocks ≤ 16384 ⌝ }
+    requires { ⌜ blocks ≤ mostBlocks ⌝ }
     ensures { λ r. ⌜ r ≡ ownStands (now (ticks .entry)) b blocks entry (now (rows .entry)) (job .«face_entries») (job .faces) (job .curves) (now («face_links» .entry)) (now («curve_links» .entry)) ⌝ }
 {
     if !links_stand(face_links, curve_links, entry) {

@@ -69,9 +69,9 @@ module _ (j : Job) (f : Bool) (faces curves : ℕ) (t : Bool) (e : anyCuts (λ c
 -- ---- the ways of `judge_enrolment`
 
 module _ (j : Job) (cx cy cz ticks : List ℕ) (z : Lengths) (b : ℕ) (m : List ℕ) (n : ℕ)
-    (e : n ≡ lengthsJudged (jobOf j cx cy cz) ticks CallName.Enrol z b (6 * b) (length m)) where
+    (e : n ≡ lengthsJudged (jobOf j cx cy cz) ticks CallName.Enrol z b (enrolStep b) (length m)) where
   pub plan-early : (n ≡ 0 → ⊥) → Judged (jobOf j cx cy cz) ticks z b m (record { refusal = n; faces = 0; curves = 0; points = 0 })
-  unfolding refusalOf enrolStep
+  unfolding refusalOf
   plan-early q = record { told = rw (← e) (or-first n _ q); plan = λ h. absurd (q h) }
 
   module _ (q : n ≡ 0) (r : Block) (T : anyExtents cx cy cz (λ k. Tells k b r)) where
@@ -81,13 +81,13 @@ module _ (j : Job) (cx cy cz ticks : List ℕ) (z : Lengths) (b : ℕ) (m : List
     -- what `survey_map` requires
     pub plan-map : Sized 64 (sizeOf r) × (length m ≡ cells (sizeOf r))
     plan-map =
-        let p = lengths-passed (jobOf j cx cy cz) ticks CallName.Enrol z b (6 * b) (length m) (sym e ∙ q) in
+        let p = lengths-passed (jobOf j cx cy cz) ticks CallName.Enrol z b (enrolStep b) (length m) (sym e ∙ q) in
         (block-sized (toldOf j cx cy cz .cutting) (p .0 .good) b (p .1) r told-here, p .2 ∙ ap cells (sym (told-here .size)))
 
     pub plan-late : (s : Survey) → s .filled ≡ filled (sizeOf r) m → s .faces ≡ largest (sizeOf r) m 2 → s .curves ≡ largest (sizeOf r) m 1 → s .points ≡ largest (sizeOf r) m 0
         → (l : ℕ) → anyCuts (λ cx cy cz. l ≡ lateOf (jobOf j cx cy cz) (s .filled) (byKind (s .faces) (s .curves) 0))
         → Judged (jobOf j cx cy cz) ticks z b m (record { refusal = l; faces = s .faces; curves = s .curves; points = s .points })
-    unfolding refusalOf enrolStep
+    unfolding refusalOf
     plan-late s f x y w l i =
         let x′ = x ∙ ap (λ (v : Triple). largest v m 2) (told-here .size) in
         let y′ = y ∙ ap (λ (v : Triple). largest v m 1) (told-here .size) in

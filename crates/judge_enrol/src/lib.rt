@@ -2,6 +2,7 @@
 use blocks::block_at;
 use job::Job;
 use job::tallies_fit;
+use joiner::TICKS_PER_BLOCK;
 use judge::CallName;
 use judge::KindLengths;
 use judge::Lengths;
@@ -72,7 +73,7 @@ pub fn judge_enrolment(
 ) -> Plan
     ensures { λ r. ⌜ Judged (jobOf job (now (cx .entry)) (now (cy .entry)) (now (cz .entry))) (now (ticks .entry)) lengths b (now (m .entry)) r ⌝ }
 {
-    let step = 6 * (b as usize);
+    let step = TICKS_PER_BLOCK * (b as usize);
     let number = judge_lengths(
         job,
         cx,

@@ -3,7 +3,7 @@
 use mathlib.Core.Path.{_≡_, refl, sym, ap, _∙_}
 use mathlib.Core.Bool.{Bool, true, false, not, cond}
 use mathlib.Core.List.{List}
-use Prim.Native.Nat.{ℕ, _+_, _*_, _≤_, _<_}
+use Prim.Native.Nat.{ℕ, _+_, _≤_, _<_}
 use native.Mathlib.Omega.{arith}
 use lib.Dec.{ltb}
 use lib.ListN.{length}
@@ -58,7 +58,7 @@ module _ (j : Job) (e : Triple) (d : Entry) (curves m : List ℕ) (u : Bool) (i 
 -- ---- the ways of `judge_points`
 
 module _ (j : Job) (cx cy cz ticks : List ℕ) (z : Lengths) (table curves : List ℕ) (b : ℕ) (m : List ℕ) (n : ℕ)
-    (e : n ≡ judgedOf (jobOf j cx cy cz) ticks table CallName.Points z b (6 * b + 5) m) where
+    (e : n ≡ judgedOf (jobOf j cx cy cz) ticks table CallName.Points z b (pointStep b) m) where
   abbrev k : Cutting
   k = toldOf j cx cy cz .cutting
 
@@ -73,7 +73,7 @@ module _ (j : Job) (cx cy cz ticks : List ℕ) (z : Lengths) (table curves : Lis
     -- what `late` requires
     pub points-map : Sized 64 (sizeOf r) × (length m ≡ cells (sizeOf r))
     points-map =
-        let p = judged-passed (jobOf j cx cy cz) ticks CallName.Points z b (6 * b + 5) table m (sym e ∙ q) in
+        let p = judged-passed (jobOf j cx cy cz) ticks CallName.Points z b (pointStep b) table m (sym e ∙ q) in
         let t : Tells k b r = T (j .nx) (j .ny) (j .nz) in
         (block-sized k (p .first .good) b (p .there) r t, p .whole ∙ ap cells (sym (t .size)))
 
@@ -84,7 +84,7 @@ module _ (j : Job) (cx cy cz ticks : List ℕ) (z : Lengths) (table curves : Lis
         let l = rw (f, T (j .nx) (j .ny) (j .nz) .size) at (L cx cy cz) in
         record {
           told = rw (← e) (or-then n _ (p .refusal) q (l .told));
-          counted = λ y. l .counted (or-none (judgedOf (jobOf j cx cy cz) ticks table CallName.Points z b (6 * b + 5) m) _ y .1);
+          counted = λ y. l .counted (or-none (judgedOf (jobOf j cx cy cz) ticks table CallName.Points z b (pointStep b) m) _ y .1);
         }
 
 -- ---- the tests are the joiner's
@@ -119,5 +119,5 @@ module _ (s : State) (b : ℕ) (m : List ℕ) where
   late-is t = rw (← curves-is, found-is, full-points s b m t)
 
   pub refusal-is : refusal s (point b m) ≡ refusalOf (s .job) (s .tables .ticks) (lengthsOf (s .tables)) (s .tables .blocks) (s .tables .numbers Curve) b m
-  unfolding refusalOf ticked tickedIn pointStep
-  refusal-is = refusal-judged s (point b m) refl b m refl (6 * b + 5) refl refl (curvesStand s b) refl ∙ judged-same s (point b m) b (6 * b + 5) m _ _ late-is
+  unfolding refusalOf ticked tickedIn
+  refusal-is = refusal-judged s (point b m) refl b m refl (pointStep b) refl refl (curvesStand s b) refl ∙ judged-same s (point b m) b (pointStep b) m _ _ late-is

@@ -3,7 +3,7 @@
 use mathlib.Core.Path.{_≡_}
 use mathlib.Core.Bool.{Bool, not, cond}
 use mathlib.Core.List.{List}
-use Prim.Native.Nat.{ℕ, _+_, _*_}
+use Prim.Native.Nat.{ℕ, _+_}
 use lib.Dec.{ltb}
 use lib.ListN.{length}
 use Rattle.lists.specs.Lists.{consecutive, allOf}
@@ -11,6 +11,7 @@ use Rattle.cells.specs.Box.{Triple}
 use Rattle.cutting.specs.Cutting.{Cutting, blockExtents}
 use Rattle.joiner.specs.Job.{Curve, Point}
 use Rattle.joiner.specs.Job as joiner
+use Rattle.joiner.specs.Stages.{pointStep}
 use Rattle.pass_point.specs.Findings.{foundCells}
 use Rattle.judge.specs.declared.CallName.{CallName}
 use Rattle.judge.specs.declared.Lengths.{Lengths}
@@ -38,7 +39,7 @@ foundOf k table curves b m = foundBy (blockExtents k b) (entryOf table b) curves
 -- The refusal, 0 for none: the joiner's `refusal`.
 unfoldable pub refusalOf : joiner.Job → List ℕ → Lengths → List ℕ → List ℕ → ℕ → List ℕ → ℕ
 refusalOf j ticks z table curves b m =
-    firstRefusal (judgedOf j ticks table CallName.Points z b (6 * b + 5) m) (lateOf j (blockExtents (j .told .cutting) b) (entryOf table b) curves m)
+    firstRefusal (judgedOf j ticks table CallName.Points z b (pointStep b) m) (lateOf j (blockExtents (j .told .cutting) b) (entryOf table b) curves m)
 
 -- A plan tells the refusal, and where it is 0 the points.
 pub record Plans (number found : ℕ) (r : Plan) : Type 0 where

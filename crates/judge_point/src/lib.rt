@@ -2,6 +2,8 @@
 use blocks::Block;
 use blocks::block_at;
 use job::Job;
+use joiner::POINT_TICK;
+use joiner::TICKS_PER_BLOCK;
 use judge::CallName;
 use judge::Entry;
 use judge::Lengths;
@@ -86,7 +88,7 @@ pub fn judge_points(
     ensures { λ r. ⌜ Plans (refusalOf (jobOf job (now (cx .entry)) (now (cy .entry)) (now (cz .entry))) (now (ticks .entry)) lengths (now (table .entry)) (now (curves .entry)) b (now (m .entry)))
         (foundOf (toldOf job (now (cx .entry)) (now (cy .entry)) (now (cz .entry)) .cutting) (now (table .entry)) (now (curves .entry)) b (now (m .entry))) r ⌝ }
 {
-    let step = 6 * b as usize + 5;
+    let step = TICKS_PER_BLOCK * b as usize + POINT_TICK;
     let number = judge(
         job,
         cx,

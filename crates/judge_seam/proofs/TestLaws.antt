@@ -12,7 +12,7 @@ use Rattle.cells.specs.Box.{Triple}
 use Rattle.cells.specs.Extents.{Sized}
 use Rattle.cells.specs.Grid.{cells}
 use Rattle.cutting.specs.Cutting.{Cutting, blocks, blockExtents, goodCut, seam}
-use Rattle.joiner.specs.Job.{Kind, Seam, State, ticked, lengthsFit}
+use Rattle.joiner.specs.Job.{Kind, Seam, State, ticked, lengthsFit, ticksPerBlock}
 use Rattle.joiner.specs.Stages.{seamAxis, seamStep}
 use Rattle.joiner.specs.Calls.{Call, join, layersDiffer}
 use Rattle.joiner.specs.Declines.{adds, refusal, talliesFit}
@@ -172,8 +172,8 @@ module _ (j : Job) (cx cy cz ticks table faces curves : List ℕ) (b c : ℕ) (m
       unfolding placedOf
       seam-4 p = rw (refusal-opened before call refl, ← e, sym is-seam ∙ not-true t p) (or-then r _ 4 q refl)
 
-      module _ (p : not t ≡ false) (axis : ℕ) (i : anyExtents cx cy cz (λ k. axis ≡ seamAxis k b c)) (step : ℕ) (f : step ≡ 6 * b + axis) (u : Bool) (g : u ≡ tickedIn ticks step) where
-        is-done : u ≡ ticked (before .tables) (6 * b + seamAxis k b c)
+      module _ (p : not t ≡ false) (axis : ℕ) (i : anyExtents cx cy cz (λ k. axis ≡ seamAxis k b c)) (step : ℕ) (f : step ≡ ticksPerBlock * b + axis) (u : Bool) (g : u ≡ tickedIn ticks step) where
+        is-done : u ≡ ticked (before .tables) (ticksPerBlock * b + seamAxis k b c)
         unfolding ticked tickedIn
         is-done = rw (← i (j .nx) (j .ny) (j .nz), ← f) g
 

@@ -6,6 +6,7 @@ use blocks::is_seam;
 use blocks::seam_axis;
 use job::Job;
 use job::Stage;
+use joiner::TICKS_PER_BLOCK;
 use judge::CallName;
 use judge::Entry;
 use judge::KindLengths;
@@ -33,7 +34,8 @@ ghost use Prim.Native.Nat.{_+_, _*_, _≤_};
 ghost use lib.ListN.{length};
 ghost use Rattle.cells.specs.Extents.{Sized};
 ghost use Rattle.cells.specs.Grid.{cells};
-ghost use Rattle.cutting.specs.Cutting.{goodCut, seam};
+ghost use Rattle.cutting.specs.Cutting.{goodCut, seam, mostBlocks};
+ghost use Rattle.joiner.specs.Job.{ticksPerBlock};
 ghost use Rattle.joiner.specs.Stages.{seamAxis};
 ghost use Rattle.joiner.specs.Calls.{join, layersDiffer};
 ghost use Rattle.joiner.specs.Declines.{refusal};
@@ -52,9 +54,9 @@ pub struct Shared {
 
 // The number of a seam's step.
 pub fn step_of(lower: u32, axis: u32) -> usize
-    ensures { λ r. ⌜ r ≡ 6 * lower + axis ⌝ }
+    ensures { λ r. ⌜ r ≡ ticksPerBlock * lower + axis ⌝ }
 {
-    6 * lower as usize + axis as usize
+    TICKS_PER_BLOCK * lower as usize + axis as usize
 }
 
 // 6: whether maps and tables have the stated lengths.
@@ -70,7 +72,7 @@ fn trays_fit(
     m: &[u32],
     n: &[u32],
 ) -> bool
-    requires { ⌜ (count ≤ 16384) × Sized 64 (sizeOf low) × Sized 64 (sizeOf high) ⌝ }
+    requires { ⌜ (count ≤ mostBlocks) × Sized 64 (sizeOf low) × Sized 64 (sizeOf high) ⌝ }
     ensures { λ r. ⌜ r ≡ fitsBoth count (sizeOf low) (sizeOf high) (entriesOf job)
         (lengthsOf (lent (now (ticks .entry)) (now (table .entry)) (now («face_links» .entry)) (now («curve_links» .entry))))
         (length (now (m .entry))) (length (now (n .entry))) ⌝ }

@@ -13,8 +13,8 @@ use Rattle.lists.proofs.Cases.{and-first, and-second}
 use Rattle.cells.specs.Box.{Triple, triple, volume}
 use Rattle.cells.specs.Extents.{Sized, offSize}
 use Rattle.cells.specs.Grid.{cells}
-use Rattle.cutting.specs.Cutting.{Cutting, intervals, blocks, blockExtents, goodCut}
-use Rattle.joiner.specs.Job.{Face, Closed, tray, lengthsFit, Tables, State, sameStage, countOf, fromOf, numberTrays}
+use Rattle.cutting.specs.Cutting.{Cutting, blocks, blockExtents, goodCut, mostBlocks, FewBlocks}
+use Rattle.joiner.specs.Job.{Face, Closed, tray, lengthsFit, Tables, State, sameStage, countOf, fromOf, numberTrays, numbersPerBlock}
 use Rattle.joiner.specs.Declines.{talliesFit, mapStands, numberStands}
 use Rattle.joiner.proofs.Passed.{fits-at, numbered-fits}
 use Rattle.blocks.specs.Blocks.{Tells, sizeOf, anyExtents}
@@ -59,7 +59,7 @@ whole-of count e faces z h =
     let lent = totalLengths count faces (z .came) (z .sums) (z .counts) in
     let l = and-first (listsIn e (z .cells) (z .values) (z .kinds)) _ h in
     let r = and-second (eqb (z .cells) (cells e)) _ l in
-    let s = and-second (lengthsFit (tray (z .blocks) (5 * count) ∷ [])) (lengthsFit (tray (z .numbers) faces ∷ []) && lengthsFit lent) (and-second (listsIn e (z .cells) (z .values) (z .kinds)) _ h) in
+    let s = and-second (lengthsFit (tray (z .blocks) (numbersPerBlock * count) ∷ [])) (lengthsFit (tray (z .numbers) faces ∷ []) && lengthsFit lent) (and-second (listsIn e (z .cells) (z .values) (z .kinds)) _ h) in
     let u = and-second (lengthsFit (tray (z .numbers) faces ∷ [])) (lengthsFit lent) s in (
       eqb-true _ _ (and-first (eqb (z .cells) (cells e)) _ l),
       eqb-true _ _ (and-first (eqb (z .values) (volume e)) _ r),
@@ -151,12 +151,12 @@ module _ (j : Job) (cx cy cz came : List ℕ) (b n : ℕ) (e : n ≡ reachedOf (
   passed = reached-passed (jobOf j cx cy cz) Closed came b b (sym e ∙ q)
 
   -- what `block_count` requires
-  pub judge-few : intervals cx * intervals cy * intervals cz ≤ 16384
+  pub judge-few : FewBlocks cx cy cz
   judge-few = few-of cut-as (passed .0 .good)
 
   module _ (r : Block) (T : anyExtents cx cy cz (λ k. Tells k b r)) (i : ℕ) (c : anyExtents cx cy cz (λ k. i ≡ blocks k)) where
     -- .. and `trays_fit`
-    pub judge-sized : (i ≤ 16384) × Sized 64 (sizeOf r)
+    pub judge-sized : (i ≤ mostBlocks) × Sized 64 (sizeOf r)
     judge-sized = (count-few cut-as (passed .0 .good) i (c (j .nx) (j .ny) (j .nz)), block-sized cut-as (passed .0 .good) b (passed .1) r (T (j .nx) (j .ny) (j .nz)))
 
     -- .. and `late`
@@ -236,13 +236,13 @@ module _ (j : Job) (cx cy cz came : List ℕ) (sums : List Float) (counts : List
   trays-is =
       let o = before .job .told in
       ap (λ (x : Bool). listsFit cut-of (strain b m values kinds) && x)
-      (fits-append (tray (length (t .blocks)) (5 * blocks cut-of) ∷ []) (numberTrays o t Face ++ totalTrays o w) ∙
-      ap (λ (x : Bool). lengthsFit (tray (length (t .blocks)) (5 * blocks cut-of) ∷ []) && x) (fits-append (numberTrays o t Face) (totalTrays o w)))
+      (fits-append (tray (length (t .blocks)) (numbersPerBlock * blocks cut-of) ∷ []) (numberTrays o t Face ++ totalTrays o w) ∙
+      ap (λ (x : Bool). lengthsFit (tray (length (t .blocks)) (numbersPerBlock * blocks cut-of) ∷ []) && x) (fits-append (numberTrays o t Face) (totalTrays o w)))
 
   faces-is : facesStand before w b
       ≡ facesIn (t .numbers Face) (j .«numbered_faces») (cells (cut-of .extents)) sums counts (entryOf (t .blocks) b .«face_from») (entryOf (t .blocks) b .faces)
   unfolding facesStand faceStands totalStands facesIn faceIn numberStands numberStandsIn fromOf countOf entryOf
-  faces-is = rw (let q : 5 * b + 0 ≡ 5 * b = omega arith in q)
+  faces-is = rw (let q : numbersPerBlock * b + 0 ≡ numbersPerBlock * b = omega arith in q)
 
   stand-is : (talliesFit (before .job) && (mapStands before (blockExtents cut-of b) b m && facesStand before w b))
       ≡ standIn (jobOf j cx cy cz) (blockExtents cut-of b) (entryOf (t .blocks) b) (t .numbers Face) sums counts m

@@ -10,7 +10,7 @@ use Rattle.lists.specs.Lists.{consecutive, allOf}
 use Rattle.cells.specs.Box.{Triple, volume}
 use Rattle.cells.specs.Grid.{cells}
 use Rattle.cutting.specs.Cutting.{Cutting, blocks, blockExtents}
-use Rattle.joiner.specs.Job.{Face, Curve, Closed, Job, tray, lengthsFit}
+use Rattle.joiner.specs.Job.{Face, Curve, Closed, Job, tray, lengthsFit, numbersPerBlock}
 use Rattle.joiner.specs.Declines.{talliesFit}
 use Rattle.job.specs.Jobs.{totalLengths}
 use Rattle.judge.specs.declared.Entry.{Entry}
@@ -41,7 +41,7 @@ listsIn e n values kinds = eqb n (cells e) && (eqb values (volume e) && eqb kind
 unfoldable pub traysFit : ℕ → Triple → ℕ → Sizes → Bool
 traysFit count e faces z =
     listsIn e (z .cells) (z .values) (z .kinds) &&
-    (lengthsFit (tray (z .blocks) (5 * count) ∷ []) && (lengthsFit (tray (z .numbers) faces ∷ []) && lengthsFit (totalLengths count faces (z .came) (z .sums) (z .counts))))
+    (lengthsFit (tray (z .blocks) (numbersPerBlock * count) ∷ []) && (lengthsFit (tray (z .numbers) faces ∷ []) && lengthsFit (totalLengths count faces (z .came) (z .sums) (z .counts))))
 
 -- 8 denies it: the final number at place x is 1 to `most`, and the total of that face stands in a volume of so many cells.
 unfoldable pub faceIn : List ℕ → ℕ → ℕ → List Float → List ℕ → ℕ → Bool

@@ -30,6 +30,7 @@ ghost use Rattle.cells.specs.Grid.{cells};
 ghost use Rattle.blocks.specs.Blocks.{sizeOf};
 ghost use Rattle.job.specs.Jobs.{anyCuts, jobOf};
 ghost use Rattle.totals.specs.Totals.{Holds};
+ghost use Rattle.cutting.specs.Cutting.{mostBlocks};
 ghost use Rattle.pass_strain.specs.Summing.{Whole};
 ghost use Rattle.strain_calls.specs.Tables.{totalTables};
 ghost use Rattle.judge_strain.specs.Tests.{listsIn, traysFit, faceIn, facesIn, standIn, lateOf, refusalOf};
@@ -63,7 +64,7 @@ fn lists_fit(block: Block, cells: usize, values: usize, kinds: usize) -> bool
 
 // Whether what the block brings and the tables have the stated lengths.
 fn trays_fit(count: usize, block: Block, faces: u32, sizes: Sizes) -> bool
-    requires { ⌜ (count ≤ 16384) × Sized 64 (sizeOf block) ⌝ }
+    requires { ⌜ (count ≤ mostBlocks) × Sized 64 (sizeOf block) ⌝ }
     ensures { λ r. ⌜ r ≡ traysFit count (sizeOf block) faces sizes ⌝ }
 {
     if !lists_fit(block, sizes.cells, sizes.values, sizes.kinds) {

@@ -4,7 +4,7 @@ use mathlib.Core.Path.{_≡_, refl, sym, ap, ap₂, _∙_}
 use mathlib.Core.Bool.{Bool, true, cond}
 use mathlib.Core.Logic.{_≢_}
 use mathlib.Core.List.{List, [], _∷_, _++_, List·Memᴰ, List·Memᴰ·head, List·Memᴰ·tail}
-use Prim.Native.Nat.{ℕ, zero, suc, _+_, _-_, _*_, _/_, _%_, _≤_, _<_}
+use Prim.Native.Nat.{ℕ, zero, suc, _+_, _-_, _*_, _%_, _≤_, _<_}
 use native.Mathlib.Omega.{arith}
 use lib.Dec.{eqb}
 use lib.ListN.{getD, length, set}
@@ -22,10 +22,10 @@ use Rattle.labels.proofs.ComponentLaws.{of-order-out}
 use Rattle.labels.proofs.CountLaws.{largest-bound}
 use Rattle.lines.specs.Lines.{lineCount, lineY, lineZ, firstX}
 use Rattle.lines.proofs.LineLaws.{Tests, line-start, line-next, line-end, line-inside, line-odd, order-tests}
-use Rattle.cutting.specs.Cutting.{Cutting, blocks, goodCut, embed}
-use Rattle.joiner.specs.Job.{Kind, orderOf, keyOf}
+use Rattle.cutting.specs.Cutting.{Cutting, blocks, goodCut, embed, mostBlocks}
+use Rattle.joiner.specs.Job.{Kind, orderOf, keyOf, keyPosition}
 use Rattle.joiner.specs.Entries.{firstOf, enrolledKey}
-use Rattle.joiner.proofs.Enrolling.{key-first}
+use Rattle.joiner.proofs.Keys.{key-first}
 use Rattle.blocks.specs.Blocks.{sizeOf, Tells, shiftIn, embedIn}
 use Rattle.blocks.specs.declared.Block.{Block}
 use Rattle.blocks.proofs.BlockLaws.{told-sized, told-ends}
@@ -76,7 +76,7 @@ module _ (v : Triple) (r : Block) (b : ℕ) (m : List ℕ) (from : ℕ) where
   keyed-overlay : (xs : List ℕ) (count : ℕ) (ps : List ℕ) → ((p : ℕ) → List·Memᴰ p ps → getD m p 0 ≤ count)
       → still-left ps (overlay xs from (λ i. b) count) ≡ overlay xs from (λ i. among-key ps (suc i)) count
   unfolding keyed keyPut among-key firstIn keyOf
-  keyed-overlay xs count [] h = overlay-same xs from (λ i. b) (λ i. 0 * 16384 + b) count (λ i l. omega arith)
+  keyed-overlay xs count [] h = overlay-same xs from (λ i. b) (λ i. keyOf 0 b) count (λ i l. omega arith)
   keyed-overlay xs count (p ∷ ps) h =
       let n : ℕ = getD m p 0 in
       let key : ℕ = keyOf (positionIn v r p) b in
@@ -240,12 +240,12 @@ module _ (k : Cutting) (b : ℕ) (r : Block) (T : Tells k b r) where
   enrolled-keys m κ from count xs ks e = e ∙ overlay-same xs from _ _ count (λ i _. enrolled-key m κ (suc i))
 
 -- what `store_rows` requires of the keys, where `store_keys` left them
-pub stored-firsts : (v : Triple) (r : Block) (b : ℕ) (m : List ℕ) (j from count : ℕ) (xs ks : List ℕ) → b < 16384 → from + count ≤ length ks → length ks ≡ length xs
+pub stored-firsts : (v : Triple) (r : Block) (b : ℕ) (m : List ℕ) (j from count : ℕ) (xs ks : List ℕ) → b < mostBlocks → from + count ≤ length ks → length ks ≡ length xs
     → ks ≡ overlay xs from (λ i. keyIn v r b m j (suc i)) count → Firsts v r m j ks from count
 unfolding keyIn
 stored-firsts v r b m j from count xs ks h l s e = record {
   room = l;
-  at = λ i k. ap (λ (t : List ℕ). getD t (from + i) 0 / 16384) e
-      ∙ ap (λ (x : ℕ). x / 16384) (overlay-at xs from (λ i. keyIn v r b m j (suc i)) count i k (omega arith))
+  at = λ i k. ap (λ (t : List ℕ). keyPosition (getD t (from + i) 0)) e
+      ∙ ap keyPosition (overlay-at xs from (λ i. keyIn v r b m j (suc i)) count i k (omega arith))
       ∙ key-first (firstIn v r (component (sizeOf r) m j (suc i))) b h;
 }

@@ -13,7 +13,7 @@ use Rattle.cells.specs.Grid.{sides, cells}
 use Rattle.cells.specs.Row.{rowOf, row}
 use Rattle.labels.specs.Components.{component, componentRow}
 use Rattle.lines.specs.Lines.{lineCount, lineY, lineZ, firstX}
-use Rattle.joiner.specs.Job.{keyOf}
+use Rattle.joiner.specs.Job.{keyOf, keyPosition}
 use Rattle.blocks.specs.Blocks.{originOf, sizeOf, localIn, embedIn}
 use Rattle.blocks.specs.declared.Block.{Block}
 
@@ -71,4 +71,4 @@ rowFor v r m p = cond (eqb p 0) (rowOf []) (row (sizeOf r) m (localIn r (place (
 -- The keys from `from` on hold the first positions of the numbers of order j.
 pub record Firsts (v : Triple) (r : Block) (m : List ℕ) (j : ℕ) (keys : List ℕ) (from count : ℕ) : Type 0 where
   pub room : from + count ≤ length keys
-  pub at : (i : ℕ) → i < count → getD keys (from + i) 0 / 16384 ≡ firstIn v r (component (sizeOf r) m j (suc i))
+  pub at : (i : ℕ) → i < count → keyPosition (getD keys (from + i) 0) ≡ firstIn v r (component (sizeOf r) m j (suc i))

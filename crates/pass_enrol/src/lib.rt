@@ -2,6 +2,7 @@
 use blocks::Block;
 use blocks::embed;
 use blocks::local;
+use joiner::KEY_BASE;
 use lines::first_x;
 use rows::row_at;
 ghost use mathlib.Core.Path.{_≡_};
@@ -14,6 +15,7 @@ ghost use Rattle.cells.specs.Box.{triple, place};
 ghost use Rattle.cells.specs.Grid.{sides, cells};
 ghost use Rattle.labels.specs.Components.{largest};
 ghost use Rattle.lines.specs.Lines.{lineCount};
+ghost use Rattle.cutting.specs.Cutting.{mostBlocks};
 ghost use Rattle.joiner.specs.Job.{keyOf};
 ghost use Rattle.blocks.specs.Blocks.{sizeOf, hasIn, localIn};
 ghost use Rattle.pass_survey.specs.Surveys.{onLine};
@@ -35,10 +37,10 @@ fn clear_keys(keys: &mut [u64], from: usize, count: usize, key: u64)
 
 // A position in the volume and a block in one number.
 fn key_of(position: u64, b: usize) -> u64
-    requires { ⌜ (position < 8589934592) × (b < 16384) ⌝ }
+    requires { ⌜ (position < 8589934592) × (b < mostBlocks) ⌝ }
     ensures { λ r. ⌜ r ≡ keyOf position b ⌝ }
 {
-    position * 16384 + (b as u64)
+    position * KEY_BASE + (b as u64)
 }
 
 fn wide(n: u32) -> usize
@@ -72,7 +74,7 @@ fn key_cell(
     p: usize,
     position: u64,
 )
-    requires { ⌜ (p < length (now map)) × (from + getD (now map) p 0 ≤ length (now keys)) × (position ≡ positionIn (triple nx ny nz) block p) × (position < 8589934592) × (b < 16384) ⌝ }
+    requires { ⌜ (p < length (now map)) × (from + getD (now map) p 0 ≤ length (now keys)) × (position ≡ positionIn (triple nx ny nz) block p) × (position < 8589934592) × (b < mostBlocks) ⌝ }
     ensures { λ _. ⌜ now (keys .exit) ≡ keyPut from (getD (now (map .entry)) p 0) (keyOf (positionIn (triple nx ny nz) block p) b) (now (keys .entry)) ⌝ }
 {
     key_at(keys, from, map[p], key_of(position, b));
@@ -95,7 +97,7 @@ fn key_cells(
     start: usize,
     at: u64,
 )
-    requires { ⌜ Along (triple nx ny nz) block (now map) j l w start at × (b < 16384) × (from + largest (sizeOf block) (now map) j ≤ length (now keys)) ⌝ }
+    requires { ⌜ Along (triple nx ny nz) block (now map) j l w start at × (b < mostBlocks) × (from + largest (sizeOf block) (now map) j ≤ length (now keys)) ⌝ }
     ensures { λ _. ⌜ now (keys .exit) ≡ keyed (triple nx ny nz) block b (now (map .entry)) from (onLine (sizeOf block) j l) (now (keys .entry)) ⌝ }
 {
     let base = l * w;
@@ -130,7 +132,7 @@ fn key_line(
     j: usize,
     l: usize,
 )
-    requires { ⌜ Lies (triple nx ny nz) block × (length (now map) ≡ cells (sizeOf block)) × (b < 16384) × (j ≤ 2) × (from + largest (sizeOf block) (now map) j ≤ length (now keys)) × (l < lineCount (sizeOf block)) ⌝ }
+    requires { ⌜ Lies (triple nx ny nz) block × (length (now map) ≡ cells (sizeOf block)) × (b < mostBlocks) × (j ≤ 2) × (from + largest (sizeOf block) (now map) j ≤ length (now keys)) × (l < lineCount (sizeOf block)) ⌝ }
     ensures { λ _. ⌜ now (keys .exit) ≡ keyed (triple nx ny nz) block b (now (map .entry)) from (onLine (sizeOf block) j l) (now (keys .entry)) ⌝ }
 {
     let w = 2 * block.nx - 1;
@@ -156,7 +158,7 @@ pub fn store_keys(
     b: usize,
     j: usize,
 )
-    requires { ⌜ Lies (triple nx ny nz) block × (length (now map) ≡ cells (sizeOf block)) × (b < 16384) × (j ≤ 2) × (count ≡ largest (sizeOf block) (now map) j) × (from + count ≤ length (now keys)) ⌝ }
+    requires { ⌜ Lies (triple nx ny nz) block × (length (now map) ≡ cells (sizeOf block)) × (b < mostBlocks) × (j ≤ 2) × (count ≡ largest (sizeOf block) (now map) j) × (from + count ≤ length (now keys)) ⌝ }
     ensures { λ _. ⌜ now (keys .exit) ≡ overlay (now (keys .entry)) from (λ i. keyIn (triple nx ny nz) block b (now (map .entry)) j (suc i)) count ⌝ }
 {
     clear_keys(keys, from, count, b as u64);
@@ -236,7 +238,7 @@ pub fn store_rows(
     let width = 6 - 2 * j;
     let mut i: usize = 0;
     while i < count {
-        let row = row_for(map, nx, ny, nz, block, keys[from + i] / 16384);
+        let row = row_for(map, nx, ny, nz, block, keys[from + i] / KEY_BASE);
         put_row(rows, width * (from + i), width, row, shift);
         i += 1;
     }

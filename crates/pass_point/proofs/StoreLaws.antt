@@ -12,7 +12,7 @@ use Rattle.lists.proofs.Overlay.{length-overlay, overlay-same}
 use Rattle.cells.specs.Box.{Triple}
 use Rattle.cells.specs.Grid.{sides, cells, order}
 use Rattle.lines.specs.Lines.{lineY, lineZ, firstX}
-use Rattle.joiner.specs.Job.{keyOf}
+use Rattle.joiner.specs.Job.{keyOf, keyBase}
 use Rattle.blocks.specs.Blocks.{sizeOf}
 use Rattle.blocks.specs.declared.Block.{Block}
 use Rattle.pass_survey.specs.Surveys.{onLine}
@@ -75,7 +75,7 @@ module _ (v : Triple) (r : Block) (b : ℕ) (m numbers : List ℕ) (from : ℕ) 
     store-none z = let n = cell-none (sizeOf r) numbers from m p row is z in record { next = omega (arith, ap length n); keys-are = rw n; rows-are = rw n }
 
     pub store-one : getD row 0 0 ≢ 0 → (position : ℕ) (rows′ : List ℕ) → position ≡ positionIn v r p → rows′ ≡ overlay rows (6 * at) (λ i. getD row i 0) 6
-        → Stored v r b m numbers from (p ∷ []) at keys rows (set keys at (position * 16384 + b)) rows′ (at + 1)
+        → Stored v r b m numbers from (p ∷ []) at keys rows (set keys at (position * keyBase + b)) rows′ (at + 1)
     unfolding written overlay keyAt keyOf rowEntry
     store-one z position rows′ i e =
         let n = cell-one (sizeOf r) numbers from m p row is z in

@@ -1,6 +1,7 @@
 // The points of one block: "Point rows are worked out over the final curves."
 use blocks::Block;
 use blocks::embed;
+use joiner::KEY_BASE;
 use lines::first_x;
 use rows::row_of_six;
 use rows::same_row;
@@ -14,6 +15,7 @@ ghost use Rattle.cells.specs.Extents.{Sized};
 ghost use Rattle.cells.specs.Grid.{cells, upperNeighbours};
 ghost use Rattle.cells.specs.Row.{rowOf};
 ghost use Rattle.lines.specs.Lines.{lineCount};
+ghost use Rattle.cutting.specs.Cutting.{mostBlocks};
 ghost use Rattle.joiner.specs.Job.{keyOf};
 ghost use Rattle.blocks.specs.Blocks.{sizeOf};
 ghost use Rattle.pass_survey.specs.Surveys.{onLine};
@@ -182,14 +184,14 @@ fn store_cell(
     p: usize,
     position: u64,
 ) -> usize
-    requires { ⌜ PointCell (sizeOf block) (now map) p × (b < 16384) × (position ≡ positionIn (triple nx ny nz) block p) × (position < 8589934592) × Room (length (foundAmong (sizeOf block) (now numbers) from (now map) (p ∷ []))) at (length (now keys)) (length (now rows)) ⌝ }
+    requires { ⌜ PointCell (sizeOf block) (now map) p × (b < mostBlocks) × (position ≡ positionIn (triple nx ny nz) block p) × (position < 8589934592) × Room (length (foundAmong (sizeOf block) (now numbers) from (now map) (p ∷ []))) at (length (now keys)) (length (now rows)) ⌝ }
     ensures { λ n. ⌜ Stored (triple nx ny nz) block b (now (map .entry)) (now (numbers .entry)) from (p ∷ []) at (now (keys .entry)) (now (rows .entry)) (now (keys .exit)) (now (rows .exit)) n ⌝ }
 {
     let row = found_row(map, block.nx, block.ny, block.nz, p, numbers, from);
     if row[0] == 0 {
         return at;
     }
-    keys[at] = position * 16384 + (b as u64);
+    keys[at] = position * KEY_BASE + (b as u64);
     put_row(rows, 6 * at, row);
     at + 1
 }
@@ -212,7 +214,7 @@ fn store_cells(
     start: usize,
     first: u64,
 ) -> usize
-    requires { ⌜ Along (triple nx ny nz) block (now map) 0 l w start first × (b < 16384) × Room (length (foundAmong (sizeOf block) (now numbers) from (now map) (onLine (sizeOf block) 0 l))) at (length (now keys)) (length (now rows)) ⌝ }
+    requires { ⌜ Along (triple nx ny nz) block (now map) 0 l w start first × (b < mostBlocks) × Room (length (foundAmong (sizeOf block) (now numbers) from (now map) (onLine (sizeOf block) 0 l))) at (length (now keys)) (length (now rows)) ⌝ }
     ensures { λ n. ⌜ Stored (triple nx ny nz) block b (now (map .entry)) (now (numbers .entry)) from (onLine (sizeOf block) 0 l) at (now (keys .entry)) (now (rows .entry)) (now (keys .exit)) (now (rows .exit)) n ⌝ }
 {
     let base = l * w;
@@ -254,7 +256,7 @@ fn store_line(
     from: u32,
     l: usize,
 ) -> usize
-    requires { ⌜ Lies (triple nx ny nz) block × (length (now map) ≡ cells (sizeOf block)) × (b < 16384) × (l < lineCount (sizeOf block)) × Room (length (foundAmong (sizeOf block) (now numbers) from (now map) (onLine (sizeOf block) 0 l))) at (length (now keys)) (length (now rows)) ⌝ }
+    requires { ⌜ Lies (triple nx ny nz) block × (length (now map) ≡ cells (sizeOf block)) × (b < mostBlocks) × (l < lineCount (sizeOf block)) × Room (length (foundAmong (sizeOf block) (now numbers) from (now map) (onLine (sizeOf block) 0 l))) at (length (now keys)) (length (now rows)) ⌝ }
     ensures { λ n. ⌜ Stored (triple nx ny nz) block b (now (map .entry)) (now (numbers .entry)) from (onLine (sizeOf block) 0 l) at (now (keys .entry)) (now (rows .entry)) (now (keys .exit)) (now (rows .exit)) n ⌝ }
 {
     let w = 2 * block.nx - 1;
@@ -296,7 +298,7 @@ pub fn store_points(
     numbers: &[u32],
     from: u32,
 )
-    requires { ⌜ Lies (triple nx ny nz) block × (length (now map) ≡ cells (sizeOf block)) × (b < 16384) × Room (length (foundCells (sizeOf block) (now numbers) from (now map))) at (length (now keys)) (length (now rows)) ⌝ }
+    requires { ⌜ Lies (triple nx ny nz) block × (length (now map) ≡ cells (sizeOf block)) × (b < mostBlocks) × Room (length (foundCells (sizeOf block) (now numbers) from (now map))) at (length (now keys)) (length (now rows)) ⌝ }
     ensures keys { λ _. ⌜ now (keys .exit)
         ≡ overlay (now (keys .entry)) at (λ i. keyOf (positionIn (triple nx ny nz) block (getD (foundCells (sizeOf block) (now (numbers .entry)) from (now (map .entry))) i 0)) b) (length (foundCells (sizeOf block) (now (numbers .entry)) from (now (map .entry)))) ⌝ }
     ensures rows { λ _. ⌜ now (rows .exit)

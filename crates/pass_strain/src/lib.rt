@@ -187,9 +187,9 @@ struct Spot {
     z: usize,
 }
 
-// Where the line after line l lies, which lies at y and z; h lines are in a layer.
+// Where the line after line l lies, which lies at y and z; h lines are in a layer. A block has at most 127 · 127 lines.
 fn next_spot(h: usize, l: usize, y: usize, z: usize) -> Spot
-    requires { ⌜ (0 < h) × (l < 16384) × (y ≡ l % h) × (z ≡ l / h) ⌝ }
+    requires { ⌜ (0 < h) × (l < 127 * 127) × (y ≡ l % h) × (z ≡ l / h) ⌝ }
     ensures { λ r. ⌜ Lying h (l + 1) r ⌝ }
 {
     if y + 1 < h {

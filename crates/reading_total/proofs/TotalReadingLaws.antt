@@ -15,7 +15,7 @@ use Rattle.refusals.specs.Refusals.{number, table, first, givenBy, standsIn}
 use Rattle.cells.specs.Box.{triple}
 use Rattle.cells.specs.Extents.{Sized, offSize}
 use Rattle.cells.specs.Grid.{cells}
-use Rattle.cutting.specs.Cutting.{Cutting, intervals, blocks, goodCut}
+use Rattle.cutting.specs.Cutting.{Cutting, blocks, goodCut, FewBlocks}
 use Rattle.joiner.specs.Job.{Face, Closed, Tables, State, sameStage, lengthsFit}
 use Rattle.joiner.specs.Job as joiner
 use Rattle.joiner.specs.Declines.{talliesFit}
@@ -102,7 +102,7 @@ module _ (j : Job) (cx cy cz came : List ℕ) (sums : List Float) (counts : List
 
   module _ (q : number′ ≡ 0) where
     -- what `block_count` requires
-    pub refuse-few : intervals cx * intervals cy * intervals cz ≤ 16384
+    pub refuse-few : FewBlocks cx cy cz
     refuse-few = few-of k (opened-passed (jobOf j cx cy cz) Closed (sym e ∙ q) .good)
 
     module _ (count : ℕ) (c : anyExtents cx cy cz (λ k. count ≡ blocks k)) (t3 : Bool) (e3 : t3 ≡ allOf (tickedIn came) (consecutive 0 count)) where

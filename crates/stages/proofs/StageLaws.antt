@@ -11,8 +11,8 @@ use lib.Dec.{eqb, ltb}
 use lib.ListN.{length, List·getD-eq-default}
 use borrow.Author.Tests.{ltb-true, ltb-false, eqb-true, eqb-false, not-true, not-false, lt-ltb, le-ltb, eq-eqb, ne-eqb}
 use Rattle.cells.specs.Box.{place}
-use Rattle.cutting.specs.Cutting.{Cutting, intervals, blockSides, blocks, interval}
-use Rattle.joiner.specs.Job.{Tables, ticked}
+use Rattle.cutting.specs.Cutting.{Cutting, intervals, blockSides, blocks, interval, mostBlocks, FewBlocks}
+use Rattle.joiner.specs.Job.{Tables, ticked, ticksPerBlock}
 use Rattle.joiner.specs.Job as joiner
 use Rattle.joiner.specs.Stages.{stepsOf, nextStage, finished, nextAfter}
 use Rattle.stages.specs.Ticks.{tickedIn, tickedTo, hasNext, seamTicked, seamsTicked, seamsTickedTo}
@@ -59,7 +59,7 @@ module _ (T s : ℕ → Bool) (next : (b : ℕ) → T (suc b) ≡ (T b && s b)) 
   walk-all n b h g e = sym (ap T (let q : n ≡ b = omega arith in q) ∙ e)
 
 module _ (l : List ℕ) (column : ℕ) where
-  column-next : (b : ℕ) → tickedTo (tickedIn l) column (suc b) ≡ (tickedTo (tickedIn l) column b && tickedIn l (6 * b + column))
+  column-next : (b : ℕ) → tickedTo (tickedIn l) column (suc b) ≡ (tickedTo (tickedIn l) column b && tickedIn l (ticksPerBlock * b + column))
   unfolding tickedTo
   column-next b = refl
 
@@ -67,14 +67,14 @@ module _ (l : List ℕ) (column : ℕ) where
   unfolding tickedTo
   column-none = refl
 
-  pub column-more : (b : ℕ) (t : Bool) → tickedTo (tickedIn l) column b ≡ true → t ≡ tickedIn l (6 * b + column) → not t ≡ false → tickedTo (tickedIn l) column (b + 1) ≡ true
-  column-more = walk-more (tickedTo (tickedIn l) column) (λ b. tickedIn l (6 * b + column)) column-next
+  pub column-more : (b : ℕ) (t : Bool) → tickedTo (tickedIn l) column b ≡ true → t ≡ tickedIn l (ticksPerBlock * b + column) → not t ≡ false → tickedTo (tickedIn l) column (b + 1) ≡ true
+  column-more = walk-more (tickedTo (tickedIn l) column) (λ b. tickedIn l (ticksPerBlock * b + column)) column-next
 
-  pub column-broken : (n b : ℕ) (t : Bool) → b < n → t ≡ tickedIn l (6 * b + column) → not t ≡ true → false ≡ tickedTo (tickedIn l) column n
-  column-broken = walk-broken (tickedTo (tickedIn l) column) (λ b. tickedIn l (6 * b + column)) column-next
+  pub column-broken : (n b : ℕ) (t : Bool) → b < n → t ≡ tickedIn l (ticksPerBlock * b + column) → not t ≡ true → false ≡ tickedTo (tickedIn l) column n
+  column-broken = walk-broken (tickedTo (tickedIn l) column) (λ b. tickedIn l (ticksPerBlock * b + column)) column-next
 
   pub column-all : (n b : ℕ) → b ≤ n → n ≤ b → tickedTo (tickedIn l) column b ≡ true → true ≡ tickedTo (tickedIn l) column n
-  column-all = walk-all (tickedTo (tickedIn l) column) (λ b. tickedIn l (6 * b + column)) column-next
+  column-all = walk-all (tickedTo (tickedIn l) column) (λ b. tickedIn l (ticksPerBlock * b + column)) column-next
 
 -- ---- the seams of one block
 
@@ -99,19 +99,19 @@ abbrev Along : List ℕ → ℕ → List ℕ → ℕ → Bool
 Along l s c i = not (ltb (suc i) (intervals c)) || tickedIn l s
 
 seams-are : (cx cy cz l : List ℕ) (w h b nx ny nz : ℕ) → w ≡ intervals cx → h ≡ intervals cy
-    → seamsTicked (cutOf nx ny nz cx cy cz) (tickedIn l) b ≡ (Along l (6 * b + 1) cx (b % w) && (Along l (6 * b + 2) cy (b / w % h) && Along l (6 * b + 3) cz (b / w / h)))
+    → seamsTicked (cutOf nx ny nz cx cy cz) (tickedIn l) b ≡ (Along l (ticksPerBlock * b + 1) cx (b % w) && (Along l (ticksPerBlock * b + 2) cy (b / w % h) && Along l (ticksPerBlock * b + 3) cz (b / w / h)))
 unfolding seamsTicked seamTicked hasNext interval place blockSides
 seams-are cx cy cz l w h b nx ny nz e f = rw (e, f, div-div-eq-div-mul b (intervals cx) (intervals cy))
 
-module _ (cx cy cz l : List ℕ) (w h b : ℕ) (e : w ≡ intervals cx) (f : h ≡ intervals cy) (x : Bool) (ex : x ≡ Along l (6 * b + 1) cx (b % w)) where
+module _ (cx cy cz l : List ℕ) (w h b : ℕ) (e : w ≡ intervals cx) (f : h ≡ intervals cy) (x : Bool) (ex : x ≡ Along l (ticksPerBlock * b + 1) cx (b % w)) where
   pub block-x : not x ≡ true → anyExtents cx cy cz (λ k. false ≡ seamsTicked k (tickedIn l) b)
   block-x n nx ny nz = sym (seams-are cx cy cz l w h b nx ny nz e f ∙ rw (sym ex ∙ not-true x n))
 
-  module _ (m : not x ≡ false) (y : Bool) (ey : y ≡ Along l (6 * b + 2) cy (b / w % h)) where
+  module _ (m : not x ≡ false) (y : Bool) (ey : y ≡ Along l (ticksPerBlock * b + 2) cy (b / w % h)) where
     pub block-y : not y ≡ true → anyExtents cx cy cz (λ k. false ≡ seamsTicked k (tickedIn l) b)
     block-y n nx ny nz = sym (seams-are cx cy cz l w h b nx ny nz e f ∙ rw (sym ex ∙ not-false x m, sym ey ∙ not-true y n))
 
-    pub block-z : not y ≡ false → (z : Bool) → z ≡ Along l (6 * b + 3) cz (b / w / h) → anyExtents cx cy cz (λ k. z ≡ seamsTicked k (tickedIn l) b)
+    pub block-z : not y ≡ false → (z : Bool) → z ≡ Along l (ticksPerBlock * b + 3) cz (b / w / h) → anyExtents cx cy cz (λ k. z ≡ seamsTicked k (tickedIn l) b)
     block-z n z ez nx ny nz = ez ∙ sym (seams-are cx cy cz l w h b nx ny nz e f ∙ rw (sym ex ∙ not-false x m, sym ey ∙ not-false y n))
 
 -- ---- the seams of every block
@@ -150,7 +150,7 @@ module _ (cx cy cz l : List ℕ) where
 abbrev Counted : List ℕ → List ℕ → List ℕ → ℕ → Type 0
 Counted cx cy cz n = anyExtents cx cy cz (λ k. n ≡ blocks k)
 
-pub few-blocks : (cx cy cz : List ℕ) (n : ℕ) → Counted cx cy cz n → intervals cx * intervals cy * intervals cz ≤ 16384 → n ≤ 16384
+pub few-blocks : (cx cy cz : List ℕ) (n : ℕ) → Counted cx cy cz n → FewBlocks cx cy cz → n ≤ mostBlocks
 few-blocks cx cy cz n e h = omega (arith, e 0 0 0, blocks-are (cutOf 0 0 0 cx cy cz))
 
 module _ (cx cy cz l : List ℕ) (stage : Stage) where

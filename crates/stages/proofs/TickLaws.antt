@@ -14,7 +14,7 @@ use Rattle.lists.specs.Lists.{allOf, consecutive}
 use Rattle.closure.specs.Joined.{Edge, edge}
 use Rattle.cells.specs.Box.{Axis, Triple, coord, index, place, volume, X, Y, Z}
 use Rattle.cutting.specs.Cutting.{Cutting, blockSides, blocks, cuts, follows, interval, intervals, seam}
-use Rattle.joiner.specs.Job.{Crossing, Enrol, Points, Seam, column}
+use Rattle.joiner.specs.Job.{Crossing, Enrol, Points, Seam, column, ticksPerBlock}
 use Rattle.joiner.specs.Stages.{crossingStep, enrolStep, finished, pointStep, products, seamAxis, seamStep, seams, stepsOf}
 use Rattle.layers.specs.Layers.{axisOf}
 use Rattle.stages.specs.Ticks.{axisNumber, hasNext, seamTicked, seamsTicked, seamsTickedTo, tickedTo}
@@ -36,36 +36,36 @@ same-truth false t f g = by-test t (λ e. absurd (true≢false (sym (g e)))) (λ
 
 -- ---- one step for each block
 
-ticked-at : (f : ℕ → Bool) (column n : ℕ) → tickedTo f column n ≡ true → (b : ℕ) → b < n → f (6 * b + column) ≡ true
+ticked-at : (f : ℕ → Bool) (column n : ℕ) → tickedTo f column n ≡ true → (b : ℕ) → b < n → f (ticksPerBlock * b + column) ≡ true
 unfolding tickedTo
 ticked-at f column zero e b h = absurd (omega arith)
 ticked-at f column (suc n) e b h =
     by-test (eqb b n)
-    (λ t. ap (λ (x : ℕ). f (6 * x + column)) (eqb-true b n t) ∙ and-second (tickedTo f column n) (f (6 * n + column)) e)
-    (λ t. let d : b ≢ n = eqb-false b n t in ticked-at f column n (and-first (tickedTo f column n) (f (6 * n + column)) e) b (omega arith))
+    (λ t. ap (λ (x : ℕ). f (ticksPerBlock * x + column)) (eqb-true b n t) ∙ and-second (tickedTo f column n) (f (ticksPerBlock * n + column)) e)
+    (λ t. let d : b ≢ n = eqb-false b n t in ticked-at f column n (and-first (tickedTo f column n) (f (ticksPerBlock * n + column)) e) b (omega arith))
 
-ticked-all : (f : ℕ → Bool) (column n : ℕ) → ((b : ℕ) → b < n → f (6 * b + column) ≡ true) → tickedTo f column n ≡ true
+ticked-all : (f : ℕ → Bool) (column n : ℕ) → ((b : ℕ) → b < n → f (ticksPerBlock * b + column) ≡ true) → tickedTo f column n ≡ true
 unfolding tickedTo
 ticked-all f column zero h = refl
-ticked-all f column (suc n) h = and-both (tickedTo f column n) (f (6 * n + column)) (ticked-all f column n (λ b l. h b (omega arith))) (h n (omega arith))
+ticked-all f column (suc n) h = and-both (tickedTo f column n) (f (ticksPerBlock * n + column)) (ticked-all f column n (λ b l. h b (omega arith))) (h n (omega arith))
 
 -- the steps of all blocks in one column
-column-ticked : (f : ℕ → Bool) (g : ℕ → ℕ) (column n : ℕ) → ((b : ℕ) → g b ≡ 6 * b + column) → allOf f (map g (consecutive 0 n)) ≡ tickedTo f column n
+column-ticked : (f : ℕ → Bool) (g : ℕ → ℕ) (column n : ℕ) → ((b : ℕ) → g b ≡ ticksPerBlock * b + column) → allOf f (map g (consecutive 0 n)) ≡ tickedTo f column n
 column-ticked f g column n e =
     same-truth _ _
     (λ t. ticked-all f column n (λ b h. ap f (sym (e b)) ∙ all-out f (map g (consecutive 0 n)) t (Memᴰ·map g (consecutive-in 0 n (omega arith) (omega (arith, h))))))
     (λ t. all-in f (map g (consecutive 0 n)) (λ i m. let r = Memᴰ·of-map g (consecutive 0 n) m in ap f (sym (r .2) ∙ e (r .0)) ∙ ticked-at f column n t (r .0) (omega (arith, consecutive-out 0 n (r .1)))))
 
 pub enrol-finished : (k : Cutting) (f : ℕ → Bool) → finished k f Enrol ≡ tickedTo f 0 (blocks k)
-unfolding finished stepsOf enrolStep
+unfolding finished stepsOf
 enrol-finished k f = column-ticked f enrolStep 0 (blocks k) (λ b. omega arith)
 
 pub crossing-finished : (k : Cutting) (f : ℕ → Bool) → finished k f Crossing ≡ tickedTo f 4 (blocks k)
-unfolding finished stepsOf crossingStep
+unfolding finished stepsOf
 crossing-finished k f = column-ticked f crossingStep 4 (blocks k) (λ b. refl)
 
 pub points-finished : (k : Cutting) (f : ℕ → Bool) → finished k f Points ≡ tickedTo f 5 (blocks k)
-unfolding finished stepsOf pointStep
+unfolding finished stepsOf
 points-finished k f = column-ticked f pointStep 5 (blocks k) (λ b. refl)
 
 -- ---- seams
@@ -91,9 +91,9 @@ module _ (k : Cutting) (b : ℕ) (hb : b < blocks k) (a : Axis) (h : hasNext k b
   next-seam = seam-raised k b next-block a hb (block-in k next-place up-inside) next-at
 
   -- .. which is a seam along this axis
-  next-step : seamStep k (edge b next-block) ≡ 6 * b + axisNumber a
+  next-step : seamStep k (edge b next-block) ≡ ticksPerBlock * b + axisNumber a
   unfolding seamStep
-  next-step = ap (λ (x : ℕ). 6 * b + x) (axis a next-at′)
+  next-step = ap (λ (x : ℕ). ticksPerBlock * b + x) (axis a next-at′)
     where
       next-at′ : (d : Axis) → interval k next-block d ≡ coord (raised a (place (blockSides k) b)) d
       next-at′ d = next-at d
@@ -140,7 +140,7 @@ module _ (k : Cutting) (b c : ℕ) (z : seam k b c ≡ true) where
       lt-ltb (suc (interval k b a₀)) (intervals (cuts k a₀))
       (omega (arith, next-along, interval-is k c a₀, block-sides-on k a₀, place-inside (blockSides k) c (follows-on .upper-in) a₀))
 
-step-number : (k : Cutting) (d : Edge) → seamStep k d ≡ 6 * d .from + seamAxis k (d .from) (d .to)
+step-number : (k : Cutting) (d : Edge) → seamStep k d ≡ ticksPerBlock * d .from + seamAxis k (d .from) (d .to)
 unfolding seamStep
 step-number k d = refl
 
@@ -157,9 +157,9 @@ unfolding seamsTickedTo
 seams-all k f zero h = refl
 seams-all k f (suc n) h = and-both (seamsTickedTo k f n) (seamsTicked k f n) (seams-all k f n (λ b l. h b (omega arith))) (h n (omega arith))
 
-seam-implied : (k : Cutting) (f : ℕ → Bool) (b : ℕ) (a : Axis) → seamTicked k f b a ≡ true → hasNext k b a ≡ true → f (6 * b + axisNumber a) ≡ true
+seam-implied : (k : Cutting) (f : ℕ → Bool) (b : ℕ) (a : Axis) → seamTicked k f b a ≡ true → hasNext k b a ≡ true → f (ticksPerBlock * b + axisNumber a) ≡ true
 unfolding seamTicked
-seam-implied k f b a s h = implied (hasNext k b a) (f (6 * b + axisNumber a)) s h
+seam-implied k f b a s h = implied (hasNext k b a) (f (ticksPerBlock * b + axisNumber a)) s h
 
 -- the three axes of a block
 axes-out : (k : Cutting) (f : ℕ → Bool) (b : ℕ) → seamsTicked k f b ≡ true → (a : Axis) → seamTicked k f b a ≡ true
@@ -182,7 +182,7 @@ seam-finished k f = same-truth _ _ there back
         one : (b : ℕ) → b < blocks k → (a : Axis) → seamTicked k f b a ≡ true
         one b hb a =
             unfold seamTicked in
-            implies (hasNext k b a) (f (6 * b + axisNumber a))
+            implies (hasNext k b a) (f (ticksPerBlock * b + axisNumber a))
             (λ h. ap f (sym (next-step k b hb a h)) ∙ all-out f (map (seamStep k) (seams k)) t (unfold stepsOf in seam-in k b (next-block k b hb a h) (next-seam k b hb a h)))
 
     back : seamsTickedTo k f (blocks k) ≡ true → allOf f (map (seamStep k) (seams k)) ≡ true
@@ -196,7 +196,7 @@ seam-finished k f = same-truth _ _ there back
         of-seam d m =
             let z : seam k (d .from) (d .to) ≡ true = (unfold seams in keep-out (λ d. seam k (d .from) (d .to)) (products (consecutive 0 (blocks k)) (consecutive 0 (blocks k))) m .1) in
             let s : seamTicked k f (d .from) (axisOf (seamAxis k (d .from) (d .to))) ≡ true = axes-out k f (d .from) (seams-at k f (blocks k) t (d .from) (seam-listed k (d .from) (d .to) z .0)) (axisOf (seamAxis k (d .from) (d .to))) in
-            ap f (step-number k d ∙ ap (λ (n : ℕ). 6 * d .from + n) (sym (axis-is k (d .from) (d .to) z)))
+            ap f (step-number k d ∙ ap (λ (n : ℕ). ticksPerBlock * d .from + n) (sym (axis-is k (d .from) (d .to) z)))
             ∙ seam-implied k f (d .from) (axisOf (seamAxis k (d .from) (d .to))) s (lower-next k (d .from) (d .to) z)
 
 -- ---- "a stage without steps is passed over"

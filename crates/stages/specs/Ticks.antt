@@ -7,6 +7,7 @@ use lib.Dec.{eqb, ltb}
 use lib.ListN.{getD}
 use Rattle.cells.specs.Box.{Axis, X, Y, Z}
 use Rattle.cutting.specs.Cutting.{Cutting, cuts, intervals, interval}
+use Rattle.joiner.specs.Job.{ticksPerBlock}
 
 -- Step i is ticked. `ticked-told` says that it is the joiner's `ticked`.
 unfoldable pub tickedIn : List ℕ → ℕ → Bool
@@ -15,7 +16,7 @@ tickedIn ticks i = not (eqb (getD ticks i 0) 0)
 -- The step in this column of each of the first n blocks is ticked.
 unfoldable pub tickedTo : (ℕ → Bool) → ℕ → ℕ → Bool
 tickedTo f column zero = true
-tickedTo f column (suc b) = tickedTo f column b && f (6 * b + column)
+tickedTo f column (suc b) = tickedTo f column b && f (ticksPerBlock * b + column)
 
 -- There is a next block along an axis, so b is the lower block of a seam.
 unfoldable pub hasNext : Cutting → ℕ → Axis → Bool
@@ -27,7 +28,7 @@ axisNumber Y = 2
 axisNumber Z = 3
 
 unfoldable pub seamTicked : Cutting → (ℕ → Bool) → ℕ → Axis → Bool
-seamTicked k f b a = not (hasNext k b a) || f (6 * b + axisNumber a)
+seamTicked k f b a = not (hasNext k b a) || f (ticksPerBlock * b + axisNumber a)
 
 -- Its seams as the lower block are ticked, and those of the first n blocks.
 unfoldable pub seamsTicked : Cutting → (ℕ → Bool) → ℕ → Bool

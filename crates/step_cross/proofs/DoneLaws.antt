@@ -3,7 +3,7 @@
 use mathlib.Core.Path.{_≡_, refl, sym, _∙_}
 use mathlib.Core.Bool.{Bool, true, false, not}
 use mathlib.Core.List.{List, []}
-use Prim.Native.Nat.{ℕ, _+_, _*_, _≤_, _<_}
+use Prim.Native.Nat.{ℕ, _≤_, _<_}
 use native.Mathlib.Omega.{arith}
 use lib.ListN.{getD, length}
 use borrow.Author.Tests.{eqb-true, not-true, not-false, ltb-true}
@@ -142,18 +142,17 @@ module _ (j : Job) (cx cy cz ticks ticks′ table fl fl′ cl cl′ fk ck fr cr 
   curves-merged = crossing-merged (toldOf j cx cy cz .cutting) (before .tables) b m _ fl _ _ cl cl′ refl refl refl refl (J .crossed .joined)
 
   tally-kept : (κ : Kind) → jobOf q cx cy cz .numbered κ ≡ jobOf j cx cy cz .numbered κ
-  tally-kept = numbered-kept j cx cy cz ticks ticks′ (6 * b + 4) 0 0 0 q (J .moved)
+  tally-kept = numbered-kept j cx cy cz ticks ticks′ (crossingStep b) 0 0 0 q (J .moved)
 
   abbrev after : List ℕ → List ℕ → List ℕ → List ℕ → List ℕ → List ℕ → Tables
   after fn′ cn′ ff′ cf′ fs′ cs′ = lent ticks′ table fl′ cl′ fk ck fr cr fn′ cn′ ff′ cf′ fs′ cs′
 
-  step-done : (fn′ cn′ ff′ cf′ fs′ cs′ : List ℕ) → Ticked before (stateOf q cx cy cz (after fn′ cn′ ff′ cf′ fs′ cs′)) (cross b m) (6 * b + 4)
+  step-done : (fn′ cn′ ff′ cf′ fs′ cs′ : List ℕ) → Ticked before (stateOf q cx cy cz (after fn′ cn′ ff′ cf′ fs′ cs′)) (cross b m) (crossingStep b)
   step-done fn′ cn′ ff′ cf′ fs′ cs′ =
-      ticked-by j cx cy cz (before .tables) (after fn′ cn′ ff′ cf′ fs′ cs′) (cross b m) (6 * b + 4) 0 0 0 (adds-none before b m) q (J .moved)
+      ticked-by j cx cy cz (before .tables) (after fn′ cn′ ff′ cf′ fs′ cs′) (cross b m) (crossingStep b) 0 0 0 (adds-none before b m) q (J .moved)
 
   -- before the last
   pub done-before : not t ≡ true → CrossingDone before b m (stateOf q cx cy cz (after fn cn ff cf fs cs))
-  unfolding crossingStep
   done-before n = record {
     step = step-done fn cn ff cf fs cs;
     blocks = refl;
@@ -179,7 +178,6 @@ module _ (j : Job) (cx cy cz ticks ticks′ table fl fl′ cl cl′ fk ck fr cr 
     curves-numbered = numbered-kind before closed Curve (j .curves) (N .of-curves (closed .tables) refl (λ x. refl) refl refl)
 
     pub done-last : not t ≡ false → CrossingDone before b m closed
-    unfolding crossingStep
     done-last n =
         let T = step-done fn′ cn′ ff′ cf′ fs′ cs′ in
         record {

@@ -16,8 +16,8 @@ use Rattle.lists.proofs.Overlay.{length-overlay, overlay-same}
 use Rattle.cells.specs.Box.{Triple, triple}
 use Rattle.cells.specs.Grid.{cells}
 use Rattle.labels.specs.Components.{largest}
-use Rattle.cutting.specs.Cutting.{Cutting, intervals, blocks, blockExtents}
-use Rattle.joiner.specs.Job.{Kind, Face, Curve, Point, Enrol, Tables, State, blockTrays, linkTrays, foundTrays}
+use Rattle.cutting.specs.Cutting.{Cutting, blocks, blockExtents, mostBlocks, FewBlocks}
+use Rattle.joiner.specs.Job.{Kind, Face, Curve, Point, Enrol, Tables, State, blockTrays, linkTrays, foundTrays, numbersPerBlock, ticksPerBlock}
 use Rattle.joiner.specs.Stages.{enrolStep}
 use Rattle.joiner.specs.Calls.{enrol, answer, full, overfull}
 use Rattle.joiner.specs.Declines.{lentTo, adds, refusal}
@@ -42,12 +42,12 @@ use Rattle.judge_enrol.specs.Tests.{lentLengths, refusalOf, Judged}
 use Rattle.judge_enrol.proofs.TestLaws.{refusal-is}
 use Rattle.step_enrol.specs.Inner.{Ready, blockNumbers, KindReady, KindDone}
 
--- ---- the five numbers of a block
+-- ---- the numbers of a block
 
 pub block-put : (xs : List ℕ) (b : ℕ) (p : Plan) (face curve : ℕ)
-    → set (set (set (set (set xs (5 * b) (p .faces)) (5 * b + 1) (p .curves)) (5 * b + 2) (p .points)) (5 * b + 3) face) (5 * b + 4) curve ≡ overlay xs (5 * b) (blockNumbers p face curve) 5
+    → set (set (set (set (set xs (numbersPerBlock * b) (p .faces)) (numbersPerBlock * b + 1) (p .curves)) (numbersPerBlock * b + 2) (p .points)) (numbersPerBlock * b + 3) face) (numbersPerBlock * b + 4) curve ≡ overlay xs (numbersPerBlock * b) (blockNumbers p face curve) numbersPerBlock
 unfolding overlay blockNumbers
-block-put xs b p face curve = rw (add-zero (5 * b))
+block-put xs b p face curve = rw (add-zero (numbersPerBlock * b))
 
 -- ---- what an accepted call has passed
 
@@ -99,8 +99,8 @@ module _ (j : Job) (cx cy cz tk bl fl cl fk ck fr cr : List ℕ) (b : ℕ) (m : 
 
   -- its tables
   record Long : Type 0 where
-    on-ticks : length tk ≡ 6 * blocks cut-of
-    on-blocks : length bl ≡ 5 * blocks cut-of
+    on-ticks : length tk ≡ ticksPerBlock * blocks cut-of
+    on-blocks : length bl ≡ numbersPerBlock * blocks cut-of
     face-links : length fl ≡ j .«face_entries»
     curve-links : length cl ≡ j .«curve_entries»
     face-keys : length fk ≡ j .«face_entries»
@@ -125,11 +125,11 @@ module _ (j : Job) (cx cy cz tk bl fl cl fk ck fr cr : List ℕ) (b : ℕ) (m : 
   room κ = rw (← more κ) (has-room (before .job .told .entries) (before .job .sofar) (adds before (enrol b m)) (call-facts .room) κ)
 
   -- what `put_block` requires
-  pub act-block : (b < 16384) × (5 * b + 5 ≤ length bl)
+  pub act-block : (b < mostBlocks) × (numbersPerBlock * b + numbersPerBlock ≤ length bl)
   act-block = (omega (arith, begun .1, count-few cut-of (begun .0 .good) (blocks cut-of) refl), omega (arith, begun .1, long .on-blocks))
 
   -- .. and `advance`
-  pub act-advance : ((6 * b < length tk) × (intervals cx * intervals cy * intervals cz ≤ 16384))
+  pub act-advance : ((enrolStep b < length tk) × FewBlocks cx cy cz)
       × ((j .faces + p .faces ≤ j .«face_entries») × (j .curves + p .curves ≤ j .«curve_entries») × (j .points + 0 ≤ j .«point_entries»))
   act-advance = ((omega (arith, begun .1, long .on-ticks), few-of cut-of (begun .0 .good)), (room Face, room Curve, room Point))
 
@@ -174,10 +174,10 @@ module _ (j : Job) (cx cy cz tk bl fl cl fk ck fr cr : List ℕ) (b : ℕ) (m : 
     }
 
     -- what all of them leave
-    module _ (bl′ : List ℕ) (eb : bl′ ≡ overlay bl (5 * b) (blockNumbers p (j .faces) (j .curves)) 5)
+    module _ (bl′ : List ℕ) (eb : bl′ ≡ overlay bl (numbersPerBlock * b) (blockNumbers p (j .faces) (j .curves)) numbersPerBlock)
         (fl′ fk′ fr′ : List ℕ) (F : KindDone (triple (j .nx) (j .ny) (j .nz)) r b m 2 0 (j .faces) (p .faces) fl fk fr fl′ fk′ fr′)
         (cl′ ck′ cr′ : List ℕ) (C : KindDone (triple (j .nx) (j .ny) (j .nz)) r b m 1 (j .faces) (j .curves) (p .curves) cl ck cr cl′ ck′ cr′)
-        (tk′ : List ℕ) (q : Job) (A : Advanced j cx cy cz tk tk′ (6 * b) (p .faces) (p .curves) 0 q) where
+        (tk′ : List ℕ) (q : Job) (A : Advanced j cx cy cz tk tk′ (enrolStep b) (p .faces) (p .curves) 0 q) where
       abbrev after : State
       after = stateOf q cx cy cz (lentTables tk′ bl′ fl′ cl′ fk′ ck′ fr′ cr′)
 
@@ -186,10 +186,10 @@ module _ (j : Job) (cx cy cz tk bl fl cl fk ck fr cr : List ℕ) (b : ℕ) (m : 
       entry-is i = rw (R .plan .faces, R .plan .curves, R .plan .points)
 
       pub act-done : EnrolDone before b m after
-      unfolding adds enrolStep
+      unfolding adds
       act-done = record {
-        step = ticked-by j cx cy cz (lentTables tk bl fl cl fk ck fr cr) (lentTables tk′ bl′ fl′ cl′ fk′ ck′ fr′ cr′) (enrol b m) (6 * b) (p .faces) (p .curves) 0 more q A;
-        blocks = eb ∙ overlay-same bl (5 * b) _ _ 5 (λ i _. entry-is i);
+        step = ticked-by j cx cy cz (lentTables tk bl fl cl fk ck fr cr) (lentTables tk′ bl′ fl′ cl′ fk′ ck′ fr′ cr′) (enrol b m) (enrolStep b) (p .faces) (p .curves) 0 more q A;
+        blocks = eb ∙ overlay-same bl (numbersPerBlock * b) _ _ numbersPerBlock (λ i _. entry-is i);
         faces = record {
           links = F .links-are ∙ ap (overlay fl (j .faces) (λ i. 0)) (R .plan .faces);
           keys = enrolled-keys cut-of b r tells m Face (j .faces) (p .faces) fk fk′ (F .keys-are) ∙ ap (overlay fk (j .faces) _) (R .plan .faces);
@@ -201,7 +201,7 @@ module _ (j : Job) (cx cy cz tk bl fl cl fk ck fr cr : List ℕ) (b : ℕ) (m : 
           rows = enrolled-curves cut-of b r tells (j .faces) m (j .curves) (p .curves) cr cr′ (C .rows-are) ∙ ap (λ (n : ℕ). overlay cr (4 * j .curves) (λ i. enrolledRow cut-of (j .faces) b m Curve (suc (i / 4)) (i % 4)) (4 * n)) (R .plan .curves);
         };
         points = record { keys = refl; rows = refl };
-        numbers = λ κ. record { numbered = numbered-kept j cx cy cz tk tk′ (6 * b) (p .faces) (p .curves) 0 q A κ; numbers = refl; firsts = refl; listed = refl };
+        numbers = λ κ. record { numbered = numbered-kept j cx cy cz tk tk′ (enrolStep b) (p .faces) (p .curves) 0 q A κ; numbers = refl; firsts = refl; listed = refl };
       }
 
 -- ---- the ways of `enrol`

@@ -9,6 +9,7 @@ use Rattle.lists.specs.Lists.{overlay}
 use Rattle.cells.specs.Box.{Triple}
 use Rattle.cells.specs.Grid.{cells}
 use Rattle.labels.specs.Components.{largest}
+use Rattle.cutting.specs.Cutting.{mostBlocks}
 use Rattle.joiner.specs.Job.{State}
 use Rattle.joiner.specs.Calls.{enrol}
 use Rattle.joiner.specs.Declines.{refusal}
@@ -23,7 +24,7 @@ pub record Ready (s : State) (b : ℕ) (m : List ℕ) (p : Plan) : Type 0 where
   pub accepted : refusal s (enrol b m) ≡ 0
   pub plan : Planned (s .job) b m p
 
--- The block's five numbers, the joiner's `blockEntry`.
+-- The numbers of a block, the joiner's `blockEntry`.
 unfoldable pub blockNumbers : Plan → ℕ → ℕ → ℕ → ℕ
 blockNumbers p face curve i = getD (p .faces ∷ p .curves ∷ p .points ∷ face ∷ curve ∷ []) i 0
 
@@ -31,7 +32,7 @@ blockNumbers p face curve i = getD (p .faces ∷ p .curves ∷ p .points ∷ fac
 pub record KindReady (v : Triple) (r : Block) (b : ℕ) (m : List ℕ) (j shift from count links keys rows : ℕ) : Type 0 where
   pub lies : Lies v r
   pub size : length m ≡ cells (sizeOf r)
-  pub block : b < 16384
+  pub block : b < mostBlocks
   pub below : j ≤ 2
   pub most : count ≡ largest (sizeOf r) m j
   pub on-links : from + count ≤ links

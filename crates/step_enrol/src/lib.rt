@@ -2,6 +2,8 @@
 use blocks::Block;
 use blocks::block_at;
 use job::Job;
+use joiner::NUMBERS_PER_BLOCK;
+use joiner::TICKS_PER_BLOCK;
 use judge_enrol::Plan;
 use judge_enrol::judge_enrolment;
 use judge_enrol::lengths_of;
@@ -15,6 +17,8 @@ ghost use Prim.Native.Nat.{_+_, _*_, _≤_, _<_};
 ghost use lib.ListN.{length};
 ghost use Rattle.lists.specs.Lists.{overlay};
 ghost use Rattle.cells.specs.Box.{triple};
+ghost use Rattle.cutting.specs.Cutting.{mostBlocks};
+ghost use Rattle.joiner.specs.Job.{numbersPerBlock};
 ghost use Rattle.joiner.specs.Calls.{enrol, answer};
 ghost use Rattle.joiner.specs.Entries.{EnrolDone, CallStep};
 ghost use Rattle.job.specs.Jobs.{stateOf};
@@ -27,12 +31,12 @@ pub struct Enrolled {
     pub job: Job,
 }
 
-// Writes the five numbers of block b: its largest ones, and the places of its first face and first curve.
+// Writes the numbers of block b: its largest ones, and the places of its first face and first curve.
 fn put_block(blocks: &mut [u32], b: usize, plan: Plan, face: u32, curve: u32)
-    requires { ⌜ (b < 16384) × (5 * b + 5 ≤ length (now blocks)) ⌝ }
-    ensures { λ _. ⌜ now (blocks .exit) ≡ overlay (now (blocks .entry)) (5 * b) (blockNumbers plan face curve) 5 ⌝ }
+    requires { ⌜ (b < mostBlocks) × (numbersPerBlock * b + numbersPerBlock ≤ length (now blocks)) ⌝ }
+    ensures { λ _. ⌜ now (blocks .exit) ≡ overlay (now (blocks .entry)) (numbersPerBlock * b) (blockNumbers plan face curve) numbersPerBlock ⌝ }
 {
-    let at = 5 * b;
+    let at = NUMBERS_PER_BLOCK * b;
     blocks[at] = plan.faces;
     blocks[at + 1] = plan.curves;
     blocks[at + 2] = plan.points;
@@ -95,7 +99,7 @@ fn act(
         (now («curve_keys» .exit)) (now («face_rows» .exit)) (now («curve_rows» .exit)))) ⌝ }
 {
     let b = block as usize;
-    let step = 6 * b;
+    let step = TICKS_PER_BLOCK * b;
     let faces = job.faces as usize;
     let curves = job.curves as usize;
     let more_faces = plan.faces as usize;

@@ -3,13 +3,13 @@
 use mathlib.Core.Path.{_≡_, refl, sym, ap, _∙_}
 use mathlib.Core.Bool.{Bool, false, not, _&&_}
 use mathlib.Core.List.{List, map}
-use Prim.Native.Nat.{ℕ, _*_, _≤_}
+use Prim.Native.Nat.{ℕ, _≤_}
 use lib.ListN.{length}
 use lib.Ieee.{Float}
 use borrow.Author.Tests.{not-false}
 use Rattle.lists.specs.Lists.{zeros}
 use Rattle.refusals.specs.Refusals.{number, table, first, givenBy, standsIn}
-use Rattle.cutting.specs.Cutting.{Cutting, intervals, blocks, goodCut}
+use Rattle.cutting.specs.Cutting.{Cutting, blocks, goodCut, mostBlocks, FewBlocks}
 use Rattle.joiner.specs.Job.{Kind, Told, Tables, lengthsFit}
 use Rattle.joiner.specs.Entries.{allTrays}
 use Rattle.strains.specs.Units.{plusZero}
@@ -43,10 +43,10 @@ module _ (o : Told) (t : Tables) (w : TotalTables) where
 
 -- what `block_count` and `tables_fit` require
 module _ (k : Cutting) (s : Bool) (f : s ≡ goodCut k) (q : not s ≡ false) where
-  pub few : intervals (k .cx) * intervals (k .cy) * intervals (k .cz) ≤ 16384
+  pub few : FewBlocks (k .cx) (k .cy) (k .cz)
   few = good-few k (sym f ∙ not-false s q)
 
-  pub few-blocks : (b : ℕ) → b ≡ blocks k → b ≤ 16384
+  pub few-blocks : (b : ℕ) → b ≡ blocks k → b ≤ mostBlocks
   few-blocks b e = rw (e, blocks-are k) few
 
 -- what `tables_fit` answers, told the number of blocks

@@ -20,6 +20,7 @@ ghost use mathlib.Core.Path.{_≡_};
 ghost use Prim.Native.Nat.{_≤_};
 ghost use lib.ListN.{length};
 ghost use Rattle.lists.specs.Lists.{zeros};
+ghost use Rattle.cutting.specs.Cutting.{mostBlocks};
 ghost use Rattle.job.specs.Jobs.{toldBy, toldOf, tablesOf, stateOf, NoJob};
 ghost use Rattle.judge.specs.Judge.{entriesOf};
 ghost use Rattle.strain_calls.specs.Tables.{totalTables, zeroed};
@@ -41,7 +42,7 @@ fn tables_fit(
     sums: usize,
     counts: usize,
 ) -> bool
-    requires { ⌜ blocks ≤ 16384 ⌝ }
+    requires { ⌜ blocks ≤ mostBlocks ⌝ }
     ensures { λ r. ⌜ r ≡ tablesFit blocks (entriesOf job) lengths came sums counts ⌝ }
 {
     if !lent_fits(CallName::Open, blocks, job, lengths) {

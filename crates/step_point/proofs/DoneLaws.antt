@@ -13,8 +13,8 @@ use Rattle.lists.proofs.Overlay.{length-overlay}
 use Rattle.cells.specs.Box.{triple}
 use Rattle.cells.specs.Grid.{cells}
 use Rattle.extents.proofs.SizeLaws.{sized-of}
-use Rattle.cutting.specs.Cutting.{Cutting, intervals, blocks}
-use Rattle.joiner.specs.Job.{Kind, Face, Curve, Point, Closed, State, sameStage, stageNumber, keyOf, fromOf, blockTrays, numberTrays, foundTrays, firstTrays, listedTrays, kindTrays}
+use Rattle.cutting.specs.Cutting.{Cutting, blocks, mostBlocks, FewBlocks}
+use Rattle.joiner.specs.Job.{Kind, Face, Curve, Point, Closed, State, sameStage, stageNumber, keyOf, fromOf, blockTrays, numberTrays, foundTrays, firstTrays, listedTrays, kindTrays, ticksPerBlock}
 use Rattle.joiner.specs.Job as joiner
 use Rattle.joiner.specs.Stages.{pointStep}
 use Rattle.joiner.specs.Calls.{point, answer}
@@ -84,7 +84,7 @@ module _ (j : Job) (cx cy cz ticks table curves keys rows numbers firsts listed 
     there = ltb-true b (blocks k) (call-facts .placed-in)
 
     record Long : Type 0 where
-      on-ticks : length ticks ≡ 6 * blocks k
+      on-ticks : length ticks ≡ ticksPerBlock * blocks k
       on-keys : length keys ≡ j .«point_entries»
       on-rows : length rows ≡ 6 * j .«point_entries»
       on-numbers : length numbers ≡ j .«point_entries»
@@ -101,7 +101,7 @@ module _ (j : Job) (cx cy cz ticks table curves keys rows numbers firsts listed 
     room = rw (R .counted) (points-room (before .job .told .entries) (before .job .sofar) (adds before (point b m)) (call-facts .room))
 
     -- what `advance` requires
-    pub accept-advance : ((6 * b + 5 < length ticks) × (intervals cx * intervals cy * intervals cz ≤ 16384))
+    pub accept-advance : ((pointStep b < length ticks) × FewBlocks cx cy cz)
         × ((j .faces + 0 ≤ j .«face_entries») × (j .curves + 0 ≤ j .«curve_entries») × (j .points + points ≤ j .«point_entries»))
     accept-advance =
         let h : (κ : Kind) → before .job .sofar κ ≤ before .job .told .entries κ = tally-fits (before .job) (call-facts .tallies) in
@@ -122,7 +122,7 @@ module _ (j : Job) (cx cy cz ticks table curves keys rows numbers firsts listed 
       fits-points = (omega (arith, room, R .counted, lengths .on-keys), omega (arith, room, R .counted, lengths .on-rows))
 
       -- .. and `store_points`
-      pub accept-store : Lies (triple (j .nx) (j .ny) (j .nz)) r × (length m ≡ cells (sizeOf r)) × (b < 16384) × Room (length here) (j .points) (length keys) (length rows)
+      pub accept-store : Lies (triple (j .nx) (j .ny) (j .nz)) r × (length m ≡ cells (sizeOf r)) × (b < mostBlocks) × Room (length here) (j .points) (length keys) (length rows)
       accept-store = (
         lies-told k b r tells (call-facts .cut) there (sized-of 1024 (k .extents) (call-facts .on-size)),
         eqb-true _ _ (call-facts .maps) ∙ ap cells (sym (tells .size)),
@@ -130,7 +130,7 @@ module _ (j : Job) (cx cy cz ticks table curves keys rows numbers firsts listed 
         found-room k (before .tables) b m (tells .size) refl from-is (j .points) (length keys) (length rows) (fits-points .0) (fits-points .1),
       )
 
-      module _ (next : Job) (ticks′ : List ℕ) (A : Advanced j cx cy cz ticks ticks′ (6 * b + 5) 0 0 points next) (keys′ : List ℕ)
+      module _ (next : Job) (ticks′ : List ℕ) (A : Advanced j cx cy cz ticks ticks′ (pointStep b) 0 0 points next) (keys′ : List ℕ)
           (K : keys′ ≡ overlay keys (j .points) (λ i. keyOf (positionIn (triple (j .nx) (j .ny) (j .nz)) r (getD here i 0)) b) (length here)) where
         -- .. and `close`
         pub accept-close : (next .points ≤ length keys′) × (next .points ≤ length numbers) × (next .points ≤ length firsts) × (6 * next .points ≤ length listed)
@@ -151,14 +151,14 @@ module _ (j : Job) (cx cy cz ticks table curves keys rows numbers firsts listed 
           more Curve = refl
           more Point = sym (R .counted)
 
-          stepped : Ticked before (after next) (point b m) (6 * b + 5)
-          stepped = ticked-by j cx cy cz (before .tables) (after next .tables) (point b m) (6 * b + 5) 0 0 points more next A
+          stepped : Ticked before (after next) (point b m) (pointStep b)
+          stepped = ticked-by j cx cy cz (before .tables) (after next .tables) (point b m) (pointStep b) 0 0 points more next A
 
           tally-kept : (κ : Kind) → jobOf next cx cy cz .numbered κ ≡ jobOf j cx cy cz .numbered κ
-          tally-kept = numbered-kept j cx cy cz ticks ticks′ (6 * b + 5) 0 0 points next A
+          tally-kept = numbered-kept j cx cy cz ticks ticks′ (pointStep b) 0 0 points next A
 
           done-by : (total : ℕ) → Closes next (next .points) keys′ rows′ numbers numbers′ firsts firsts′ listed listed′ (withNumbered next total) → PointDone before b m (after (withNumbered next total))
-          unfolding adds pointStep
+          unfolding adds
           done-by total C = record {
             step = record { told = stepped .told; ticks = stepped .ticks; stage = stepped .stage; sofar = stepped .sofar };
             blocks = refl;

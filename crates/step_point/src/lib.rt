@@ -3,6 +3,8 @@ use blocks::block_at;
 use job::Job;
 use job::Stage;
 use job::same_stage;
+use joiner::POINT_TICK;
+use joiner::TICKS_PER_BLOCK;
 use judge::KindLengths;
 use judge::Lengths;
 use judge::entry_of;
@@ -77,7 +79,7 @@ fn accept(
         (lent (now (ticks .exit)) (now (table .entry)) (now (curves .entry)) (now (keys .exit)) (now (rows .exit)) (now (numbers .exit)) (now (firsts .exit)) (now (listed .exit)))) ⌝ }
 {
     let b = block as usize;
-    let step = 6 * b + 5;
+    let step = TICKS_PER_BLOCK * b + POINT_TICK;
     let at = job.points as usize;
     let r = block_at(cx, cy, cz, b);
     let d = entry_of(table, block);

@@ -14,8 +14,8 @@ use Rattle.union_find.specs.Links.{root, Rooted}
 use Rattle.cells.specs.Extents.{Sized}
 use Rattle.labels.specs.Components.{largest}
 use Rattle.labels.proofs.CountLaws.{largest-bound}
-use Rattle.cutting.specs.Cutting.{Cutting, intervals, blocks, blockExtents}
-use Rattle.joiner.specs.Job.{Kind, Face, Curve, Point, State, orderOf, fromOf, blockTrays, linkTrays}
+use Rattle.cutting.specs.Cutting.{Cutting, blocks, blockExtents, FewBlocks}
+use Rattle.joiner.specs.Job.{Kind, Face, Curve, Point, State, orderOf, fromOf, blockTrays, linkTrays, ticksPerBlock}
 use Rattle.joiner.specs.Stages.{seamAxis, seamStep}
 use Rattle.joiner.specs.Calls.{join, answer}
 use Rattle.joiner.specs.Declines.{adds, lentTo, mapStands, refusal}
@@ -59,7 +59,7 @@ module _ (j : Job) (cx cy cz ticks blocks′ faces curves : List ℕ) (b c : ℕ
     call-facts : Passed before (join b c m n)
     call-facts = passed before (join b c m n) acc
 
-    pub seam-few : intervals cx * intervals cy * intervals cz ≤ 16384
+    pub seam-few : FewBlocks cx cy cz
     seam-few = few-of k (call-facts .cut)
 
     pub low-sized : (r : Block) → Tells k b r → Sized 64 (sizeOf r)
@@ -68,7 +68,7 @@ module _ (j : Job) (cx cy cz ticks blocks′ faces curves : List ℕ) (b c : ℕ
     pub high-sized : (r : Block) → Tells k c r → Sized 64 (sizeOf r)
     high-sized = upper-sized k b c (call-facts .cut) (call-facts .placed-in)
 
-    pub step-in : (axis step : ℕ) → axis ≡ seamAxis k b c → step ≡ 6 * b + axis → step < length ticks
+    pub step-in : (axis step : ℕ) → axis ≡ seamAxis k b c → step ≡ ticksPerBlock * b + axis → step < length ticks
     unfolding blockTrays
     step-in axis step e f = omega (arith, axis-bound k b c, seam-listed k b c (call-facts .placed-in) .0, fits-at (lentTo (before .job .told) (before .tables) (join b c m n)) 0 (call-facts .lent))
 
@@ -119,7 +119,7 @@ module _ (j : Job) (cx cy cz ticks blocks′ faces curves : List ℕ) (b c : ℕ
             merged Curve 2 (j .«curve_entries») refl (curves-stand before (blockExtents k b) b m lower-stands) (curves-stand before (blockExtents k c) c n upper-stands)
             (le-refl (j .«curve_entries»)) curves curves′ (K .of-curves)
 
-      pub seam-done : (d g : Entry) → d ≡ entryOf blocks′ b → g ≡ entryOf blocks′ c → (step : ℕ) → step ≡ 6 * b + axis → (next : Job) (ticks′ faces′ curves′ : List ℕ)
+      pub seam-done : (d g : Entry) → d ≡ entryOf blocks′ b → g ≡ entryOf blocks′ c → (step : ℕ) → step ≡ ticksPerBlock * b + axis → (next : Job) (ticks′ faces′ curves′ : List ℕ)
           → Advanced j cx cy cz ticks ticks′ step 0 0 0 next → Linked faces faces′ curves curves′ sh d g (j .«face_entries») (j .«curve_entries») m n
           → SeamDone before b c m n (stateOf next cx cy cz (lent ticks′ blocks′ faces′ curves′))
       unfolding seamStep
@@ -127,7 +127,7 @@ module _ (j : Job) (cx cy cz ticks blocks′ faces curves : List ℕ) (b c : ℕ
           let L = rw (p, q) at K in
           let A = rw (e, number-is) at T in
           record {
-            step = ticked-by j cx cy cz (lent ticks blocks′ faces curves) (lent ticks′ blocks′ faces′ curves′) (join b c m n) (6 * b + seamAxis k b c) 0 0 0 adds-none next A;
+            step = ticked-by j cx cy cz (lent ticks blocks′ faces curves) (lent ticks′ blocks′ faces′ curves′) (join b c m n) (ticksPerBlock * b + seamAxis k b c) 0 0 0 adds-none next A;
             blocks = refl;
             faces = faces-merged faces′ curves′ L;
             curves = curves-merged faces′ curves′ L;

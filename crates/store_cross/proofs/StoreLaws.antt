@@ -2,11 +2,12 @@
 -- Assumes nothing.
 use mathlib.Core.Path.{_≡_}
 use mathlib.Core.List.{List}
-use Prim.Native.Nat.{ℕ, _+_, _*_, _≤_}
+use Prim.Native.Nat.{ℕ, _+_, _≤_}
 use native.Mathlib.Omega.{arith}
 use Rattle.union_find.specs.Links.{root}
 use Rattle.cutting.specs.Cutting.{Cutting}
 use Rattle.joiner.specs.Job as joiner
+use Rattle.joiner.specs.Stages.{crossingStep}
 use Rattle.pass_cross.specs.Crossings.{crossEdges, Trays, Crossed}
 use Rattle.blocks.specs.Blocks.{Tells, sizeOf}
 use Rattle.blocks.specs.declared.Block.{Block}
@@ -26,7 +27,7 @@ module _ (k : Cutting) (ticks table faces curves : List ℕ) (b : ℕ) (m : List
   cross-trays R = rw (T .size, e) (R .trays)
 
 pub joined-by : (j : Job) (cx cy cz ticks ticks′ table faces faces′ curves curves′ : List ℕ) (b : ℕ) (m : List ℕ) (q : Job) (r : Block) → Tells (toldOf j cx cy cz .cutting) b r
-    → (d : Entry) → d ≡ entryOf table b → (step : ℕ) → step ≡ 6 * b + 4 → Advanced j cx cy cz ticks ticks′ step 0 0 0 q
+    → (d : Entry) → d ≡ entryOf table b → (step : ℕ) → step ≡ crossingStep b → Advanced j cx cy cz ticks ticks′ step 0 0 0 q
     → Crossed faces faces′ curves curves′ (crossEdges (sizeOf r) m 1 (root faces) (d .«face_from») (d .«curve_from»))
     → CurvesJoined j cx cy cz ticks ticks′ table faces faces′ curves curves′ b m q
 joined-by j cx cy cz ticks ticks′ table faces faces′ curves curves′ b m q r T d e step f A C =

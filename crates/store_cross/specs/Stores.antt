@@ -1,13 +1,14 @@
 -- What the stores of a crossing step require, and what they leave.
 -- Assumes nothing.
 use mathlib.Core.List.{List}
-use Prim.Native.Nat.{ℕ, _+_, _*_, _≤_, _<_}
+use Prim.Native.Nat.{ℕ, _*_, _≤_, _<_}
 use lib.ListN.{length}
 use Rattle.closure.specs.Joined.{Edge}
 use Rattle.union_find.specs.Links.{root}
-use Rattle.cutting.specs.Cutting.{Cutting, intervals, blockExtents}
+use Rattle.cutting.specs.Cutting.{Cutting, blockExtents, FewBlocks}
 use Rattle.joiner.specs.Job.{Curve}
 use Rattle.joiner.specs.Job as joiner
+use Rattle.joiner.specs.Stages.{crossingStep}
 use Rattle.pass_cross.specs.Crossings.{crossEdges, Trays, Crossed}
 use Rattle.kind_numbers.specs.Numbered.{Numbered, anyCopied, anyCurves}
 use Rattle.job.specs.declared.Job.{Job}
@@ -22,8 +23,8 @@ edgesOf k table links b m = crossEdges (blockExtents k b) m 1 (root links) (entr
 
 -- What the tick and the joins require, of a job in which no tally changes.
 pub record JoinReady (k : Cutting) (ticks table faces curves : List ℕ) (b : ℕ) (m : List ℕ) : Type 0 where
-  pub within : 6 * b + 4 < length ticks
-  pub few : intervals (k .cx) * intervals (k .cy) * intervals (k .cz) ≤ 16384
+  pub within : crossingStep b < length ticks
+  pub few : FewBlocks (k .cx) (k .cy) (k .cz)
   pub trays : Trays (blockExtents k b) m 1 faces (entryOf table b .«face_from») curves (entryOf table b .«curve_from»)
 
 pub record TalliesFit (j : joiner.Job) : Type 0 where
@@ -31,7 +32,7 @@ pub record TalliesFit (j : joiner.Job) : Type 0 where
 
 -- The step is ticked and the block's curves are joined.
 pub record CurvesJoined (j : Job) (cx cy cz ticks ticks′ table faces faces′ curves curves′ : List ℕ) (b : ℕ) (m : List ℕ) (r : Job) : Type 0 where
-  pub moved : Advanced j cx cy cz ticks ticks′ (6 * b + 4) 0 0 0 r
+  pub moved : Advanced j cx cy cz ticks ticks′ (crossingStep b) 0 0 0 r
   pub crossed : Crossed faces faces′ curves curves′ (edgesOf (toldOf j cx cy cz .cutting) table faces b m)
 
 -- n components of a kind with rows of w places have room in tables of these lengths.

@@ -10,7 +10,7 @@ use Rattle.refusals.specs.Refusals.{off-size, bad-cut, wrong-stage, no-such-pla
 use Rattle.cells.specs.Extents.{offSize}
 use Rattle.cells.specs.Grid.{cells}
 use Rattle.cutting.specs.Cutting.{Cutting, blocks, blockExtents, goodCut}
-use Rattle.joiner.specs.Job.{Face, Told, Tables, State, Tray, tray, countOf, fromOf, lengthsFit, numberTrays}
+use Rattle.joiner.specs.Job.{Face, Told, Tables, State, Tray, tray, countOf, fromOf, lengthsFit, numberTrays, numbersPerBlock}
 use Rattle.joiner.specs.Declines.{talliesFit, mapStands, numberStands}
 use Rattle.joiner.specs.Entries.{allTrays}
 use Rattle.totals.specs.Totals.{bothStand}
@@ -37,7 +37,7 @@ hasCome w b = not (eqb (getD (w .came) b 0) 0)
 
 -- 6: each call is lent the tables that it reads or writes, and no other.
 abbrev pub lentFor : Told → Tables → TotalTables → StrainCall → List Tray
-lentFor o t w (strain b m values kinds) = tray (length (t .blocks)) (5 * blocks (o .cutting)) ∷ (numberTrays o t Face ++ totalTrays o w)
+lentFor o t w (strain b m values kinds) = tray (length (t .blocks)) (numbersPerBlock * blocks (o .cutting)) ∷ (numberTrays o t Face ++ totalTrays o w)
 lentFor o t w (total n) = totalTrays o w
 
 -- "8 now covers a total read with counts above the volume's cells, or a sum beyond 2^43 or no such multiple": either side of face n.

@@ -13,7 +13,7 @@ use Rattle.cells.specs.Grid.{order, upperNeighbours}
 use Rattle.cells.specs.Row.{sameRow}
 use Rattle.labels.specs.Components.{ofOrder}
 use Rattle.cutting.specs.Cutting.{Cutting, blockExtents, embed}
-use Rattle.joiner.specs.Job.{Kind, Face, Curve, Point, orderOf, width, Enrol, Points, Closed, sameStage, Told, Job, Tables, State, ticked, node, keyOf, firstAt}
+use Rattle.joiner.specs.Job.{Kind, Face, Curve, Point, orderOf, width, Enrol, Points, Closed, sameStage, Told, Job, Tables, State, ticked, node, keyOf, firstAt, numbersPerBlock}
 use Rattle.joiner.specs.Stages.{products, shared, enrolStep, seamStep, crossingStep, pointStep, nextAfter}
 use Rattle.joiner.specs.Calls.{Call, enrol, join, cross, point, look, reading, Answer, answer}
 use Rattle.joiner.specs.Declines.{finalRow, pointCells, adds, refusal}
@@ -91,7 +91,7 @@ unfoldable pub enrolTables : State → ℕ → List ℕ → Tables
 enrolTables s b m =
     record {
       ticks = set (s .tables .ticks) (enrolStep b) 1;
-      blocks = overlay (s .tables .blocks) (5 * b) (blockEntry s b m) 5;
+      blocks = overlay (s .tables .blocks) (numbersPerBlock * b) (blockEntry s b m) numbersPerBlock;
       links = λ κ. overlay (s .tables .links κ) (s .job .sofar κ) (λ i. 0) (adds s (enrol b m) κ);
       keys = λ κ. overlay (s .tables .keys κ) (s .job .sofar κ) (λ i. enrolledKey (s .job .told .cutting) b m κ (suc i)) (adds s (enrol b m) κ);
       rows = λ κ. overlay (s .tables .rows κ) (width κ * s .job .sofar κ)

@@ -6,7 +6,7 @@ use lib.ListN.{take}
 use Rattle.lists.specs.Lists.{consecutive, tabulate}
 use Rattle.labels.specs.Number.{labels}
 use Rattle.cutting.specs.Cutting.{Cutting, blocks, blockExtents, blockCodes}
-use Rattle.joiner.specs.Job.{Kind, Face, Curve, Point, width, Stage, Told, Tables, State}
+use Rattle.joiner.specs.Job.{Kind, Face, Curve, Point, width, Stage, Told, Tables, State, numbersPerBlock, ticksPerBlock}
 use Rattle.joiner.specs.Stages.{seams}
 use Rattle.joiner.specs.Calls.{Call, enrol, join, cross, point}
 use Rattle.joiner.specs.Statement.{Entry}
@@ -25,8 +25,8 @@ written s (c ∷ cs) = record { call = c; answer = answerOf s c; after = after s
 unfoldable pub used : Told → Tables
 used o =
     record {
-      ticks = tabulate (6 * blocks (o .cutting)) (λ i. 7);
-      blocks = tabulate (5 * blocks (o .cutting)) (λ i. 7);
+      ticks = tabulate (ticksPerBlock * blocks (o .cutting)) (λ i. 7);
+      blocks = tabulate (numbersPerBlock * blocks (o .cutting)) (λ i. 7);
       links = λ κ. tabulate (o .entries κ) (λ i. 7);
       keys = λ κ. tabulate (o .entries κ) (λ i. 7);
       rows = λ κ. tabulate (width κ * o .entries κ) (λ i. 7);

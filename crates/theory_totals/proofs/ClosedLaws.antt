@@ -30,7 +30,7 @@ use Rattle.cutting.proofs.CutLaws.{embed-order}
 use Rattle.joiner.specs.Book.{Book, uncut}
 use Rattle.joiner.specs.Declines.{finalOf}
 use Rattle.joiner.specs.Entries.{cellNumber, lookedUp}
-use Rattle.joiner.specs.Job.{Face, Point, State, Told, Tables, stageNumber}
+use Rattle.joiner.specs.Job.{Face, Point, State, Told, Tables, stageNumber, Closed}
 use Rattle.joiner.specs.Stages.{hasCell, local, lowestBlock}
 use Rattle.joiner.specs.Statement.{Labelling}
 use Rattle.joiner.proofs.Codes.{has-held, lowest-has}
@@ -113,7 +113,7 @@ unfolding ownFace faceAt
 own-face e s g p t = rw t
 
 module _ (o : Told) (own : ℕ → List ℕ) (ext : offSize 1024 (o .cutting .extents) ≡ false) (good : goodCut (o .cutting) ≡ true)
-    (lab : (b : ℕ) → b < blocks (o .cutting) → Labelling (blockExtents (o .cutting) b) (own b)) (B : Book) (s : State) (S : Sim o own ext good lab B s) (four : stageNumber (B .stage) ≡ 4)
+    (lab : (b : ℕ) → b < blocks (o .cutting) → Labelling (blockExtents (o .cutting) b) (own b)) (B : Book) (s : State) (S : Sim o own ext good lab B s) (at-closed : stageNumber (B .stage) ≡ stageNumber Closed)
     (values : ℕ → List Float) (kinds : ℕ → List ℕ) where
   abbrev k : Cutting
   k = o .cutting
@@ -153,7 +153,7 @@ module _ (o : Told) (own : ℕ → List ℕ) (ext : offSize 1024 (o .cutting .ex
       final =
           sym (number-face k (s .tables) (s .job .numbered Point) b (own b) c p level)
           ∙ sym (ap (λ (z : Told). cellNumber (z .cutting) (s .tables) (s .job .numbered Point) b (own b) c (local (z .cutting) b c)) (S .inv .told))
-          ∙ cell-read o own good lab B s (S .inv) (omega (arith, four)) (finals-at o own ext good lab B s S four) b c (w .0) (w .1)
+          ∙ cell-read o own good lab B s (S .inv) (omega (arith, at-closed)) (finals-at o own ext good lab B s S at-closed) b c (w .0) (w .1)
           ∙ ap (λ (z : Told). getD (uncut B) (index (sides (z .cutting .extents)) c) 0) (S .inv .btold)
           ∙ ap (λ (x : ℕ). getD (uncut B) x 0) (index-place (sides (k .extents)) t)
 

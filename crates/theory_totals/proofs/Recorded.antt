@@ -22,7 +22,7 @@ use Rattle.labels.specs.Components.{component}
 use Rattle.cutting.specs.Cutting.{Cutting, blocks, goodCut, blockExtents}
 use Rattle.joiner.specs.Book.{Book, uncut}
 use Rattle.joiner.specs.Declines.{numberStands}
-use Rattle.joiner.specs.Job.{Face, State, Told, Tables, countOf, fromOf, lengthsFit, stageNumber}
+use Rattle.joiner.specs.Job.{Face, State, Told, Tables, countOf, fromOf, lengthsFit, stageNumber, Closed}
 use Rattle.joiner.specs.Statement.{Labelling}
 use Rattle.joiner.proofs.Linking.{number-stands}
 use Rattle.joiner.proofs.Simulation.{Sim, enrolled-block}
@@ -88,7 +88,7 @@ opened-empty o lent w s v P = subst (Emptied o) (sym (P .totals)) (zeroed-empty 
 -- The tables w hold what the blocks have brought that have come by the book R, in their order, added to the tables v that the opening left.
 pub record Recorded (o : Told) (own : ℕ → List ℕ) (v : TotalTables) (B : Book) (s : State) (R : ReadingBook) (w : TotalTables) : Type 0 where
   -- before the job is closed none have come
-  pub early : stageNumber (B .stage) ≢ 4 → R .came ≡ []
+  pub early : stageNumber (B .stage) ≢ stageNumber Closed → R .came ≡ []
   pub long : length (w .came) ≡ blocks (o .cutting)
   pub ticks : (b : ℕ) → hasCome w b ≡ isIn (R .came) b
   pub sums : w .sums ≡ sumsOver (o .cutting) (broughtTo (s .tables) own (R .values) (R .kinds)) (v .sums) (R .came)
@@ -102,7 +102,7 @@ pub record Recorded (o : Told) (own : ℕ → List ℕ) (v : TotalTables) (B : B
 
 module _ (o : Told) (own : ℕ → List ℕ) (ext : offSize 1024 (o .cutting .extents) ≡ false) (good : goodCut (o .cutting) ≡ true)
     (lab : (b : ℕ) → b < blocks (o .cutting) → Labelling (blockExtents (o .cutting) b) (own b)) (v : TotalTables) (Z : Emptied o v) (B : Book) (s : State) (S : Sim o own ext good lab B s)
-    (R : ReadingBook) (w : TotalTables) (Q : Recorded o own v B s R w) (four : stageNumber (B .stage) ≡ 4) where
+    (R : ReadingBook) (w : TotalTables) (Q : Recorded o own v B s R w) (at-closed : stageNumber (B .stage) ≡ stageNumber Closed) where
   abbrev k : Cutting
   k = o .cutting
 
@@ -151,7 +151,7 @@ module _ (o : Told) (own : ℕ → List ℕ) (ext : offSize 1024 (o .cutting .ex
       let at : (side : ℕ) → side ≤ 1 → standsAt (cells (k .extents)) (w .sums) (w .counts) (slotOf n side) ≡ true =
       λ side h.
       ap₂ (λ (x : List Float) (c : List ℕ). standsAt (cells (k .extents)) x c (slotOf n side)) (Q .sums) (Q .counts)
-      ∙ sides-stand o own ext good lab B s S four (R .values) (R .kinds) (R .came) rest come-and-rest (o .entries Face) (v .sums) (v .counts) (Z .sums-long) (Z .counts-long) (Z .no-sums) (Z .no-counts) readings-all n side hn h in
+      ∙ sides-stand o own ext good lab B s S at-closed (R .values) (R .kinds) (R .came) rest come-and-rest (o .entries Face) (v .sums) (v .counts) (Z .sums-long) (Z .counts-long) (Z .no-sums) (Z .no-counts) readings-all n side hn h in
       and-both (standsAt (cells (k .extents)) (w .sums) (w .counts) (slotOf n 0)) (standsAt (cells (k .extents)) (w .sums) (w .counts) (slotOf n 1)) (at 0 (omega arith)) (at 1 (omega arith))
 
   -- .. and not for the faces of a block
@@ -191,7 +191,7 @@ module _ (o : Told) (own : ℕ → List ℕ) (ext : offSize 1024 (o .cutting .ex
         on-side = sideReadings (k .extents) (uncut B) (readingFrom k (R .values) (R .kinds)) n side
 
         same-readings : taken ≡ on-side
-        same-readings = side-readings o own ext good lab B s S four (R .values) (R .kinds) n side hn hs
+        same-readings = side-readings o own ext good lab B s S at-closed (R .values) (R .kinds) n side hn hs
 
         slot-in : (slot < length (v .sums)) × (3 * slot + 2 < length (v .counts))
         unfolding slotOf
@@ -199,7 +199,7 @@ module _ (o : Told) (own : ℕ → List ℕ) (ext : offSize 1024 (o .cutting .ex
 
         -- how many readings a side has
         pub side-long : length on-side ≡ length (component (k .extents) (uncut B) 2 n)
-        side-long = sym (ap length same-readings) ∙ table-whole o own ext good lab B s S four (R .values) (R .kinds) n side hn hs
+        side-long = sym (ap length same-readings) ∙ table-whole o own ext good lab B s S at-closed (R .values) (R .kinds) n side hn hs
 
         taken-size : natAbs (unitsSum taken) < 2 ^ 53
         taken-size =
@@ -207,8 +207,8 @@ module _ (o : Told) (own : ℕ → List ℕ) (ext : offSize 1024 (o .cutting .ex
               arith,
               ap natAbs (+ℤ-idl (unitsSum taken)),
               size-summed (pos 0) taken (readings-all slot),
-              table-whole o own ext good lab B s S four (R .values) (R .kinds) n side hn hs,
-              few o own ext good lab B s S four (R .values) (R .kinds) n,
+              table-whole o own ext good lab B s S at-closed (R .values) (R .kinds) n side hn hs,
+              few o own ext good lab B s S at-closed (R .values) (R .kinds) n,
             )
 
         -- .. and their sum is below the bound of exactness
@@ -219,14 +219,14 @@ module _ (o : Told) (own : ℕ → List ℕ) (ext : offSize 1024 (o .cutting .ex
         sum-is =
             ap (λ (x : Float). floatOf (unitsOf x))
             (ap (λ (l : List Float). getD l slot plusZero) (Q .sums)
-            ∙ table-exact o own ext good lab B s S four (R .values) (R .kinds) (R .came) came-all n side hn hs (v .sums) (slot-in .0) (Z .no-sums slot (slot-in .0)) (readings-all slot))
+            ∙ table-exact o own ext good lab B s S at-closed (R .values) (R .kinds) (R .came) came-all n side hn hs (v .sums) (slot-in .0) (Z .no-sums slot (slot-in .0)) (readings-all slot))
             ∙ ap floatOf (units-float (unitsSum taken) taken-size ∙ ap unitsSum same-readings)
 
         count-is : (j : ℕ) → j ≤ 2 → getD (w .counts) (3 * slot + j) 0 ≡ ofKind j on-side
         count-is j hj =
             let l : 3 * slot + j < length (v .counts) = omega (arith, slot-in .1) in
             ap (λ (l : List ℕ). getD l (3 * slot + j) 0) (Q .counts)
-            ∙ table-counted o own ext good lab B s S four (R .values) (R .kinds) (R .came) came-all n side hn hs j hj (v .counts) l (Z .no-counts (3 * slot + j) l)
+            ∙ table-counted o own ext good lab B s S at-closed (R .values) (R .kinds) (R .came) came-all n side hn hs j hj (v .counts) l (Z .no-counts (3 * slot + j) l)
             ∙ ap (ofKind j) same-readings
 
         side-is : givenSide (sideAt (w .sums) (w .counts) slot) ≡ sideTotals on-side

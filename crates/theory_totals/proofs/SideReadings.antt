@@ -28,7 +28,7 @@ use Rattle.cutting.proofs.RenameLaws.{keep-map}
 use Rattle.cutting.proofs.BlockLaws.{voxel-same, face-row}
 use Rattle.cutting.proofs.CutLaws.{embed-order, embed-up}
 use Rattle.joiner.specs.Book.{Book, uncut}
-use Rattle.joiner.specs.Job.{State, Told, stageNumber}
+use Rattle.joiner.specs.Job.{Closed, State, Told, stageNumber}
 use Rattle.joiner.specs.Stages.{codesOf, hasCell, local, lowestBlock}
 use Rattle.joiner.specs.Statement.{Labelling}
 use Rattle.joiner.proofs.Codes.{has-held, lowest-has}
@@ -166,7 +166,7 @@ module _ (k : Cutting) (good : goodCut k ≡ true) (codes : List ℕ) (b : ℕ) 
 -- ---- a closed job
 
 module _ (o : Told) (own : ℕ → List ℕ) (ext : offSize 1024 (o .cutting .extents) ≡ false) (good : goodCut (o .cutting) ≡ true)
-    (lab : (b : ℕ) → b < blocks (o .cutting) → Labelling (blockExtents (o .cutting) b) (own b)) (B : Book) (s : State) (S : Sim o own ext good lab B s) (four : stageNumber (B .stage) ≡ 4)
+    (lab : (b : ℕ) → b < blocks (o .cutting) → Labelling (blockExtents (o .cutting) b) (own b)) (B : Book) (s : State) (S : Sim o own ext good lab B s) (at-closed : stageNumber (B .stage) ≡ stageNumber Closed)
     (values : ℕ → List Float) (kinds : ℕ → List ℕ) (n side : ℕ) (hn : 0 < n) (hs : side ≤ 1) where
   abbrev k : Cutting
   k = o .cutting
@@ -209,15 +209,15 @@ module _ (o : Told) (own : ℕ → List ℕ) (ext : offSize 1024 (o .cutting .ex
         map-alike (λ q. readingAt (values b) (kinds b) (voxel (blockExtents k b) q)) (λ q. readingFrom k values kinds t (embed k b q)) (onSide (blockExtents k b) (own b) side p)
         (λ q i. ap (λ (x : ℕ). readingAt (values b) (kinds b) (voxel (blockExtents k b) x)) (sym (embed-local k good b (w .0) q (beside (blockExtents k b) (own b) side p q (h .0) i))))
         ∙ sym (map-map (readingFrom k values kinds t) (embed k b) (onSide (blockExtents k b) (own b) side p))
-        ∙ ap (λ (m : List ℕ). map (readingFrom k values kinds t) (map (embed k b) (onSide (blockExtents k b) m side p))) (part-is o own good lab B s (S .inv) (omega (arith, four)) b (w .0))
+        ∙ ap (λ (m : List ℕ). map (readingFrom k values kinds t) (map (embed k b) (onSide (blockExtents k b) m side p))) (part-is o own good lab B s (S .inv) (omega (arith, at-closed)) b (w .0))
         ∙ ap (map (readingFrom k values kinds t)) (sym (on-side-embed k good codes b (w .0) p (h .0) cell-level side))
-        ∙ ap₂ (λ (m : List ℕ) (x : ℕ). map (readingFrom k values kinds t) (onSide (k .extents) m side x)) (sym (uncut-is o own good lab B s (S .inv) (omega (arith, four)))) is
+        ∙ ap₂ (λ (m : List ℕ) (x : ℕ). map (readingFrom k values kinds t) (onSide (k .extents) m side x)) (sym (uncut-is o own good lab B s (S .inv) (omega (arith, at-closed)))) is
 
     -- what is taken at the cell for a side of face n
     at-cell : readingsFor (slotOf n side) (takenAt k g t) ≡ cond (eqb (getD (uncut B) t 0) n) (cell-readings t) []
     unfolding takenAt
     at-cell =
-        let Z : Shows k g (uncut B) t = closed-shows o own ext good lab B s S four values kinds t ht ot in
+        let Z : Shows k g (uncut B) t = closed-shows o own ext good lab B s S at-closed values kinds t ht ot in
         let N : ℕ = getD (uncut B) t 0 in
         by-test (eqb N 0)
         (λ z.

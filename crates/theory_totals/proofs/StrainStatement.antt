@@ -17,7 +17,7 @@ use Rattle.joiner.specs.Book.{Book, accepts, begun, bookAfter, turned}
 use Rattle.joiner.specs.Calls.{Answer, Call, cross, enrol, join, look, point, reading, stageOf}
 use Rattle.joiner.specs.Declines.{refusal}
 use Rattle.joiner.specs.Entries.{CallStep, Done}
-use Rattle.joiner.specs.Job.{State, Tables, Told, stageNumber}
+use Rattle.joiner.specs.Job.{Closed, State, Tables, Told, stageNumber}
 use Rattle.joiner.specs.Statement.{Brings, Entry, Fair, Labelling, Measured}
 use Rattle.joiner.proofs.Simulation.{Sim, OneCall, book-stage, one-call}
 use Rattle.joiner.proofs.Statement3.{begun-sim, opened-passed, statement3}
@@ -72,8 +72,8 @@ module _ (k : Cutting) (g g′ : ℕ → Brought) where
   counts-none counts bs z = ap (countsOver k g counts) z ∙ sym (ap (countsOver k g′ counts) z)
 
 -- a call to a closed job changes nothing
-still-book : (B : Book) (c : Call) → stageNumber (stageOf c) ≡ 4 → bookAfter B c ≡ B
-unfolding stageNumber bookAfter
+still-book : (B : Book) (c : Call) → stageNumber (stageOf c) ≡ stageNumber Closed → bookAfter B c ≡ B
+unfolding bookAfter
 still-book B (enrol b m) h = absurd (omega arith)
 still-book B (join b c m n) h = absurd (omega arith)
 still-book B (cross b m) h = absurd (omega arith)
@@ -81,8 +81,7 @@ still-book B (point b m) h = absurd (omega arith)
 still-book B (look b m c) h = refl
 still-book B (reading κ n) h = refl
 
-still-state : (s t : State) (c : Call) (a : Answer) → stageNumber (stageOf c) ≡ 4 → Done s c a t → t ≡ s
-unfolding stageNumber
+still-state : (s t : State) (c : Call) (a : Answer) → stageNumber (stageOf c) ≡ stageNumber Closed → Done s c a t → t ≡ s
 still-state s t (enrol b m) a h D = absurd (omega arith)
 still-state s t (join b c m n) a h D = absurd (omega arith)
 still-state s t (cross b m) a h D = absurd (omega arith)
@@ -113,27 +112,27 @@ module _ (o : Told) (own : ℕ → List ℕ) (ext : offSize 1024 (o .cutting .ex
     abbrev K : OneCall o own ext good lab B s S e
     K = one-call o own ext good lab B s S e P fair
 
-    four-of : stageNumber (B .stage) ≡ 4 → refusal s (e .call) ≡ 0 → stageNumber (stageOf (e .call)) ≡ 4
-    four-of h r = sym (ap stageNumber (book-stage o own ext good lab B s S (e .call) r)) ∙ h
+    call-closed : stageNumber (B .stage) ≡ stageNumber Closed → refusal s (e .call) ≡ 0 → stageNumber (stageOf (e .call)) ≡ stageNumber Closed
+    call-closed h r = sym (ap stageNumber (book-stage o own ext good lab B s S (e .call) r)) ∙ h
 
-    book-still : stageNumber (B .stage) ≡ 4 → turned B (e .call) ≡ B
+    book-still : stageNumber (B .stage) ≡ stageNumber Closed → turned B (e .call) ≡ B
     unfolding turned
     book-still h =
         picked (λ (X : Book). X ≡ B) (accepts B (e .call)) (bookAfter B (e .call)) B
-        (λ t. still-book B (e .call) (four-of h (sym (P .told) ∙ K .agrees .judged .1 t))) (λ t. refl)
+        (λ t. still-book B (e .call) (call-closed h (sym (P .told) ∙ K .agrees .judged .1 t))) (λ t. refl)
 
-    state-still : stageNumber (B .stage) ≡ 4 → e .after ≡ s
+    state-still : stageNumber (B .stage) ≡ stageNumber Closed → e .after ≡ s
     state-still h =
         by-test (eqb (refusal s (e .call)) 0)
-        (λ t. let r = eqb-true _ _ t in still-state s (e .after) (e .call) (e .answer) (four-of h r) (P .accepted r))
+        (λ t. let r = eqb-true _ _ t in still-state s (e .after) (e .call) (e .answer) (call-closed h r) (P .accepted r))
         (λ t. P .declined (eqb-false _ _ t) .1)
 
     -- A call of statement 3 leaves the readings as they are.
     pub base-recorded : (R : ReadingBook) (w : TotalTables) → Recorded o own v B s R w → Recorded o own v (turned B (e .call)) (e .after) R w
     base-recorded R w Q =
-        by-test (eqb (stageNumber (B .stage)) 4)
+        by-test (eqb (stageNumber (B .stage)) (stageNumber Closed))
         (λ t.
-        let h : stageNumber (B .stage) ≡ 4 = eqb-true _ _ t in
+        let h : stageNumber (B .stage) ≡ stageNumber Closed = eqb-true _ _ t in
         subst (λ (X : Book). Recorded o own v X (e .after) R w) (sym (book-still h)) (subst (λ (x : State). Recorded o own v B x R w) (sym (state-still h)) Q))
         (λ t. none-over B (turned B (e .call)) s (e .after) R w Q (Q .early (eqb-false _ _ t)))
 

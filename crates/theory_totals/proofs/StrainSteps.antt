@@ -21,7 +21,7 @@ use Rattle.cells.specs.Grid.{cells}
 use Rattle.cutting.specs.Cutting.{Cutting, blocks, goodCut, blockExtents}
 use Rattle.joiner.specs.Book.{Book, uncutCount}
 use Rattle.joiner.specs.Declines.{mapStands, talliesFit}
-use Rattle.joiner.specs.Job.{Closed, Face, Stage, State, Told, fromOf, lengthsFit, numberTrays, sameStage, stageNumber, tray}
+use Rattle.joiner.specs.Job.{Closed, Face, Stage, State, Told, fromOf, lengthsFit, numberTrays, numbersPerBlock, sameStage, stageNumber, tray}
 use Rattle.joiner.specs.Statement.{Labelling}
 use Rattle.joiner.proofs.Accepted.{tick-at}
 use Rattle.joiner.proofs.Inv.{Inv, and-so, fit, own-of, tallies-fit}
@@ -49,10 +49,10 @@ use Rattle.theory_totals.proofs.Recorded.{Emptied, Recorded, totals-sta
 -- ---- small laws
 
 -- both calls go to a closed job
-pub stage-four : (k : Cutting) (x : Stage) (come : ℕ → Bool) (c : StrainCall) → inStage k x come c ≡ true → stageNumber x ≡ 4
-unfolding sameStage stageNumber
-stage-four k x come (strain b m values kinds) t = eqb-true (stageNumber x) 4 t
-stage-four k x come (total n) t = eqb-true (stageNumber x) 4 (and-first (eqb (stageNumber x) 4) (allCome k come) t)
+pub stage-closed : (k : Cutting) (x : Stage) (come : ℕ → Bool) (c : StrainCall) → inStage k x come c ≡ true → stageNumber x ≡ stageNumber Closed
+unfolding sameStage
+stage-closed k x come (strain b m values kinds) t = eqb-true (stageNumber x) (stageNumber Closed) t
+stage-closed k x come (total n) t = eqb-true (stageNumber x) (stageNumber Closed) (and-first (eqb (stageNumber x) (stageNumber Closed)) (allCome k come) t)
 
 -- the entries of a list and one more
 in-last : (l : List ℕ) (b i : ℕ) → isIn (l ++ (b ∷ [])) i ≡ (eqb b i || isIn l i)
@@ -86,7 +86,7 @@ module _ (o : Told) (own : ℕ → List ℕ) (ext : offSize 1024 (o .cutting .ex
   stage-same (total n) =
       ap₂ (λ (x : Stage) (t : Bool). sameStage x Closed && t) (I .stage) (ap (λ (z : Told). allCome (z .cutting) (hasCome w)) alike ∙ all-same (hasCome w) (isIn (R .came)) (consecutive 0 (blocks (B .told .cutting))) (Q .ticks))
 
-  place-same : stageNumber (B .stage) ≡ 4 → (c : StrainCall) → hasPlace (s .job .told .cutting) (s .job .numbered Face) c ≡ hasPlace (B .told .cutting) (uncutCount B Face) c
+  place-same : stageNumber (B .stage) ≡ stageNumber Closed → (c : StrainCall) → hasPlace (s .job .told .cutting) (s .job .numbered Face) c ≡ hasPlace (B .told .cutting) (uncutCount B Face) c
   place-same h (strain b m values kinds) = ap (λ (z : Told). ltb b (blocks (z .cutting))) alike
   place-same h (total n) = ap (λ (x : ℕ). ltb 0 n && leb n x) (total-at o own ext good lab B s S h Face)
 
@@ -107,17 +107,17 @@ module _ (o : Told) (own : ℕ → List ℕ) (ext : offSize 1024 (o .cutting .ex
   lent-fits : (c : StrainCall) → lengthsFit (lentFor o (s .tables) w c) ≡ true
   lent-fits (strain b m values kinds) = one-more
     where
-      one-more : lengthsFit (tray (length (s .tables .blocks)) (5 * blocks (o .cutting)) ∷ (numberTrays o (s .tables) Face ++ totalTrays o w)) ≡ true
+      one-more : lengthsFit (tray (length (s .tables .blocks)) (numbersPerBlock * blocks (o .cutting)) ∷ (numberTrays o (s .tables) Face ++ totalTrays o w)) ≡ true
       one-more =
           unfold lengthsFit in
-          and-both (eqb (length (s .tables .blocks)) (5 * blocks (o .cutting))) (lengthsFit (numberTrays o (s .tables) Face ++ totalTrays o w)) (eq-eqb _ _ (I .sizes .blocks-long))
+          and-both (eqb (length (s .tables .blocks)) (numbersPerBlock * blocks (o .cutting))) (lengthsFit (numberTrays o (s .tables) Face ++ totalTrays o w)) (eq-eqb _ _ (I .sizes .blocks-long))
           (fits-both (numberTrays o (s .tables) Face) (totalTrays o w) (numbers-fit o (s .tables) (I .sizes) Face) totals-fit)
   lent-fits (total n) = totals-fit
 
   module _ (c : StrainCall) where
     -- the stage, where 3 is not given
-    closed-of : not (inStage (s .job .told .cutting) (s .job .stage) (hasCome w) c) ≡ false → stageNumber (B .stage) ≡ 4
-    closed-of t = ap stageNumber (sym (I .stage)) ∙ stage-four (s .job .told .cutting) (s .job .stage) (hasCome w) c (not-false _ t)
+    closed-of : not (inStage (s .job .told .cutting) (s .job .stage) (hasCome w) c) ≡ false → stageNumber (B .stage) ≡ stageNumber Closed
+    closed-of t = ap stageNumber (sym (I .stage)) ∙ stage-closed (s .job .told .cutting) (s .job .stage) (hasCome w) c (not-false _ t)
 
     alongside : Alongside (standsIn (strainDeclines s w c)) (standsIn (strainBookDeclines B R c))
     unfolding strainDeclines strainBookDeclines standsIn number
@@ -159,15 +159,15 @@ module _ (o : Told) (own : ℕ → List ℕ) (ext : offSize 1024 (o .cutting .ex
   -- ---- maps, and 8
 
   -- a call with its block's own map brings what the book takes for it, and back
-  brings-map : stageNumber (B .stage) ≡ 4 → (c : StrainCall) → hasPlace k (s .job .numbered Face) c ≡ true → StrainBrings own c → bringsMap B c ≡ true
+  brings-map : stageNumber (B .stage) ≡ stageNumber Closed → (c : StrainCall) → hasPlace k (s .job .numbered Face) c ≡ true → StrainBrings own c → bringsMap B c ≡ true
   brings-map h (strain b m values kinds) p e = maps-at o own ext good lab B s S b (ltb-true b (blocks k) p) (omega arith) m e
   brings-map h (total n) p e = refl
 
-  brings-own : stageNumber (B .stage) ≡ 4 → (c : StrainCall) → hasPlace k (s .job .numbered Face) c ≡ true → bringsMap B c ≡ true → StrainBrings own c
+  brings-own : stageNumber (B .stage) ≡ stageNumber Closed → (c : StrainCall) → hasPlace k (s .job .numbered Face) c ≡ true → bringsMap B c ≡ true → StrainBrings own c
   brings-own h (strain b m values kinds) p e = own-of o own ext good lab B s I (omega arith) b (ltb-true b (blocks k) p) m e
   brings-own h (total n) p e = tt
 
-  all-stands : (h : stageNumber (B .stage) ≡ 4) (c : StrainCall) → hasPlace k (s .job .numbered Face) c ≡ true → StrainBrings own c → strainStands s w c ≡ true
+  all-stands : (h : stageNumber (B .stage) ≡ stageNumber Closed) (c : StrainCall) → hasPlace k (s .job .numbered Face) c ≡ true → StrainBrings own c → strainStands s w c ≡ true
   all-stands h (strain b m values kinds) p e =
       and-both (mapStands s (blockExtents (s .job .told .cutting) b) b m) (facesStand s w b)
       (fit o own ext good lab B s I b m (ltb-true b (blocks k) p) (omega arith) (brings-map h (strain b m values kinds) p e))
@@ -181,12 +181,12 @@ module _ (o : Told) (own : ℕ → List ℕ) (ext : offSize 1024 (o .cutting .ex
     placed-of : not (hasPlace (s .job .told .cutting) (s .job .numbered Face) c) ≡ false → hasPlace k (s .job .numbered Face) c ≡ true
     placed-of t = ap (λ (z : Told). hasPlace (z .cutting) (s .job .numbered Face) c) (sym (I .told)) ∙ not-false _ t
 
-    refused-by : (stageNumber (B .stage) ≡ 4 → hasPlace k (s .job .numbered Face) c ≡ true → StrainBrings own c) → strainRefusal s w c ≡ strainBookRefusal B R c
+    refused-by : (stageNumber (B .stage) ≡ stageNumber Closed → hasPlace k (s .job .numbered Face) c ≡ true → StrainBrings own c) → strainRefusal s w c ≡ strainBookRefusal B R c
     unfolding strainRefusal strainBookRefusal strainDeclines strainBookDeclines standsIn number
     refused-by e =
         given-agree (standsIn (strainDeclines s w c)) (standsIn (strainBookDeclines B R c)) (alongside c) (bookish c)
         (λ a b.
-        let h : stageNumber (B .stage) ≡ 4 = closed-of c a in
+        let h : stageNumber (B .stage) ≡ stageNumber Closed = closed-of c a in
         let p : hasPlace k (s .job .numbered Face) c ≡ true = placed-of b in
         (ap not (and-both (talliesFit (s .job)) (strainStands s w c) (tallies-fit o own ext good lab B s I) (all-stands h c p (e h p))), refl, refl, refl))
 
@@ -199,7 +199,7 @@ module _ (o : Told) (own : ℕ → List ℕ) (ext : offSize 1024 (o .cutting .ex
     -- ---- what an accepted call passed
 
     pub record Passed : Type 0 where
-      pub closed : stageNumber (B .stage) ≡ 4
+      pub closed : stageNumber (B .stage) ≡ stageNumber Closed
       pub staged : inStage k (B .stage) (isIn (R .came)) c ≡ true
       pub placed : hasPlace k (s .job .numbered Face) c ≡ true
       pub fresh : again (isIn (R .came)) c ≡ false

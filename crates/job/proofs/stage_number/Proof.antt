@@ -1,6 +1,5 @@
 -- `job::stage_number` meets its contract.
 use borrow.Author.Needs.{needs}
-use Rattle.joiner.specs.Job.{stageNumber}
 use Rattle.job.proofs.stage_number.Statement.{statement}
 use Rattle.job.proofs.stage_number.Tie as tie
 
@@ -20,23 +19,18 @@ enum-told-5 : tie.Need-enum-told-5
 enum-told-5 c = search needs
 
 returns : tie.Need-returns
-unfolding stageNumber
 returns c = search needs
 
 returns-2 : tie.Need-returns-2
-unfolding stageNumber
 returns-2 c = search needs
 
 returns-3 : tie.Need-returns-3
-unfolding stageNumber
 returns-3 c = search needs
 
 returns-4 : tie.Need-returns-4
-unfolding stageNumber
 returns-4 c = search needs
 
 returns-5 : tie.Need-returns-5
-unfolding stageNumber
 returns-5 c = search needs
 
 pub stage-number-spec : {M : Type 1} → statement M
