@@ -1,5 +1,6 @@
 -- The proof of statement 3.
 pub mod Keys
+pub mod Kept
 pub mod Shared
 pub mod Rows
 pub mod RowBounds

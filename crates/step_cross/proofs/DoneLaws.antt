@@ -17,6 +17,7 @@ use Rattle.joiner.specs.Calls.{cross, answer}
 use Rattle.joiner.specs.Declines.{adds, lentTo, mapStands, refusal}
 use Rattle.joiner.specs.Entries.{CrossingDone, NumberedKind, CallStep, Merged, AtCrossing, Ticked, classOf, rowFinal}
 use Rattle.joiner.proofs.Passed.{is-stage, not-stage, Passed, passed, fits-at, tally-fits, faces-stand, curves-stand}
+use Rattle.joiner.proofs.Kept.{found-kept, numbers-kept}
 use Rattle.pass_cross.proofs.MergeLaws.{crossing-merged}
 use Rattle.kind_numbers.proofs.NumberedLaws.{numbered-kind}
 use Rattle.job.specs.declared.Job.{Job}
@@ -158,10 +159,10 @@ module _ (j : Job) (cx cy cz ticks ticks′ table fl fl′ cl cl′ fk ck fr cr 
     blocks = refl;
     faces = J .crossed .kept;
     curves = curves-merged;
-    found = λ κ. record { keys = refl; rows = refl };
+    found = λ κ. found-kept refl;
     last = λ p. absurd (not-stage (job.stageOf (q .stage)) Points (sym e ∙ not-true t n) p);
-    before = λ _. (record { numbered = tally-kept Face; numbers = refl; firsts = refl; listed = refl }, record { numbered = tally-kept Curve; numbers = refl; firsts = refl; listed = refl });
-    points = record { numbered = tally-kept Point; numbers = refl; firsts = refl; listed = refl };
+    before = λ _. (numbers-kept (tally-kept Face) refl, numbers-kept (tally-kept Curve) refl);
+    points = numbers-kept (tally-kept Point) refl;
   }
 
   -- the last
@@ -185,8 +186,8 @@ module _ (j : Job) (cx cy cz ticks ticks′ table fl fl′ cl cl′ fk ck fr cr 
           blocks = refl;
           faces = J .crossed .kept;
           curves = curves-merged;
-          found = λ κ. record { keys = refl; rows = refl };
+          found = λ κ. found-kept refl;
           last = λ _. (faces-numbered, curves-numbered);
           before = λ p. absurd (p (is-stage (job.stageOf (q .stage)) Points (sym e ∙ not-false t n)));
-          points = record { numbered = tally-kept Point; numbers = refl; firsts = refl; listed = refl };
+          points = numbers-kept (tally-kept Point) refl;
         }

@@ -23,6 +23,7 @@ use Rattle.joiner.specs.Calls.{enrol, answer, full, overfull}
 use Rattle.joiner.specs.Declines.{lentTo, adds, refusal}
 use Rattle.joiner.specs.Entries.{enrolledRow, EnrolDone, blockEntry, CallStep}
 use Rattle.joiner.proofs.Passed.{Passed, passed, fits-at}
+use Rattle.joiner.proofs.Kept.{found-kept, numbers-kept}
 use Rattle.blocks.specs.Blocks.{anyExtents, sizeOf, Tells}
 use Rattle.blocks.specs.declared.Block.{Block}
 use Rattle.pass_enrol.specs.Enrolment.{Lies, keyIn, Firsts}
@@ -200,8 +201,8 @@ module _ (j : Job) (cx cy cz tk bl fl cl fk ck fr cr : List ℕ) (b : ℕ) (m : 
           keys = enrolled-keys cut-of b r tells m Curve (j .curves) (p .curves) ck ck′ (C .keys-are) ∙ ap (overlay ck (j .curves) _) (R .plan .curves);
           rows = enrolled-curves cut-of b r tells (j .faces) m (j .curves) (p .curves) cr cr′ (C .rows-are) ∙ ap (λ (n : ℕ). overlay cr (4 * j .curves) (λ i. enrolledRow cut-of (j .faces) b m Curve (suc (i / 4)) (i % 4)) (4 * n)) (R .plan .curves);
         };
-        points = record { keys = refl; rows = refl };
-        numbers = λ κ. record { numbered = numbered-kept j cx cy cz tk tk′ (enrolStep b) (p .faces) (p .curves) 0 q A κ; numbers = refl; firsts = refl; listed = refl };
+        points = found-kept refl;
+        numbers = λ κ. numbers-kept (numbered-kept j cx cy cz tk tk′ (enrolStep b) (p .faces) (p .curves) 0 q A κ) refl;
       }
 
 -- ---- the ways of `enrol`

@@ -21,6 +21,7 @@ use Rattle.joiner.specs.Calls.{point, answer}
 use Rattle.joiner.specs.Declines.{adds, lentTo, pointCells, refusal}
 use Rattle.joiner.specs.Entries.{PointDone, CallStep, Ticked, rowFinal}
 use Rattle.joiner.proofs.Passed.{stage-same, Passed, passed, fits-at, tally-fits, points-room}
+use Rattle.joiner.proofs.Kept.{found-kept, numbers-kept}
 use Rattle.ranking.proofs.HeadLaws.{class-point}
 use Rattle.blocks.specs.Blocks.{Tells, sizeOf, anyExtents}
 use Rattle.blocks.specs.declared.Block.{Block}
@@ -164,8 +165,8 @@ module _ (j : Job) (cx cy cz ticks table curves keys rows numbers firsts listed 
             blocks = refl;
             face-links = refl;
             curve-links = refl;
-            faces = (record { keys = refl; rows = refl }, record { numbered = tally-kept Face; numbers = refl; firsts = refl; listed = refl });
-            curves = (record { keys = refl; rows = refl }, record { numbered = tally-kept Curve; numbers = refl; firsts = refl; listed = refl });
+            faces = (found-kept refl, numbers-kept (tally-kept Face) refl);
+            curves = (found-kept refl, numbers-kept (tally-kept Curve) refl);
             keys = found-keys k (before .tables) b m r tells refl from-is (j .points) keys keys′ K;
             rows = found-rows k (before .tables) b m r tells refl from-is (j .points) rows rows′ L;
             last = λ e. numbered-kind before (after (withNumbered next total)) Point (next .points) (C .last (is-closed _ e) (after (withNumbered next total) .tables) refl refl);

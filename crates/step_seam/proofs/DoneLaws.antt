@@ -23,6 +23,7 @@ use Rattle.joiner.specs.Entries.{SeamDone, CallStep, Merged, AtSeam}
 use Rattle.joiner.proofs.Shared.{seam-listed}
 use Rattle.joiner.proofs.SeamSteps.{axis-bound}
 use Rattle.joiner.proofs.Passed.{Passed, passed, fits-at, tally-fits, Standing, faces-stand, curves-stand}
+use Rattle.joiner.proofs.Kept.{found-kept, numbers-kept}
 use Rattle.pass_seam.specs.Walks.{layerEdges}
 use Rattle.pass_seam.proofs.SeamWalks.{seam-joined}
 use Rattle.blocks.specs.Blocks.{Tells, sizeOf}
@@ -131,8 +132,8 @@ module _ (j : Job) (cx cy cz ticks blocks′ faces curves : List ℕ) (b c : ℕ
             blocks = refl;
             faces = faces-merged faces′ curves′ L;
             curves = curves-merged faces′ curves′ L;
-            found = λ κ. record { keys = refl; rows = refl };
-            numbers = λ κ. record { numbered = numbered-kept j cx cy cz ticks ticks′ step 0 0 0 next T κ; numbers = refl; firsts = refl; listed = refl };
+            found = λ κ. found-kept refl;
+            numbers = λ κ. numbers-kept (numbered-kept j cx cy cz ticks ticks′ step 0 0 0 next T κ) refl;
           }
 
   -- ---- the entry

@@ -13,6 +13,7 @@ use Rattle.joiner.specs.Calls.{Call, enrol, join, cross, point, look, reading, 
 use Rattle.joiner.specs.Declines.{refusal, declines, stray, mapStands, waysStand, linksStand, allLinksStand, numberStands, curvesStand, handedStands, lookStands, counted, standing, rowsStand, lastCrossing, adds, finalOf, finalRow, pointCells}
 use Rattle.joiner.specs.Entries.{CallStep, Done, Ticked, EnrolDone, SeamDone, CrossingDone, PointDone, KeptFound, NumberedKind, Merged, AtSeam, AtCrossing, blockEntry, throughLinks, joinedRow, notAfter, classOf, isOne, leads, heads, rank, headOf, rowAt, finalFace, rowFinal, cellNumber, lookedUp, rowTaken}
 use Rattle.joiner.proofs.Roots.{together-map}
+use Rattle.joiner.proofs.Kept.{found-kept, numbers-kept}
 use Rattle.theory_frames.specs.Frames.{around}
 
 -- ---- what is refused
@@ -116,8 +117,8 @@ module _ (e o : Tables) (s t : State) where
         blocks = D .blocks;
         faces = record { links = D .faces .links; keys = D .faces .keys; rows = D .faces .rows };
         curves = record { links = D .curves .links; keys = D .curves .keys; rows = D .curves .rows };
-        points = record { keys = refl; rows = refl };
-        numbers = λ κ. record { numbered = D .numbers κ .numbered; numbers = refl; firsts = refl; listed = refl };
+        points = found-kept refl;
+        numbers = λ κ. numbers-kept (D .numbers κ .numbered) refl;
       }
 
   joined-same : (b c : ℕ) (m n : List ℕ) → SeamDone (around (join b c m n) e s) b c m n (around (join b c m n) e t)
@@ -128,8 +129,8 @@ module _ (e o : Tables) (s t : State) where
         blocks = D .blocks;
         faces = merged-same _ _ _ _ (seam-same e o s b c m n Face) (seam-same o e s b c m n Face) (D .faces);
         curves = merged-same _ _ _ _ (seam-same e o s b c m n Curve) (seam-same o e s b c m n Curve) (D .curves);
-        found = λ κ. record { keys = refl; rows = refl };
-        numbers = λ κ. record { numbered = D .numbers κ .numbered; numbers = refl; firsts = refl; listed = refl };
+        found = λ κ. found-kept refl;
+        numbers = λ κ. numbers-kept (D .numbers κ .numbered) refl;
       }
 
   numbered-same : (c : Call) (κ : Kind) (n : ℕ) → Numbers c κ → NumberedKind (around c e s) (around c e t) κ n → NumberedKind (around c o s) (around c o t) κ n
@@ -142,7 +143,7 @@ module _ (e o : Tables) (s t : State) where
       → (κ : Kind) → KeptFound (around (cross b m) o s) (around (cross b m) o t) κ
   found-same b m K Face = record { keys = K Face .keys; rows = K Face .rows }
   found-same b m K Curve = record { keys = K Curve .keys; rows = K Curve .rows }
-  found-same b m K Point = record { keys = refl; rows = refl }
+  found-same b m K Point = found-kept refl
 
   crossed-same : (b : ℕ) (m : List ℕ) → CrossingDone (around (cross b m) e s) b m (around (cross b m) e t) → CrossingDone (around (cross b m) o s) b m (around (cross b m) o t)
   crossed-same b m D =
@@ -157,7 +158,7 @@ module _ (e o : Tables) (s t : State) where
           record { numbered = K .0 .numbered; numbers = K .0 .numbers; firsts = K .0 .firsts; listed = K .0 .listed },
           record { numbered = K .1 .numbered; numbers = K .1 .numbers; firsts = K .1 .firsts; listed = K .1 .listed },
         );
-        points = record { numbered = D .points .numbered; numbers = refl; firsts = refl; listed = refl };
+        points = numbers-kept (D .points .numbered) refl;
       }
 
   pointed-same : (b : ℕ) (m : List ℕ) → PointDone (around (point b m) e s) b m (around (point b m) e t) → PointDone (around (point b m) o s) b m (around (point b m) o t)
@@ -168,8 +169,8 @@ module _ (e o : Tables) (s t : State) where
         blocks = D .blocks;
         face-links = refl;
         curve-links = refl;
-        faces = (record { keys = refl; rows = refl }, record { numbered = D .faces .1 .numbered; numbers = refl; firsts = refl; listed = refl });
-        curves = (record { keys = refl; rows = refl }, record { numbered = D .curves .1 .numbered; numbers = D .curves .1 .numbers; firsts = refl; listed = refl });
+        faces = (found-kept refl, numbers-kept (D .faces .1 .numbered) refl);
+        curves = (found-kept refl, record { numbered = D .curves .1 .numbered; numbers = D .curves .1 .numbers; firsts = refl; listed = refl });
         keys = D .keys;
         rows = D .rows;
         last = λ p. numbered-same (point b m) Point _ points (D .last p);

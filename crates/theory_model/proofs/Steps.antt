@@ -24,6 +24,7 @@ use Rattle.labels.proofs.ComponentLaws.{of-order-out}
 use Rattle.cutting.proofs.CutLaws.{embed-order}
 use Rattle.joiner.proofs.Shared.{seam-listed, shared-out}
 use Rattle.joiner.proofs.Passed.{stage-same, Passed, Standing, curves-stand, faces-stand, passed, fits-at, node-in, points-room, tally-fits}
+use Rattle.joiner.proofs.Kept.{found-kept, numbers-kept}
 use Rattle.theory_model.specs.Model.{after, answerOf, cleared, crossEdges, crossLast, crossTables, crossed, enrolTables, freshJob, acceptedAnswer, instead, acceptedState, moved, numberKind, openedState, pointLast, pointTables, pointed, relinked, seamEdges, seamTables}
 use Rattle.theory_model.proofs.Merging.{relinked-merged}
 use Rattle.theory_model.proofs.Edges.{cross-edges-in, cross-edges-out, seam-edges-in, seam-edges-out}
@@ -38,8 +39,8 @@ enrol-done s b m = record {
   blocks = refl;
   faces = record { links = refl; keys = refl; rows = refl };
   curves = record { links = refl; keys = refl; rows = refl };
-  points = record { keys = refl; rows = refl };
-  numbers = λ κ. record { numbered = refl; numbers = refl; firsts = refl; listed = refl };
+  points = found-kept refl;
+  numbers = λ κ. numbers-kept refl refl;
 }
 
 -- ---- seam
@@ -85,8 +86,8 @@ module _ (s : State) (b c : ℕ) (m n : List ℕ) (F : Passed s (join b c m n)) 
         blocks = refl;
         faces = seam-merged Face (faces-stand s _ b m h) (faces-stand s _ c n i) (omega (arith, face-links-long, tally-fits (s .job) (F .tallies) Face));
         curves = seam-merged Curve (curves-stand s _ b m h) (curves-stand s _ c n i) (omega (arith, curve-links-long, tally-fits (s .job) (F .tallies) Curve));
-        found = λ κ. record { keys = refl; rows = refl };
-        numbers = λ κ. record { numbered = refl; numbers = refl; firsts = refl; listed = refl };
+        found = λ κ. found-kept refl;
+        numbers = λ κ. numbers-kept refl refl;
       }
 
 -- ---- the last of a stage
@@ -162,10 +163,10 @@ module _ (s : State) (b : ℕ) (m : List ℕ) (F : Passed s (cross b m)) where
     blocks = refl;
     faces = rooted-refl (s .tables .links Face);
     curves = cross-merged;
-    found = λ κ. record { keys = refl; rows = refl };
+    found = λ κ. found-kept refl;
     last = λ _. (faces-numbered, curves-numbered);
     before = λ q. absurd (q (is-stage stage₂ Points e));
-    points = record { numbered = refl; numbers = refl; firsts = refl; listed = refl };
+    points = numbers-kept refl refl;
   }
 
   cross-before : sameStage stage₂ Points ≡ false → CrossingDone s b m (moved s (cross b m) (crossTables s b m) (s .job .numbered))
@@ -175,10 +176,10 @@ module _ (s : State) (b : ℕ) (m : List ℕ) (F : Passed s (cross b m)) where
     blocks = refl;
     faces = rooted-refl (s .tables .links Face);
     curves = cross-merged;
-    found = λ κ. record { keys = refl; rows = refl };
+    found = λ κ. found-kept refl;
     last = λ q. absurd (not-stage stage₂ Points e q);
-    before = λ _. (record { numbered = refl; numbers = refl; firsts = refl; listed = refl }, record { numbered = refl; numbers = refl; firsts = refl; listed = refl });
-    points = record { numbered = refl; numbers = refl; firsts = refl; listed = refl };
+    before = λ _. (numbers-kept refl refl, numbers-kept refl refl);
+    points = numbers-kept refl refl;
   }
 
   cross-done : CrossingDone s b m (acceptedState s (cross b m))
@@ -215,8 +216,8 @@ module _ (s : State) (b : ℕ) (m : List ℕ) (F : Passed s (point b m)) where
     blocks = refl;
     face-links = refl;
     curve-links = refl;
-    faces = (record { keys = refl; rows = refl }, record { numbered = refl; numbers = refl; firsts = refl; listed = refl });
-    curves = (record { keys = refl; rows = refl }, record { numbered = refl; numbers = refl; firsts = refl; listed = refl });
+    faces = (found-kept refl, numbers-kept refl refl);
+    curves = (found-kept refl, numbers-kept refl refl);
     keys = refl;
     rows = refl;
     last = λ _. points-numbered;
@@ -230,12 +231,12 @@ module _ (s : State) (b : ℕ) (m : List ℕ) (F : Passed s (point b m)) where
     blocks = refl;
     face-links = refl;
     curve-links = refl;
-    faces = (record { keys = refl; rows = refl }, record { numbered = refl; numbers = refl; firsts = refl; listed = refl });
-    curves = (record { keys = refl; rows = refl }, record { numbered = refl; numbers = refl; firsts = refl; listed = refl });
+    faces = (found-kept refl, numbers-kept refl refl);
+    curves = (found-kept refl, numbers-kept refl refl);
     keys = refl;
     rows = refl;
     last = λ q. absurd (not-stage stage₃ Closed e q);
-    before = λ _. record { numbered = refl; numbers = refl; firsts = refl; listed = refl };
+    before = λ _. numbers-kept refl refl;
   }
 
   point-done : PointDone s b m (acceptedState s (point b m))
