@@ -1,4 +1,4 @@
--- Once allOf seams are joined, and for curves allOf crossings, two enrolled components have one root exactly when they are one in the uncut volume.
+-- Once all seams are joined, and for curves all crossings, two enrolled components have one root exactly when they are one in the uncut volume.
 -- Assumes nothing.
 use mathlib.Core.Bool.{true}
 use mathlib.Core.List.{List, List·Memᴰ, List·Memᴰ·append-cases, _++_}
@@ -53,7 +53,7 @@ pub record NodeAt (k : Cutting) (codes : List ℕ) (t : Tables) (κ : Kind) (x :
   pub most : m ≤ largest (blockExtents k b) (part k codes b) (orderOf κ)
   pub is : x ≡ node t κ b m
 
--- What the tables hold of n enrolled components of allOf blocks of a volume.
+-- What the tables hold of n enrolled components of all blocks of a volume.
 pub record Layout (k : Cutting) (codes : List ℕ) (t : Tables) (κ : Kind) (n : ℕ) : Type 0 where
   pub inside : (b m : ℕ) → b < blocks k → 0 < m → m ≤ largest (blockExtents k b) (part k codes b) (orderOf κ) → node t κ b m < n
   pub cover : (x : ℕ) → x < n → NodeAt k codes t κ x

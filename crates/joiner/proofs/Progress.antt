@@ -152,7 +152,7 @@ progress-start k = record { past = λ i m. absurd (List·Memᴰ·not-nil m); all
     nothing : allOf (isIn []) (stepsOf k Enrol) ≡ true → ⊥
     nothing t = let j : (i : ℕ) × List·Memᴰ i (stepsOf k Enrol) = unfold stepsOf in block-step k enrolStep in List·Memᴰ·not-nil (in-is [] (all-out (isIn []) (stepsOf k Enrol) t (j .1)))
 
--- a stage hasCell a number
+-- a stage has a number
 pub closed-is : (s : Stage) → (s ≡ Closed) ⊎ (s ≢ Closed)
 closed-is Enrol = inr (λ e. absurd (omega (arith, ap stageNumber e)))
 closed-is Seam = inr (λ e. absurd (omega (arith, ap stageNumber e)))
@@ -164,7 +164,7 @@ no-closed : (k : Cutting) (i : ℕ) → List·Memᴰ i (stepsOf k Closed) → �
 unfolding stepsOf
 no-closed k i m = List·Memᴰ·not-nil m
 
--- the job is closed exactly when allOf its steps are done
+-- the job is closed exactly when all its steps are done
 pub closed-all : (k : Cutting) (done : List ℕ) (s : Stage) → Progress k done s → (s ≡ Closed) ↔ ((q : Stage) (i : ℕ) → List·Memᴰ i (stepsOf k q) → List·Memᴰ i done)
 unfolding finished
 closed-all k done s P = (to, from)
