@@ -20,7 +20,7 @@ use Rattle.cells.specs.Grid.{sides, cells, parity, order, along, upperNeighbour
 use Rattle.cells.proofs.BoxLaws.{index-place, raised, lowered, index-raised, index-lowered}
 use Rattle.cells.proofs.GridLaws.{odd-at, inside, low-side, high-side, raised-inside, lowered-inside, axis-down, axis-up}
 use Rattle.cells.specs.Row.{rowOf, row}
-use Rattle.cells.specs.Steps.{stepsOf, pattern, moved}
+use Rattle.cells.specs.Steps.{stepsOf, stepAt, stepLength, pattern, moved}
 use Rattle.cells.proofs.StepLaws.{up-steps}
 use Rattle.lines.specs.Lines.{strideIf, odds, around, lineCount, lineY, lineZ, firstX, firstStride, lastStride, Strided, one, two, three}
 
@@ -329,6 +329,25 @@ bit : (k : ℕ) → k < 2 → Bit k
 bit zero h = off
 bit (suc zero) h = on
 bit (suc (suc k)) h = absurd (omega arith)
+
+-- The strides by parity, as the table has them.
+first-by : {kx ky : ℕ} (w wh : ℕ) → Bit kx → Bit ky → stepLength w wh (stepAt (kx + 2 * ky + 4) 0) ≡ cond (eqb kx 1) 1 (cond (eqb ky 1) w wh)
+first-by w wh off off = refl
+first-by w wh off on = refl
+first-by w wh on off = refl
+first-by w wh on on = refl
+
+pub first-is : (x y w wh : ℕ) → firstStride x y w wh ≡ cond (eqb (x % 2) 1) 1 (cond (eqb (y % 2) 1) w wh)
+unfolding firstStride
+first-is x y w wh = first-by w wh (bit (x % 2) (omega arith)) (bit (y % 2) (omega arith))
+
+last-by : {kz : ℕ} (w wh : ℕ) → Bit kz → stepLength w wh (stepAt (3 + 4 * kz) (2 + 2 * kz)) ≡ cond (eqb kz 1) wh w
+last-by w wh off = refl
+last-by w wh on = refl
+
+pub last-is : (z w wh : ℕ) → lastStride z w wh ≡ cond (eqb (z % 2) 1) wh w
+unfolding lastStride
+last-is z w wh = last-by w wh (bit (z % 2) (omega arith))
 
 strided : (e : Triple) (p : ℕ) {kx ky kz : ℕ} → Bit kx → Bit ky → Bit kz → odds e p ≡ listed kx ky kz 1 (stride (sides e) Y) (stride (sides e) Z) → 0 < kx + ky + kz
     → Strided e p (kx + ky + kz) (firstStride kx ky (stride (sides e) Y) (stride (sides e) Z)) (stride (sides e) Y) (lastStride kz (stride (sides e) Y) (stride (sides e) Z))

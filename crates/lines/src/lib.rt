@@ -1,17 +1,17 @@
-// The cells of one order, line by line, and their rows by strides. A line's strides come from the table of neighbour steps; a cell then needs no
-// division and no table.
+// The cells of one order, line by line, and their rows by strides. A line's strides are those of the table of neighbour steps, chosen by parity; a
+// cell then needs no division and no table.
 use rows::row_of_four;
 use rows::row_of_six;
 use rows::row_of_two;
-use rows::stride;
 ghost use mathlib.Core.Path.{_≡_};
 ghost use mathlib.Core.List.{[], _∷_};
 ghost use Prim.Native.Nat.{_+_, _-_, _<_, _≤_};
 ghost use lib.ListN.{length, getD};
 ghost use Rattle.cells.specs.Box.{triple};
+ghost use Rattle.cells.specs.Extents.{Sized};
 ghost use Rattle.cells.specs.Grid.{cells};
 ghost use Rattle.cells.specs.Row.{row};
-ghost use Rattle.lines.specs.Lines.{odds, firstX, firstStride, lastStride, Strided};
+ghost use Rattle.lines.specs.Lines.{odds, lineCount, lineY, lineZ, firstX, firstStride, lastStride, Strided, LineAt, StridedAt};
 
 // Where the cells of a line with n odd axes begin, if q axes of the line are odd and it has w cells.
 pub fn first_x(n: usize, q: usize, w: usize) -> usize
@@ -28,18 +28,79 @@ pub fn first_x(n: usize, q: usize, w: usize) -> usize
     w
 }
 
-// The first stride of the odd axes of a cell, by the parities of its x and y, from the table of neighbour steps.
+// The first stride of the odd axes of a cell, by the parities of its x and y: as the table of neighbour steps has it.
 pub fn first_stride(x: usize, y: usize, w: usize, wh: usize) -> usize
     ensures { λ r. ⌜ r ≡ firstStride x y w wh ⌝ }
 {
-    stride(x % 2 + 2 * (y % 2) + 4, 0, w, wh)
+    if x % 2 == 1 {
+        return 1;
+    }
+    if y % 2 == 1 { w } else { wh }
 }
 
 // The last stride of two or more odd axes, by the parity of z.
 pub fn last_stride(z: usize, w: usize, wh: usize) -> usize
     ensures { λ r. ⌜ r ≡ lastStride z w wh ⌝ }
 {
-    stride(3 + 4 * (z % 2), 2 + 2 * (z % 2), w, wh)
+    if z % 2 == 1 { wh } else { w }
+}
+
+// A line, for a pass over its cells with so many odd axes: they lie two apart.
+pub struct Line {
+    // How many cells the line has.
+    pub width: usize,
+    // The position of its first cell.
+    pub base: usize,
+    // The x of the first cell of the pass: the width, where there is none.
+    pub start: usize,
+}
+
+// A line with the strides of the odd axes of those cells. The middle one of three is the width.
+pub struct StridedLine {
+    pub line: Line,
+    // The first stride.
+    pub first: usize,
+    // The last stride of two or three.
+    pub last: usize,
+}
+
+// Line l, of which q axes are odd, for its cells with n odd axes. Not an entry.
+pub fn line_with(nx: usize, ny: usize, nz: usize, n: usize, l: usize, q: usize) -> Line
+    requires { ⌜ Sized 64 (triple nx ny nz) × (l < lineCount (triple nx ny nz)) × (q ≡ lineY (triple nx ny nz) l + lineZ (triple nx ny nz) l) ⌝ }
+    ensures { λ r. ⌜ LineAt (triple nx ny nz) n l r ⌝ }
+{
+    let w = 2 * nx - 1;
+    Line {
+        width: w,
+        base: l * w,
+        start: first_x(n, q, w),
+    }
+}
+
+// Line l for its cells with n odd axes. Not an entry.
+pub fn line_at(nx: usize, ny: usize, nz: usize, n: usize, l: usize) -> Line
+    requires { ⌜ Sized 64 (triple nx ny nz) × (l < lineCount (triple nx ny nz)) ⌝ }
+    ensures { λ r. ⌜ LineAt (triple nx ny nz) n l r ⌝ }
+{
+    let h = 2 * ny - 1;
+    line_with(nx, ny, nz, n, l, l % h % 2 + l / h % 2)
+}
+
+// The same, with their strides. Not an entry.
+pub fn strided_line(nx: usize, ny: usize, nz: usize, n: usize, l: usize) -> StridedLine
+    requires { ⌜ Sized 64 (triple nx ny nz) × (l < lineCount (triple nx ny nz)) ⌝ }
+    ensures { λ r. ⌜ StridedAt (triple nx ny nz) n l r ⌝ }
+{
+    let h = 2 * ny - 1;
+    let y = l % h % 2;
+    let z = l / h % 2;
+    let line = line_with(nx, ny, nz, n, l, y + z);
+    let w = line.width;
+    StridedLine {
+        line: line,
+        first: first_stride(line.start, y, w, w * h),
+        last: last_stride(z, w, w * h),
+    }
 }
 
 // The numbers one stride down and up.
