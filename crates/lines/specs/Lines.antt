@@ -8,6 +8,8 @@ use lib.Dec.{eqb}
 use Rattle.cells.specs.Box.{Triple, X, Y, Z, stride}
 use Rattle.cells.specs.Grid.{sides, parity}
 use Rattle.cells.specs.Steps.{stepAt, stepLength}
+use Rattle.lines.specs.declared.Line.{Line}
+use Rattle.lines.specs.declared.StridedLine.{StridedLine}
 
 -- The stride of an axis, where it is odd.
 unfoldable pub strideIf : ℕ → ℕ → List ℕ
@@ -52,3 +54,15 @@ pub data Strided (e : Triple) (p : ℕ) : ℕ → ℕ → ℕ → ℕ → Type 0
   one : {a w b : ℕ} → odds e p ≡ a ∷ [] → Strided e p 1 a w b
   two : {a w b : ℕ} → odds e p ≡ a ∷ b ∷ [] → Strided e p 2 a w b
   three : {a w b : ℕ} → odds e p ≡ a ∷ w ∷ b ∷ [] → Strided e p 3 a w b
+
+-- Line l, told for its cells with n odd axes.
+pub record LineAt (e : Triple) (n l : ℕ) (r : Line) : Type 0 where
+  pub width : r .width ≡ sides e .x
+  pub base : r .base ≡ l * sides e .x
+  pub start : r .start ≡ firstX n (lineY e l + lineZ e l) (sides e .x)
+
+-- .. with their strides.
+pub record StridedAt (e : Triple) (n l : ℕ) (r : StridedLine) : Type 0 where
+  pub line : LineAt e n l (r .line)
+  pub first : r .first ≡ firstStride (r .line .start) (lineY e l) (stride (sides e) Y) (stride (sides e) Z)
+  pub last : r .last ≡ lastStride (lineZ e l) (stride (sides e) Y) (stride (sides e) Z)

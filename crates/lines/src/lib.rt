@@ -9,9 +9,10 @@ ghost use mathlib.Core.List.{[], _∷_};
 ghost use Prim.Native.Nat.{_+_, _-_, _<_, _≤_};
 ghost use lib.ListN.{length, getD};
 ghost use Rattle.cells.specs.Box.{triple};
+ghost use Rattle.cells.specs.Extents.{Sized};
 ghost use Rattle.cells.specs.Grid.{cells};
 ghost use Rattle.cells.specs.Row.{row};
-ghost use Rattle.lines.specs.Lines.{odds, firstX, firstStride, lastStride, Strided};
+ghost use Rattle.lines.specs.Lines.{odds, lineCount, lineY, lineZ, firstX, firstStride, lastStride, Strided, LineAt, StridedAt};
 
 // Where the cells of a line with n odd axes begin, if q axes of the line are odd and it has w cells.
 pub fn first_x(n: usize, q: usize, w: usize) -> usize
@@ -40,6 +41,64 @@ pub fn last_stride(z: usize, w: usize, wh: usize) -> usize
     ensures { λ r. ⌜ r ≡ lastStride z w wh ⌝ }
 {
     stride(3 + 4 * (z % 2), 2 + 2 * (z % 2), w, wh)
+}
+
+// A line, for a pass over its cells with so many odd axes: they lie two apart.
+pub struct Line {
+    // How many cells the line has.
+    pub width: usize,
+    // The position of its first cell.
+    pub base: usize,
+    // The x of the first cell of the pass: the width, where there is none.
+    pub start: usize,
+}
+
+// A line with the strides of the odd axes of those cells. The middle one of three is the width.
+pub struct StridedLine {
+    pub line: Line,
+    // The first stride.
+    pub first: usize,
+    // The last stride of two or three.
+    pub last: usize,
+}
+
+// Line l, of which q axes are odd, for its cells with n odd axes. Not an entry.
+pub fn line_with(nx: usize, ny: usize, nz: usize, n: usize, l: usize, q: usize) -> Line
+    requires { ⌜ Sized 64 (triple nx ny nz) × (l < lineCount (triple nx ny nz)) × (q ≡ lineY (triple nx ny nz) l + lineZ (triple nx ny nz) l) ⌝ }
+    ensures { λ r. ⌜ LineAt (triple nx ny nz) n l r ⌝ }
+{
+    let w = 2 * nx - 1;
+    Line {
+        width: w,
+        base: l * w,
+        start: first_x(n, q, w),
+    }
+}
+
+// Line l for its cells with n odd axes. Not an entry.
+pub fn line_at(nx: usize, ny: usize, nz: usize, n: usize, l: usize) -> Line
+    requires { ⌜ Sized 64 (triple nx ny nz) × (l < lineCount (triple nx ny nz)) ⌝ }
+    ensures { λ r. ⌜ LineAt (triple nx ny nz) n l r ⌝ }
+{
+    let h = 2 * ny - 1;
+    line_with(nx, ny, nz, n, l, l % h % 2 + l / h % 2)
+}
+
+// The same, with their strides. Not an entry.
+pub fn strided_line(nx: usize, ny: usize, nz: usize, n: usize, l: usize) -> StridedLine
+    requires { ⌜ Sized 64 (triple nx ny nz) × (l < lineCount (triple nx ny nz)) ⌝ }
+    ensures { λ r. ⌜ StridedAt (triple nx ny nz) n l r ⌝ }
+{
+    let h = 2 * ny - 1;
+    let y = l % h % 2;
+    let z = l / h % 2;
+    let line = line_with(nx, ny, nz, n, l, y + z);
+    let w = line.width;
+    StridedLine {
+        line: line,
+        first: first_stride(line.start, y, w, w * h),
+        last: last_stride(z, w, w * h),
+    }
 }
 
 // The numbers one stride down and up.

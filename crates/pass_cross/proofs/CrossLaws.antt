@@ -12,8 +12,9 @@ use Rattle.cells.specs.Box.{Triple, Y, Z, stride}
 use Rattle.cells.specs.Grid.{sides, cells, order, upperNeighbours}
 use Rattle.cells.specs.Row.{padTo}
 use Rattle.cells.proofs.GridLaws.{length-up}
-use Rattle.lines.specs.Lines.{lineCount, lineY, lineZ, firstStride, lastStride}
-use Rattle.lines.proofs.LineLaws.{line-order, line-inside, line-strides}
+use Rattle.lines.specs.Lines.{lineCount, StridedAt}
+use Rattle.lines.specs.declared.StridedLine.{StridedLine}
+use Rattle.lines.proofs.WalkLaws.{Walking, walk-inside, walk-order, walk-strided}
 use Rattle.pass_cross.specs.Crossings.{crossAt, Room, Trays, Crossed}
 use Rattle.pass_cross.specs.Inner.{Read, numbersAt, cellRows, padRows, countActive, edgesAmong, CellTrays}
 use Rattle.pass_cross.proofs.ReadLaws.{kept-roots, kept-then}
@@ -84,14 +85,13 @@ trays-kept T R = record {
 -- ---- the cells of a line
 
 -- The cell at x of line l, where components of order j meet.
-pub line-cross : (e : Triple) (m a links : List ℕ) (j start from l x : ℕ) → Trays e m j a start links from → l < lineCount e → x < sides e .x → 4 - j ≡ x % 2 + (lineY e l + lineZ e l)
-    → CellTrays e m (4 - j) (l * sides e .x + x) (firstStride (x % 2) (lineY e l) (stride (sides e) Y) (stride (sides e) Z)) (stride (sides e) Y) (lastStride (lineZ e l) (stride (sides e) Y) (stride (sides e) Z))
-    (length a) start (length links) from
-line-cross e m a links j start from l x T h k n =
-    let o : order e (l * sides e .x + x) ≡ j - 1 = line-order e l x k ∙ omega (arith, T .low) in
+pub line-cross : {e : Triple} {m a links : List ℕ} {j start from l x : ℕ} {r : StridedLine} → Trays e m j a start links from → StridedAt e (4 - j) l r → l < lineCount e → Walking e (4 - j) l x → x < r .line .width
+    → CellTrays e m (4 - j) (r .line .base + x) (r .first) (r .line .width) (r .last) (length a) start (length links) from
+line-cross {e} {j = j} {x = x} {r = r} T S h W k =
+    let o : order e (r .line .base + x) ≡ j - 1 = walk-order (S .line) x k W ∙ omega (arith, T .low) in
     let s : suc (j - 1) ≡ j = omega (arith, T .low) in
     record {
-      at = record { whole = T .whole; inside = line-inside e l x k h; many = omega (arith, T .high); strided = line-strides e l x (4 - j) k (omega (arith, T .high)) n };
+      at = record { whole = T .whole; inside = walk-inside (S .line) _ k h; many = omega (arith, T .high); strided = walk-strided S W k (omega (arith, T .high)) };
       upper = rw (o, s) (T .upper);
       own = rw (o, s) (T .own);
     }

@@ -3,6 +3,5 @@ pub mod FlatLaws
 pub mod ReadLaws
 pub mod AroundLaws
 pub mod EdgeLaws
-pub mod WalkLaws
 pub mod CrossLaws
 pub mod MergeLaws

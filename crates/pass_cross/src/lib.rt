@@ -1,8 +1,6 @@
 // The crossing pass of the joiner: components of one order are joined at the cells where they meet, if their rows are equal.
 // A row is read through the links of the order above, as joined so far.
-use lines::first_stride;
-use lines::first_x;
-use lines::last_stride;
+use lines::strided_line;
 use rows::row_of_four;
 use rows::row_of_two;
 use rows::same_row;
@@ -253,27 +251,21 @@ fn cross_line(
     ensures { λ _. ⌜ Crossed (now (above .entry)) (now (above .exit)) (now (links .entry)) (now (links .exit))
         (lineEdges (crossAt (triple nx ny nz) (now (map .entry)) (root (now (above .entry))) «above_from» from) (triple nx ny nz) (j - 1) l) ⌝ }
 {
-    let w = 2 * nx - 1;
-    let h = 2 * ny - 1;
-    let y = l % h % 2;
-    let z = l / h % 2;
     let n = 4 - j;
-    let start = first_x(n, y + z, w);
-    let a = first_stride(start, y, w, w * h);
-    let b = last_stride(z, w, w * h);
-    let base = l * w;
-    let mut x = start;
-    while x < w {
+    let s = strided_line(nx, ny, nz, n, l);
+    let line = s.line;
+    let mut x = line.start;
+    while x < line.width {
         cross_at(
             map,
             nx,
             ny,
             nz,
             n,
-            base + x,
-            a,
-            w,
-            b,
+            line.base + x,
+            s.first,
+            line.width,
+            s.last,
             above,
             above_from,
             links,

@@ -1,7 +1,7 @@
 -- The keys that the cells of a line, and of all lines, leave.
 -- Assumes nothing.
 use mathlib.Core.Path.{_≡_, refl, sym, ap, ap₂, _∙_}
-use mathlib.Core.Bool.{Bool, true, cond}
+use mathlib.Core.Bool.{true, cond}
 use mathlib.Core.Logic.{_≢_}
 use mathlib.Core.List.{List, [], _∷_, _++_, List·Memᴰ, List·Memᴰ·head, List·Memᴰ·tail}
 use Prim.Native.Nat.{ℕ, zero, suc, _+_, _-_, _*_, _%_, _≤_, _<_}
@@ -10,18 +10,19 @@ use lib.Dec.{eqb}
 use lib.ListN.{getD, length, set}
 use lib.Seq.{set-set, set-comm}
 use borrow.Author.Tests.{eqb-true, eqb-false, eq-eqb, ne-eqb}
-use Rattle.lists.specs.Lists.{consecutive, keep, overlay}
+use Rattle.lists.specs.Lists.{keep, overlay}
 use Rattle.lists.proofs.Cases.{by-test, picked}
 use Rattle.lists.proofs.Overlay.{overlay-same, overlay-at}
 use Rattle.cells.specs.Box.{Triple, coord, each, index, place}
 use Rattle.cells.specs.Extents.{Sized}
 use Rattle.cells.specs.Grid.{sides, cells, order}
-use Rattle.cells.proofs.ExtentLaws.{cells-high}
 use Rattle.labels.specs.Components.{ofOrder, largest, component}
 use Rattle.labels.proofs.ComponentLaws.{of-order-out}
 use Rattle.labels.proofs.CountLaws.{largest-bound}
 use Rattle.lines.specs.Lines.{lineCount, lineY, lineZ, firstX}
-use Rattle.lines.proofs.LineLaws.{Tests, line-start, line-next, line-end, line-inside, line-odd, order-tests}
+use Rattle.lines.specs.declared.Line.{Line}
+use Rattle.lines.proofs.LineLaws.{Tests, order-tests}
+use Rattle.lines.proofs.WalkLaws.{Walking, ahead, walk-inside, walk-ends, walk-order, cells-first, cells-next, cells-last}
 use Rattle.cutting.specs.Cutting.{Cutting, blocks, goodCut, embed, mostBlocks}
 use Rattle.joiner.specs.Job.{Kind, orderOf, keyOf, keyPosition}
 use Rattle.joiner.specs.Entries.{firstOf, enrolledKey}
@@ -30,7 +31,7 @@ use Rattle.blocks.specs.Blocks.{sizeOf, Tells, shiftIn, embedIn}
 use Rattle.blocks.specs.declared.Block.{Block}
 use Rattle.blocks.proofs.BlockLaws.{told-sized, told-ends}
 use Rattle.pass_survey.specs.Surveys.{onLine}
-use Rattle.pass_survey.proofs.SurveyLaws.{among, fromLine, from-first, from-next, from-last}
+use Rattle.pass_survey.proofs.SurveyLaws.{fromLine, from-first, from-next, from-last}
 use Rattle.pass_enrol.specs.Enrolment.{Lies, Along, positionIn, firstIn, keyIn, keyPut, keyed, Firsts}
 use Rattle.pass_enrol.proofs.PlaceLaws.{position-line, position-high}
 
@@ -96,24 +97,6 @@ module _ (v : Triple) (r : Block) (b : ℕ) (m : List ℕ) (from : ℕ) where
       (λ u. let s : n ≡ suc i = omega (arith, eqb-true i (n - 1) u) in rw (u, eq-eqb n (suc i) s))
       (λ u. let d : i ≢ n - 1 = eqb-false i (n - 1) u in let s : n ≢ suc i = λ q. d (omega arith) in rw (u, ne-eqb n (suc i) s)))))
 
-  -- ---- along a line, from its end
-
-  module _ {g : ℕ → Bool} {base w n q : ℕ} (T : Tests g base w n q) where
-    abbrev ahead : ℕ → List ℕ
-    ahead x = keep g (consecutive (base + x) (w - x))
-
-    pub key-start : (x : ℕ) (t : List ℕ) → w ≤ x → t ≡ still-left (ahead x) t
-    unfolding keyed
-    key-start x t h = rw (line-end T x h)
-
-    pub key-next : (x : ℕ) (t₀ t u : List ℕ) → 2 ≤ x → x - 2 < w → n ≡ (x - 2) % 2 + q → t ≡ still-left (ahead x) t₀
-        → u ≡ keyPut from (getD m (base + (x - 2)) 0) (keyOf (positionIn v r (base + (x - 2))) b) t → u ≡ still-left (ahead (x - 2)) t₀
-    unfolding keyed
-    key-next x t₀ t u h k e i c = let s : x - 2 + 2 ≡ x = omega arith in rw (line-next T (x - 2) k e, s, ← i) c
-
-    pub key-end : (x : ℕ) (t₀ t : List ℕ) → x ≡ firstX n q w → t ≡ still-left (ahead x) t₀ → t ≡ still-left (keep g (consecutive base w)) t₀
-    key-end x t₀ t e i = i ∙ ap (λ (ps : List ℕ). still-left ps t₀) (ap ahead e ∙ sym (line-start T))
-
   -- ---- line after line, from the last one
 
   module _ (j : ℕ) where
@@ -145,12 +128,11 @@ first-most : (n q w : ℕ) → 0 < w → firstX n q w ≤ w
 unfolding firstX
 first-most n q w h = picked (λ (x : ℕ). x ≤ w) (eqb n q) 0 (cond (eqb n (suc q)) 1 w) (λ _. omega arith) (λ _. picked (λ (x : ℕ). x ≤ w) (eqb n (suc q)) 1 w (λ _. omega arith) (λ _. omega arith))
 
--- The cell at x, where its number and its key are read.
-pub record Here (v : Triple) (r : Block) (m : List ℕ) (j l w x at : ℕ) : Type 0 where
-  pub within : l * w + x < length m
-  pub few : length m ≤ 2048383
-  pub number : getD m (l * w + x) 0 ≤ largest (sizeOf r) m j
-  pub position : at + x ≡ positionIn v r (l * w + x)
+-- The cell at x, and where it stands in the volume.
+pub record Here (v : Triple) (r : Block) (j : ℕ) (line : Line) (x at : ℕ) : Type 0 where
+  pub within : line .base + x < cells (sizeOf r)
+  pub level : order (sizeOf r) (line .base + x) ≡ j
+  pub position : at + x ≡ positionIn v r (line .base + x)
   pub high : at + x < 8589934592
 
 -- Where the loop over x begins: past the end of the line, at an even distance from the first cell.
@@ -160,63 +142,52 @@ pub record Ends (w start x : ℕ) : Type 0 where
   pub high : x ≤ w + 1
   pub past : w ≤ x
 
-module _ {v : Triple} {r : Block} {m : List ℕ} {j l w start at : ℕ} (A : Along v r m j l w start at) where
+module _ {v : Triple} {r : Block} {m : List ℕ} {j l : ℕ} {line : Line} {at : ℕ} (A : Along v r m j l line at) where
   abbrev extents-here : Triple
   extents-here = sizeOf r
 
-  abbrev axes : ℕ
-  axes = lineY extents-here l + lineZ extents-here l
+  along-tests : Tests (λ c. eqb (order extents-here c) j) (l * sides extents-here .x) (sides extents-here .x) (3 - j) (lineY extents-here l + lineZ extents-here l)
+  along-tests = order-tests extents-here j l (omega (arith, A .below))
 
-  along-tests : Tests (λ c. eqb (order extents-here c) j) (l * w) w (3 - j) axes
-  along-tests = rw (A .wide) (order-tests extents-here j l (omega (arith, A .below)))
+  -- where the line ends
+  pub along-fits : line .base + line .width ≤ 2048383
+  along-fits = walk-ends (A .told) (A .lies .sized) (A .on)
 
-  -- the line, and where it ends
-  pub line-fits : l * w + w ≤ 2048383
-  unfolding sides
-  line-fits =
-      let s = A .lies .sized in
-      let n : w ≡ 2 * extents-here .x - 1 = A .wide in
-      let i : l * (2 * extents-here .x - 1) + (2 * extents-here .x - 2) < cells extents-here = line-inside extents-here l (2 * extents-here .x - 2) (omega (arith, s .x-low)) (A .on) in
-      rw n (omega (arith, cells-high s, s .x-low))
-
-  pub along-ends : Ends w start (w + 1 - start % 2)
+  pub along-ends : Ends (line .width) (line .start) (line .width + 1 - line .start % 2)
   unfolding sides
   along-ends =
-      let n : w ≡ 2 * extents-here .x - 1 = A .wide in
-      let s : start ≤ w = rw (A .first) (first-most (3 - j) axes w (omega (arith, A .lies .sized .x-low))) in
+      let n : line .width ≡ 2 * extents-here .x - 1 = A .told .width in
+      let s : line .start ≤ line .width = rw (A .told .start, A .told .width) (first-most (3 - j) (lineY extents-here l + lineZ extents-here l) (sides extents-here .x) (omega (arith, A .lies .sized .x-low))) in
       record { low = omega arith; even = omega (arith, A .lies .sized .x-low); high = omega arith; past = omega arith }
 
-  module _ (x : ℕ) (low : start ≤ x) (even : x % 2 ≡ start % 2) (h : x < w) where
-    passes : 3 - j ≡ x % 2 + axes
-    passes = line-odd (3 - j) axes w (A .first) low even h .1
-
-    pub along-here : Here v r m j l w x at
+  module _ (x : ℕ) (W : Walking extents-here (3 - j) l x) (h : x < line .width) where
+    pub along-here : Here v r j line x at
     along-here =
-        let p : ℕ = l * sides extents-here .x + x in
-        let k : x < sides extents-here .x = omega (arith, A .wide) in
-        let i : p < cells extents-here = line-inside extents-here l x k (A .on) in
-        let s : at + x ≡ positionIn v r p = ap (λ (n : ℕ). n + x) (A .begins) ∙ position-line v r l x k in
-        let o : order extents-here p ≡ j = eqb-true (order extents-here p) j (order-tests extents-here j l (omega (arith, A .below)) .at x k ∙ eq-eqb (3 - j) (x % 2 + axes) passes) in
-        rw (A .wide)
-        (record { within = omega (arith, A .size); few = omega (arith, A .size, cells-high (A .lies .sized)); number = rw (← o) (largest-bound extents-here m p i); position = s; high = omega (arith, position-high (A .lies) p i) })
+        let L = A .told in
+        let i = walk-inside L x h (A .on) in
+        let s : at + x ≡ positionIn v r (line .base + x) = rw (L .base) (ap (λ (n : ℕ). n + x) (A .begins) ∙ position-line v r l x (omega (arith, L .width))) in
+        record { within = i; level = walk-order L x h W ∙ omega (arith, A .below); position = s; high = omega (arith, position-high (A .lies) (line .base + x) i) }
+
+    pub along-number : getD m (line .base + x) 0 ≤ largest extents-here m j
+    along-number = rw (← along-here .level) (largest-bound extents-here m (line .base + x) (along-here .within))
 
   module _ (b from : ℕ) (t₀ : List ℕ) where
     -- what the cells from x on leave
     abbrev behind : ℕ → List ℕ
-    behind x = keyed v r b m from (among extents-here j (l * w + x) (w - x)) t₀
+    behind x = keyed v r b m from (ahead (λ c. eqb (order extents-here c) j) line x) t₀
 
-    pub cells-start : (x : ℕ) → w ≤ x → t₀ ≡ behind x
-    cells-start x h = key-start v r b m from along-tests x t₀ h
+    pub keys-none : (x : ℕ) → line .width ≤ x → t₀ ≡ behind x
+    unfolding keyed
+    keys-none x h = rw (cells-last (A .told) along-tests h)
 
-    pub cells-next : (x : ℕ) (t u : List ℕ) → start < x → start ≤ x → x % 2 ≡ start % 2 → x ≤ w + 1 → t ≡ behind x
-        → u ≡ keyPut from (getD m (l * w + (x - 2)) 0) (keyOf (positionIn v r (l * w + (x - 2))) b) t → u ≡ behind (x - 2)
-    cells-next x t u g low even h i c = key-next v r b m from along-tests x t₀ t u (omega arith) (omega arith) (passes (x - 2) (omega arith) (omega arith) (omega arith)) i c
+    pub keys-next : (x : ℕ) (t u : List ℕ) → 2 ≤ x → Walking extents-here (3 - j) l (x - 2) → x - 2 < line .width → t ≡ behind x
+        → u ≡ keyPut from (getD m (line .base + (x - 2)) 0) (keyOf (positionIn v r (line .base + (x - 2))) b) t → u ≡ behind (x - 2)
+    unfolding keyed
+    keys-next x t u g W h i c = let s : x - 2 + 2 ≡ x = omega arith in rw (cells-next (A .told) along-tests W h, s, ← i) c
 
-    pub cells-end : (x : ℕ) (t : List ℕ) → start ≤ x → x ≤ start → t ≡ behind x → t ≡ keyed v r b m from (onLine extents-here j l) t₀
+    pub keys-all : (x : ℕ) (t : List ℕ) → line .start ≤ x → x ≤ line .start → t ≡ behind x → t ≡ keyed v r b m from (onLine extents-here j l) t₀
     unfolding onLine
-    cells-end x t low h i =
-        let s : x ≡ start = omega arith in
-        key-end v r b m from along-tests x t₀ t (s ∙ A .first) i ∙ ap (λ (n : ℕ). keyed v r b m from (among extents-here j (l * n) n) t₀) (A .wide)
+    keys-all x t low h i = let s : x ≡ line .start = omega arith in i ∙ ap behind s ∙ ap (λ (ps : List ℕ). keyed v r b m from ps t₀) (sym (cells-first (A .told) along-tests))
 
 -- ---- the joiner's keys
 

@@ -12,7 +12,8 @@ use Rattle.cells.specs.Extents.{Sized}
 use Rattle.cells.specs.Grid.{sides, cells}
 use Rattle.cells.specs.Row.{rowOf, row}
 use Rattle.labels.specs.Components.{component, componentRow}
-use Rattle.lines.specs.Lines.{lineCount, lineY, lineZ, firstX}
+use Rattle.lines.specs.Lines.{lineCount, LineAt}
+use Rattle.lines.specs.declared.Line.{Line}
 use Rattle.joiner.specs.Job.{keyOf, keyPosition}
 use Rattle.blocks.specs.Blocks.{originOf, sizeOf, localIn, embedIn}
 use Rattle.blocks.specs.declared.Block.{Block}
@@ -54,14 +55,13 @@ unfoldable pub keyed : Triple → Block → ℕ → List ℕ → ℕ → List �
 keyed v r b m from [] t = t
 keyed v r b m from (p ∷ ps) t = keyPut from (getD m p 0) (keyOf (positionIn v r p) b) (keyed v r b m from ps t)
 
--- The cells of order j on line l, of w cells: the first one is at x = start, and in the volume the line begins at `at`.
-pub record Along (v : Triple) (r : Block) (m : List ℕ) (j l w start at : ℕ) : Type 0 where
+-- Line l, told for its cells of order j: in the volume it begins at `at`.
+pub record Along (v : Triple) (r : Block) (m : List ℕ) (j l : ℕ) (line : Line) (at : ℕ) : Type 0 where
   pub lies : Lies v r
   pub size : length m ≡ cells (sizeOf r)
   pub below : j ≤ 2
   pub on : l < lineCount (sizeOf r)
-  pub wide : w ≡ sides (sizeOf r) .x
-  pub first : start ≡ firstX (3 - j) (lineY (sizeOf r) l + lineZ (sizeOf r) l) w
+  pub told : LineAt (sizeOf r) (3 - j) l line
   pub begins : at ≡ embedIn v r (triple 0 (l % sides (sizeOf r) .y) (l / sides (sizeOf r) .y))
 
 -- The row of the cell at a position of the volume: none at position 0, which is a voxel.

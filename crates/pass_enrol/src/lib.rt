@@ -3,7 +3,8 @@ use blocks::Block;
 use blocks::embed;
 use blocks::local;
 use joiner::KEY_BASE;
-use lines::first_x;
+use lines::Line;
+use lines::line_with;
 use rows::row_at;
 ghost use mathlib.Core.Path.{_≡_};
 ghost use mathlib.Core.Bool.{true};
@@ -80,8 +81,7 @@ fn key_cell(
     key_at(keys, from, map[p], key_of(position, b));
 }
 
-// The cells of order j on line l, of w cells, write their keys, the last one first. The first one is at x = start, and in the volume the
-// line begins at `at`.
+// The cells of order j on line l write their keys, the last one first. In the volume the line begins at `at`.
 fn key_cells(
     keys: &mut [u64],
     from: usize,
@@ -93,16 +93,14 @@ fn key_cells(
     b: usize,
     j: usize,
     l: usize,
-    w: usize,
-    start: usize,
+    line: Line,
     at: u64,
 )
-    requires { ⌜ Along (triple nx ny nz) block (now map) j l w start at × (b < mostBlocks) × (from + largest (sizeOf block) (now map) j ≤ length (now keys)) ⌝ }
+    requires { ⌜ Along (triple nx ny nz) block (now map) j l line at × (b < mostBlocks) × (from + largest (sizeOf block) (now map) j ≤ length (now keys)) ⌝ }
     ensures { λ _. ⌜ now (keys .exit) ≡ keyed (triple nx ny nz) block b (now (map .entry)) from (onLine (sizeOf block) j l) (now (keys .entry)) ⌝ }
 {
-    let base = l * w;
-    let mut x = w + 1 - start % 2;
-    while x > start {
+    let mut x = line.width + 1 - line.start % 2;
+    while x > line.start {
         x -= 2;
         key_cell(
             keys,
@@ -113,7 +111,7 @@ fn key_cells(
             nz,
             block,
             b,
-            base + x,
+            line.base + x,
             at + (x as u64),
         );
     }
@@ -135,13 +133,12 @@ fn key_line(
     requires { ⌜ Lies (triple nx ny nz) block × (length (now map) ≡ cells (sizeOf block)) × (b < mostBlocks) × (j ≤ 2) × (from + largest (sizeOf block) (now map) j ≤ length (now keys)) × (l < lineCount (sizeOf block)) ⌝ }
     ensures { λ _. ⌜ now (keys .exit) ≡ keyed (triple nx ny nz) block b (now (map .entry)) from (onLine (sizeOf block) j l) (now (keys .entry)) ⌝ }
 {
-    let w = 2 * block.nx - 1;
     let h = 2 * block.ny - 1;
     let y = l % h;
     let z = l / h;
-    let start = first_x(3 - j, y % 2 + z % 2, w);
+    let line = line_with(block.nx, block.ny, block.nz, 3 - j, l, y % 2 + z % 2);
     let at = embed(nx, ny, nz, block, 0, y, z);
-    key_cells(keys, from, map, nx, ny, nz, block, b, j, l, w, start, at);
+    key_cells(keys, from, map, nx, ny, nz, block, b, j, l, line, at);
 }
 
 // Writes the keys of the numbers of order j from place `from` on: all as if no cell had them, and then the cells' own, the last one first,

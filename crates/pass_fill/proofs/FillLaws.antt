@@ -1,6 +1,6 @@
 -- What a cell of a line holds before any numbering, and the numbers that a line's code computes.
 -- Assumes nothing.
-use mathlib.Core.Path.{_≡_}
+use mathlib.Core.Path.{_≡_, _∙_}
 use mathlib.Core.Logic.{_≢_}
 use mathlib.Core.List.{List, []}
 use Prim.Native.Nat.{ℕ, suc, _+_, _-_, _*_, _/_, _%_, _≤_, _<_}
@@ -16,8 +16,10 @@ use Rattle.cells.specs.Grid.{sides, cells, voxel}
 use Rattle.cells.proofs.GridLaws.{voxel-inside}
 use Rattle.cells.proofs.ExtentLaws.{cells-high, area-high, volume-high}
 use Rattle.labels.specs.Number.{codeAt}
-use Rattle.lines.specs.Lines.{lineCount, lineY, lineZ}
+use Rattle.lines.specs.Lines.{lineCount, lineY, lineZ, LineAt}
+use Rattle.lines.specs.declared.Line.{Line}
 use Rattle.lines.proofs.LineLaws.{line-place, line-order, line-inside}
+use Rattle.lines.proofs.WalkLaws.{walk-first, first-parity}
 use Rattle.pass_fill.specs.CodeOn.{codeOn}
 
 -- ---- a line of voxels
@@ -54,6 +56,14 @@ module _ (codes m : List ℕ) (v base : ℕ) where
 
 -- ---- the codes of a line
 
+-- A voxel stands at x = 0 exactly where no other axis is odd.
+module _ {e : Triple} {l : ℕ} {r : Line} (L : LineAt e 0 l r) where
+  pub voxels-there : 0 < sides e .x → r .start ≡ 0 → lineY e l + lineZ e l ≡ 0
+  voxels-there h z = omega (arith, walk-first L .passes (omega arith))
+
+  pub voxels-none : r .start ≢ 0 → lineY e l + lineZ e l ≢ 0
+  voxels-none z q = z (L .start ∙ first-parity 0 (lineY e l + lineZ e l) (sides e .x) 0 (omega arith))
+
 module _ (e : Triple) (codes : List ℕ) (l x : ℕ) (h : x < sides e .x) where
   -- the place of the code that the first cell of a line of voxels holds
   abbrev first : ℕ
@@ -61,7 +71,7 @@ module _ (e : Triple) (codes : List ℕ) (l x : ℕ) (h : x < sides e .x) where
 
   -- how many of y and z are odd
   abbrev odd-axes : ℕ
-  odd-axes = l % sides e .y % 2 + l / sides e .y % 2
+  odd-axes = lineY e l + lineZ e l
 
   voxel-line : voxel e (l * sides e .x + x) ≡ first + x / 2
   unfolding voxel index

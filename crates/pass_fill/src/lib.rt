@@ -1,4 +1,5 @@
 // The codes of a block laid straight into its map: each at its voxel, and 0 at every other cell. Each cell is written once, whatever it held.
+use lines::line_with;
 use lists::write_zeros;
 ghost use mathlib.Core.Path.{_≡_};
 ghost use Prim.Native.Nat.{_+_, _*_, _-_, _<_, _≤_};
@@ -29,21 +30,20 @@ fn lay_codes(codes: &[u32], v: usize, n: usize, map: &mut [u32], base: usize)
     map[base + 2 * last] = codes[v + last];
 }
 
-// Lays the codes of line l.
+// Lays the codes of line l. It is a line of voxels if one stands at x = 0.
 fn fill_line(codes: &[u32], nx: usize, ny: usize, nz: usize, l: usize, map: &mut [u32])
     requires { ⌜ Sized 64 (triple nx ny nz) × (length (now codes) ≡ volume (triple nx ny nz)) × (length (now map) ≡ cells (triple nx ny nz)) × (l < lineCount (triple nx ny nz)) ⌝ }
     ensures { λ _. ⌜ now (map .exit) ≡ overlay (now (map .entry)) (l * (2 * nx - 1)) (λ x. codeAt (triple nx ny nz) (now (codes .entry)) (l * (2 * nx - 1) + x)) (2 * nx - 1) ⌝ }
 {
-    let w = 2 * nx - 1;
     let h = 2 * ny - 1;
     let y = l % h;
     let z = l / h;
-    let base = l * w;
-    if y % 2 + z % 2 == 0 {
+    let line = line_with(nx, ny, nz, 0, l, y % 2 + z % 2);
+    if line.start == 0 {
         let v = y / 2 * nx + z / 2 * (nx * ny);
-        lay_codes(codes, v, nx, map, base);
+        lay_codes(codes, v, nx, map, line.base);
     } else {
-        write_zeros(map, base, w);
+        write_zeros(map, line.base, line.width);
     }
 }
 

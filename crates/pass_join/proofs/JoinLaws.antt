@@ -4,14 +4,13 @@ use mathlib.Core.Path.{_≡_, refl, sym, ap, _∙_}
 use mathlib.Core.Bool.{Bool, true, false, cond, not, _&&_, false≢true}
 use mathlib.Core.List.{List, [], _∷_, _++_, map, append-assoc, append-nil}
 use Prim.Native.Nat.{ℕ, zero, suc, _+_, _-_, _*_, _%_, _≤_, _<_}
-use native.Mathlib.Nat.{mul-le-mul-right}
 use native.Mathlib.Numerals.{add-one}
 use native.Mathlib.Omega.{arith}
 use lib.Dec.{eqb·suc-zero, eqb·suc-suc}
 use lib.ListN.{length, getD, drop}
 use lib.Seq.{drop-cons}
 use borrow.Author.Tests.{ne-eqb, not-true}
-use Rattle.lists.specs.Lists.{consecutive, keep}
+use Rattle.lists.specs.Lists.{keep}
 use Rattle.lists.proofs.Cases.{by-test, and-first, and-second}
 use Rattle.lists.proofs.Lists.{keep-append}
 use Rattle.closure.specs.Joined.{Edge, edge, joins}
@@ -22,9 +21,9 @@ use Rattle.cells.specs.Grid.{sides, cells, order, upperNeighbours}
 use Rattle.cells.specs.Row.{row, active, occupied, sameRow}
 use Rattle.cells.proofs.RowLaws.{same-row}
 use Rattle.cells.proofs.ExtentLaws.{cells-high}
-use Rattle.labels.specs.Number.{pairs, alike, edgesAt, orderBelow, edges}
-use Rattle.lines.specs.Lines.{odds, around, lineCount, lineY, lineZ, firstX}
-use Rattle.lines.proofs.LineLaws.{up-around, flank-at, cells-lines, next-line, Tests, line-start, line-next, line-end, order-tests}
+use Rattle.labels.specs.Number.{pairs, alike, edgesAt, orderBelow}
+use Rattle.lines.specs.Lines.{odds, around, lineY, lineZ}
+use Rattle.lines.proofs.LineLaws.{up-around, flank-at, Tests, order-tests}
 use Rattle.pass_join.specs.Joining.{Trays, alikeTo, alikePairs}
 
 -- Links that a loop has changed still fit the block.
@@ -129,56 +128,18 @@ getD-below n [] b k = b
 getD-below n (x ∷ xs) b zero = b .0
 getD-below n (x ∷ xs) b (suc k) = getD-below n xs (b .1) k
 
--- ---- the cells of a line, and all lines
+-- ---- the cells of a line
 
 -- The test for the order below j, along a line.
-below-tests : (e : Triple) (j l : ℕ) → j ≤ 2 → Tests (orderBelow e j) (l * sides e .x) (sides e .x) (4 - j) (lineY e l + lineZ e l)
+pub below-tests : (e : Triple) (j l : ℕ) → j ≤ 2 → Tests (orderBelow e j) (l * sides e .x) (sides e .x) (4 - j) (lineY e l + lineZ e l)
 unfolding orderBelow lineY lineZ
 below-tests e zero l h = record { at = λ x k. eqb·suc-zero (order e (l * sides e .x + x)) ∙ sym (ne-eqb (4 - 0) (x % 2 + (lineY e l + lineZ e l)) (λ c. omega arith)) }
 below-tests e (suc j) l h =
     let s : 4 - suc j ≡ 3 - j = omega arith in
     record { at = λ x k. eqb·suc-suc (order e (l * sides e .x + x)) j ∙ rw s (order-tests e j l (omega arith) .at x k) }
 
--- The edges between cells of order j at a line's cells from x on.
-unfoldable pub fromCell : Triple → List ℕ → ℕ → ℕ → ℕ → List Edge
-fromCell e m j l x = edgesAt e m (keep (orderBelow e j) (consecutive (l * sides e .x + x) (sides e .x - x)))
-
--- All of a line, the next cell of the order below, and none past the end.
-module _ (e : Triple) (m : List ℕ) (j l : ℕ) (h : j ≤ 2) where
-  pub cells-start : edgesAt e m (keep (orderBelow e j) (consecutive (l * sides e .x) (sides e .x))) ≡ fromCell e m j l (firstX (4 - j) (lineY e l + lineZ e l) (sides e .x))
-  unfolding fromCell
-  cells-start = ap (edgesAt e m) (line-start (below-tests e j l h))
-
-  pub cells-next : (x : ℕ) → x < sides e .x → 4 - j ≡ x % 2 + (lineY e l + lineZ e l) → fromCell e m j l x ≡ keep (alike e m) (pairs (upperNeighbours e (l * sides e .x + x))) ++ fromCell e m j l (x + 2)
-  unfolding fromCell edgesAt
-  cells-next x k n = ap (edgesAt e m) (line-next (below-tests e j l h) x k n)
-
-  pub cells-end : (x : ℕ) → sides e .x ≤ x → fromCell e m j l x ≡ []
-  unfolding fromCell edgesAt
-  cells-end x k = ap (edgesAt e m) (line-end (below-tests e j l h) x k)
-
-edges-append : (e : Triple) (m ts us : List ℕ) → edgesAt e m (ts ++ us) ≡ edgesAt e m ts ++ edgesAt e m us
+-- The edges at the cells of two lists.
+pub edges-append : (e : Triple) (m ts us : List ℕ) → edgesAt e m (ts ++ us) ≡ edgesAt e m ts ++ edgesAt e m us
 unfolding edgesAt
 edges-append e m [] us = refl
 edges-append e m (t ∷ ts) us = rw (edges-append e m ts us) (sym (append-assoc (keep (alike e m) (pairs (upperNeighbours e t))) (edgesAt e m ts) (edgesAt e m us)))
-
--- The edges between cells of order j at the cells from line l on.
-unfoldable pub fromLine : Triple → List ℕ → ℕ → ℕ → List Edge
-fromLine e m j l = edgesAt e m (keep (orderBelow e j) (consecutive (l * sides e .x) (cells e - l * sides e .x)))
-
--- All edges, the next line's, and none past the last line.
-module _ (e : Triple) (m : List ℕ) (j : ℕ) where
-  pub lines-start : edges e m j ≡ fromLine e m j 0
-  unfolding edges fromLine
-  lines-start =
-      let i : 0 * sides e .x ≡ 0 = omega arith in
-      let n : cells e - 0 ≡ cells e = omega arith in
-      rw (i, n)
-
-  pub lines-next : (l : ℕ) → l < lineCount e → fromLine e m j l ≡ edgesAt e m (keep (orderBelow e j) (consecutive (l * sides e .x) (sides e .x))) ++ fromLine e m j (l + 1)
-  unfolding fromLine
-  lines-next l h = rw (next-line e l h, keep-append (orderBelow e j), edges-append)
-
-  pub lines-end : (l : ℕ) → lineCount e ≤ l → fromLine e m j l ≡ []
-  unfolding fromLine edgesAt consecutive
-  lines-end l h = let n : cells e - l * sides e .x ≡ 0 = omega (arith, cells-lines e, mul-le-mul-right (sides e .x) h) in rw n

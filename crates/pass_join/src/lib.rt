@@ -1,9 +1,7 @@
 // The joining pass of the labeller: cells of one component are joined at the cells where they meet.
 use lines::curve_row;
 use lines::face_row;
-use lines::first_stride;
-use lines::first_x;
-use lines::last_stride;
+use lines::strided_line;
 use rows::same_row;
 use union_find::unite;
 ghost use mathlib.Core.Path.{_≡_};
@@ -159,18 +157,23 @@ fn join_line(map: &[u32], nx: usize, ny: usize, nz: usize, j: usize, l: usize, l
     ensures { λ _. ⌜ Rooted (now (links .entry)) (now (links .exit))
         (joins (root (now (links .entry))) (edgesAt (triple nx ny nz) (now (map .entry)) (keep (orderBelow (triple nx ny nz) j) (consecutive (l * (2 * nx - 1)) (2 * nx - 1))))) ⌝ }
 {
-    let w = 2 * nx - 1;
-    let h = 2 * ny - 1;
-    let y = l % h % 2;
-    let z = l / h % 2;
     let n = 4 - j;
-    let start = first_x(n, y + z, w);
-    let a = first_stride(start, y, w, w * h);
-    let b = last_stride(z, w, w * h);
-    let base = l * w;
-    let mut x = start;
-    while x < w {
-        join_at(map, nx, ny, nz, n, base + x, a, w, b, links);
+    let s = strided_line(nx, ny, nz, n, l);
+    let line = s.line;
+    let mut x = line.start;
+    while x < line.width {
+        join_at(
+            map,
+            nx,
+            ny,
+            nz,
+            n,
+            line.base + x,
+            s.first,
+            line.width,
+            s.last,
+            links,
+        );
         x += 2;
     }
 }

@@ -3,8 +3,8 @@
 use mathlib.Core.Path.{_≡_, refl, sym, ap, _∙_}
 use mathlib.Core.Bool.{Bool, true, false}
 use mathlib.Core.Logic.{_≢_}
-use mathlib.Core.List.{List, _++_, append-assoc}
-use Prim.Native.Nat.{ℕ, zero, suc, _+_, _-_, _*_, _%_, _≤_, _<_}
+use mathlib.Core.List.{List, [], _∷_, _++_, append-assoc}
+use Prim.Native.Nat.{ℕ, zero, suc, _+_, _*_, _≤_, _<_}
 use native.Mathlib.Nat.{add-zero, mul-le-mul-right}
 use native.Mathlib.Numerals.{add-one}
 use native.Mathlib.Omega.{arith}
@@ -27,8 +27,8 @@ use Rattle.cells.specs.Row.{row, active, occupied}
 use Rattle.labels.specs.Number.{edges, activeOf, number, numberedAt, numbered}
 use Rattle.labels.proofs.NumberLaws.{rep-leaders, rep-active, rep-inactive}
 use Rattle.labels.proofs.LabelLaws.{Agree, active-agree}
-use Rattle.lines.specs.Lines.{lineCount, firstX}
-use Rattle.lines.proofs.LineLaws.{cells-lines, Tests, line-start, line-next, line-end}
+use Rattle.lines.specs.Lines.{lineCount}
+use Rattle.lines.proofs.LineLaws.{cells-lines}
 use Rattle.pass_number.specs.Scan.{Scan, scanned, scanAt, scan}
 use Rattle.pass_number.specs.Spanning.{Spanning}
 
@@ -58,26 +58,20 @@ at-total e p s =
 
 -- ---- one line
 
--- A line has w cells from base on, and those that pass the test f are scanned. Those from x on are ahead: they make of s what all of them make of s₀.
-pub record Ahead (e : Triple) (f : ℕ → Bool) (base w : ℕ) (s₀ : Scan) (x : ℕ) (s : Scan) : Type 0 where
-  pub low : s .total ≤ base + x
-  pub rest : scan e (keep f (consecutive (base + x) (w - x))) s ≡ scan e (keep f (consecutive base w)) s₀
+-- The cells qs, from position p on, are ahead: they make of s what the cells ps make of s₀.
+pub record Ahead (e : Triple) (ps : List ℕ) (s₀ : Scan) (p : ℕ) (qs : List ℕ) (s : Scan) : Type 0 where
+  pub low : s .total ≤ p
+  pub rest : scan e qs s ≡ scan e ps s₀
 
-module _ {e : Triple} {f : ℕ → Bool} {base w n q : ℕ} (T : Tests f base w n q) {s₀ : Scan} where
-  -- At the first of them all are ahead, the next one is two further, and past the end there is none.
-  pub ahead-all : s₀ .total ≤ base → Ahead e f base w s₀ (firstX n q w) s₀
-  ahead-all h = record { low = omega arith; rest = ap (λ l. scan e l s₀) (sym (line-start T)) }
-
-  pub ahead-next : {x : ℕ} {s t : Scan} → x < w → n ≡ x % 2 + q → Ahead e f base w s₀ x s → t ≡ scanAt e (base + x) s → Ahead e f base w s₀ (x + 2) t
+module _ {e : Triple} {ps : List ℕ} {s₀ : Scan} {p : ℕ} {s : Scan} where
+  -- The next one is scanned, and the others are ahead, or none is.
+  pub ahead-next : {q : ℕ} {qs : List ℕ} {t : Scan} → p < q → Ahead e ps s₀ p (p ∷ qs) s → t ≡ scanAt e p s → Ahead e ps s₀ q qs t
   unfolding scan
-  ahead-next {x} {s} h k A i = record {
-    low = rw i (omega (arith, A .low, at-total e (base + x) s));
-    rest = rw i (ap (λ l. scan e l s) (sym (line-next T x h k)) ∙ A .rest);
-  }
+  ahead-next h A i = record { low = rw i (omega (arith, A .low, at-total e p s)); rest = rw i (A .rest) }
 
-  pub ahead-none : {x : ℕ} {s : Scan} → w ≤ x → Ahead e f base w s₀ x s → s ≡ scan e (keep f (consecutive base w)) s₀
+  pub ahead-none : Ahead e ps s₀ p [] s → s ≡ scan e ps s₀
   unfolding scan
-  ahead-none {x} {s} h A = ap (λ l. scan e l s) (sym (line-end T x h)) ∙ A .rest
+  ahead-none A = A .rest
 
 -- ---- all cells
 

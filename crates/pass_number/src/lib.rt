@@ -1,9 +1,7 @@
 // The numbering pass of the labeller: the cells of one order get their numbers in the order of their positions. A cell's link is needed no longer once
 // the cell has its number, so the pass leaves zeros in the table of links: the next order finds a cleared one.
-use lines::first_stride;
-use lines::first_x;
-use lines::last_stride;
 use lines::row_near;
+use lines::strided_line;
 use union_find::parent;
 ghost use mathlib.Core.Path.{_≡_};
 ghost use Prim.Native.Nat.{_*_, _-_, _<_, _≤_};
@@ -67,19 +65,25 @@ fn number_line(
     ensures { λ r. ⌜ scanned (now (map .exit)) (now (links .exit)) r
         ≡ scan (triple nx ny nz) (keep (λ p. eqb (order (triple nx ny nz) p) j) (consecutive (l * (2 * nx - 1)) (2 * nx - 1))) (scanned (now (map .entry)) (now (links .entry)) total) ⌝ }
 {
-    let w = 2 * nx - 1;
-    let h = 2 * ny - 1;
-    let y = l % h % 2;
-    let z = l / h % 2;
     let n = 3 - j;
-    let start = first_x(n, y + z, w);
-    let a = first_stride(start, y, w, w * h);
-    let b = last_stride(z, w, w * h);
-    let base = l * w;
+    let s = strided_line(nx, ny, nz, n, l);
+    let line = s.line;
     let mut t = total;
-    let mut x = start;
-    while x < w {
-        t = number_at(map, nx, ny, nz, n, base + x, a, w, b, links, t);
+    let mut x = line.start;
+    while x < line.width {
+        t = number_at(
+            map,
+            nx,
+            ny,
+            nz,
+            n,
+            line.base + x,
+            s.first,
+            line.width,
+            s.last,
+            links,
+            t,
+        );
         x += 2;
     }
     t

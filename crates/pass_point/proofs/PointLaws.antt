@@ -3,7 +3,7 @@
 use mathlib.Core.Path.{_≡_, refl, sym, ap, _∙_}
 use mathlib.Core.Logic.{_≢_}
 use mathlib.Core.List.{List, [], _∷_, _++_, map-map}
-use Prim.Native.Nat.{ℕ, _+_, _-_, _*_, _%_, _≤_, _<_}
+use Prim.Native.Nat.{ℕ, _+_, _-_, _*_, _≤_, _<_}
 use native.Mathlib.Omega.{arith}
 use lib.Dec.{eqb}
 use lib.ListN.{getD, length, length-append, List·getD-eq-default}
@@ -17,10 +17,10 @@ use Rattle.cells.specs.Row.{rowOf, occupied}
 use Rattle.cells.proofs.ExtentLaws.{cells-high}
 use Rattle.cells.proofs.GridLaws.{odd-lt}
 use Rattle.labels.specs.Components.{ofOrder}
-use Rattle.lines.specs.Lines.{strideIf, odds, around, lineCount, lineY, lineZ, firstX}
-use Rattle.lines.proofs.LineLaws.{up-around, odds-are, Reads, reads, line-inside, line-order, line-start, line-next, line-end}
+use Rattle.lines.specs.Lines.{strideIf, odds, around, lineCount}
+use Rattle.lines.proofs.LineLaws.{up-around, odds-are, Reads, reads}
 use Rattle.pass_survey.specs.Surveys.{onLine}
-use Rattle.pass_survey.proofs.SurveyLaws.{among, tests, passes-first, passes-next, fromLine, from-first, from-next, from-last}
+use Rattle.pass_survey.proofs.SurveyLaws.{fromLine, from-first, from-next, from-last}
 use Rattle.pass_point.specs.Findings.{finalIn, foundRow, foundAmong, foundCells, numbersAt, finalsIn}
 
 -- ---- final numbers
@@ -115,53 +115,6 @@ module _ (e : Triple) (numbers : List ℕ) (from : ℕ) (m : List ℕ) where
 
   pub counted-all : (rs : List ℕ) (n t : ℕ) → rs ≡ [] → n + length (found rs) ≡ t → n ≡ t
   counted-all rs n t s c = let d = ap (λ (l : List ℕ). length (found l)) s ∙ ap length found-none in omega arith
-
--- ---- the point cells on line l from x on
-
-pub record AtPoint (e : Triple) (l x : ℕ) : Type 0 where
-  pub passes : x < sides e .x → 3 ≡ x % 2 + (lineY e l + lineZ e l)
-
-unfoldable pub ahead : Triple → ℕ → ℕ → List ℕ
-ahead e l x = among e 0 (l * sides e .x + x) (sides e .x - x)
-
-module _ (e : Triple) (l : ℕ) where
-  pub at-first : (s : ℕ) → s ≡ firstX 3 (lineY e l + lineZ e l) (sides e .x) → AtPoint e l s
-  at-first s i = record { passes = passes-first 3 (lineY e l + lineZ e l) (sides e .x) s i }
-
-  pub ahead-first : (s : ℕ) → s ≡ firstX 3 (lineY e l + lineZ e l) (sides e .x) → onLine e 0 l ≡ ahead e l s
-  unfolding ahead onLine
-  ahead-first s i = line-start (tests e 0 l _ (omega arith) refl) ∙ ap (λ (x : ℕ). among e 0 (l * sides e .x + x) (sides e .x - x)) (sym i)
-
-  module _ (x : ℕ) (A : AtPoint e l x) where
-    pub at-next : AtPoint e l (x + 2)
-    at-next = record { passes = passes-next 3 (lineY e l + lineZ e l) (sides e .x) x (A .passes) }
-
-    module _ (h : x < sides e .x) where
-      pub ahead-next : ahead e l x ≡ ((l * sides e .x + x) ∷ []) ++ ahead e l (x + 2)
-      unfolding ahead
-      ahead-next = line-next (tests e 0 l _ (omega arith) refl) x h (A .passes h)
-
-      pub at-level : order e (l * sides e .x + x) ≡ 0
-      at-level = omega (arith, line-order e l x h, A .passes h)
-
-      pub at-within : l < lineCount e → l * sides e .x + x < cells e
-      at-within k = line-inside e l x h k
-
-  pub ahead-last : (x : ℕ) → sides e .x ≤ x → ahead e l x ≡ []
-  unfolding ahead
-  ahead-last x h = line-end (tests e 0 l _ (omega arith) refl) x h
-
--- the points so far, and those from x on, make t
-module _ (e : Triple) (numbers : List ℕ) (from : ℕ) (m : List ℕ) (l : ℕ) where
-  pub count-first : (k s : ℕ) → s ≡ firstX 3 (lineY e l + lineZ e l) (sides e .x) → k + length (foundAmong e numbers from m (ahead e l s)) ≡ k + length (foundAmong e numbers from m (onLine e 0 l))
-  count-first k s i = ap (λ (ps : List ℕ). k + length (foundAmong e numbers from m ps)) (sym (ahead-first e l s i))
-
-  pub count-next : (n k t x : ℕ) → AtPoint e l x → x < sides e .x → k ≡ length (foundAmong e numbers from m ((l * sides e .x + x) ∷ [])) → n + length (foundAmong e numbers from m (ahead e l x)) ≡ t
-      → n + k + length (foundAmong e numbers from m (ahead e l (x + 2))) ≡ t
-  count-next n k t x A h = counted-next e numbers from m ((l * sides e .x + x) ∷ []) (ahead e l (x + 2)) (ahead e l x) n k t (ahead-next e l x A h)
-
-  pub count-last : (n t x : ℕ) → sides e .x ≤ x → n + length (foundAmong e numbers from m (ahead e l x)) ≡ t → n ≡ t
-  count-last n t x h = counted-all e numbers from m (ahead e l x) n t (ahead-last e l x h)
 
 -- ---- line after line
 

@@ -10,18 +10,14 @@ use lib.ListN.{getD, length, set}
 use Rattle.lists.specs.Lists.{overlay}
 use Rattle.lists.proofs.Overlay.{length-overlay, overlay-same}
 use Rattle.cells.specs.Box.{Triple}
-use Rattle.cells.specs.Grid.{sides, cells, order}
-use Rattle.lines.specs.Lines.{lineY, lineZ, firstX}
 use Rattle.joiner.specs.Job.{keyOf, keyBase}
 use Rattle.blocks.specs.Blocks.{sizeOf}
 use Rattle.blocks.specs.declared.Block.{Block}
-use Rattle.pass_survey.specs.Surveys.{onLine}
 use Rattle.pass_survey.proofs.SurveyLaws.{fromLine}
-use Rattle.pass_enrol.specs.Enrolment.{Along, positionIn}
-use Rattle.pass_enrol.proofs.PlaceLaws.{position-line, position-high}
+use Rattle.pass_enrol.specs.Enrolment.{positionIn}
 use Rattle.pass_enrol.proofs.RowLaws.{rows-none, rows-next}
 use Rattle.pass_point.specs.Findings.{foundRow, foundAmong, foundCells, rowEntry, keyAt, written, Stored, Room}
-use Rattle.pass_point.proofs.PointLaws.{found-append, found-none, found-length, cell-none, cell-one, AtPoint, ahead, at-first, ahead-first, ahead-next, at-level, at-within, ahead-last, found-all}
+use Rattle.pass_point.proofs.PointLaws.{found-append, found-none, found-length, cell-none, cell-one, found-all}
 
 -- ---- entries for the cells of a list
 
@@ -131,38 +127,6 @@ module _ (v : Triple) (r : Block) (b : ℕ) (m numbers : List ℕ) (from : ℕ) 
           keys-long = ap length (S .keys-are) ∙ length-written 1 (keyAt v r b) (found cs) n keys′ ∙ L .keys-long;
           rows-long = ap length (S .rows-are) ∙ length-written 6 (rowEntry r numbers from m) (found cs) n rows′ ∙ L .rows-long;
         }
-
--- ---- along a line
-
--- The point cell at x of line l, of w cells, which begins at `first` in the volume.
-pub record Here (v : Triple) (r : Block) (l w x first : ℕ) : Type 0 where
-  pub within : l * w + x < cells (sizeOf r)
-  pub level : order (sizeOf r) (l * w + x) ≡ 0
-  pub position : first + x ≡ positionIn v r (l * w + x)
-  pub high : first + x < 8589934592
-
-module _ {v : Triple} {r : Block} {m : List ℕ} {l w start first : ℕ} (A : Along v r m 0 l w start first) where
-  starts : start ≡ firstX 3 (lineY (sizeOf r) l + lineZ (sizeOf r) l) (sides (sizeOf r) .x)
-  starts = A .first ∙ ap (firstX 3 (lineY (sizeOf r) l + lineZ (sizeOf r) l)) (A .wide)
-
-  pub along-first : AtPoint (sizeOf r) l start × (onLine (sizeOf r) 0 l ≡ ahead (sizeOf r) l start)
-  along-first = (at-first (sizeOf r) l start starts, ahead-first (sizeOf r) l start starts)
-
-  module _ (x : ℕ) (P : AtPoint (sizeOf r) l x) (h : x < w) where
-    x-low : x < sides (sizeOf r) .x
-    x-low = rw (A .wide) at h
-
-    pub along-here : Here v r l w x first
-    along-here =
-        let i = at-within (sizeOf r) l x P x-low (A .on) in
-        let s = ap (λ (n : ℕ). n + x) (A .begins) ∙ position-line v r l x x-low in
-        rw (A .wide) (record { within = i; level = at-level (sizeOf r) l x P x-low; position = s; high = omega (arith, position-high (A .lies) (l * sides (sizeOf r) .x + x) i) })
-
-    pub along-next : ahead (sizeOf r) l x ≡ ((l * w + x) ∷ []) ++ ahead (sizeOf r) l (x + 2)
-    along-next = rw (A .wide) (ahead-next (sizeOf r) l x P x-low)
-
-  pub along-last : (x : ℕ) → w ≤ x → ahead (sizeOf r) l x ≡ []
-  along-last x h = ahead-last (sizeOf r) l x (rw (A .wide) at h)
 
 -- ---- all points of a block
 

@@ -2,7 +2,9 @@
 use blocks::Block;
 use blocks::embed;
 use joiner::KEY_BASE;
-use lines::first_x;
+use lines::Line;
+use lines::line_at;
+use lines::line_with;
 use rows::row_of_six;
 use rows::same_row;
 ghost use mathlib.Core.Path.{_≡_};
@@ -126,14 +128,11 @@ fn count_line(
     requires { ⌜ Sized 64 (triple nx ny nz) × (length (now map) ≡ cells (triple nx ny nz)) × (l < lineCount (triple nx ny nz)) × (count + length (foundAmong (triple nx ny nz) (now numbers) from (now map) (onLine (triple nx ny nz) 0 l)) < 4294967296) ⌝ }
     ensures { λ r. ⌜ r ≡ count + length (foundAmong (triple nx ny nz) (now (numbers .entry)) from (now (map .entry)) (onLine (triple nx ny nz) 0 l)) ⌝ }
 {
-    let w = 2 * nx - 1;
-    let h = 2 * ny - 1;
-    let start = first_x(3, l % h % 2 + l / h % 2, w);
-    let base = l * w;
+    let line = line_at(nx, ny, nz, 3, l);
     let mut n = count;
-    let mut x = start;
-    while x < w {
-        n += count_cell(map, nx, ny, nz, base + x, numbers, from);
+    let mut x = line.start;
+    while x < line.width {
+        n += count_cell(map, nx, ny, nz, line.base + x, numbers, from);
         x += 2;
     }
     n
@@ -196,7 +195,7 @@ fn store_cell(
     at + 1
 }
 
-// Stores the points on line l, of w cells. The first point cell is at x = start, and in the volume the line begins at `first`.
+// Stores the points on line l. In the volume it begins at `first`.
 fn store_cells(
     keys: &mut [u64],
     rows: &mut [u32],
@@ -210,17 +209,15 @@ fn store_cells(
     numbers: &[u32],
     from: u32,
     l: usize,
-    w: usize,
-    start: usize,
+    line: Line,
     first: u64,
 ) -> usize
-    requires { ⌜ Along (triple nx ny nz) block (now map) 0 l w start first × (b < mostBlocks) × Room (length (foundAmong (sizeOf block) (now numbers) from (now map) (onLine (sizeOf block) 0 l))) at (length (now keys)) (length (now rows)) ⌝ }
+    requires { ⌜ Along (triple nx ny nz) block (now map) 0 l line first × (b < mostBlocks) × Room (length (foundAmong (sizeOf block) (now numbers) from (now map) (onLine (sizeOf block) 0 l))) at (length (now keys)) (length (now rows)) ⌝ }
     ensures { λ n. ⌜ Stored (triple nx ny nz) block b (now (map .entry)) (now (numbers .entry)) from (onLine (sizeOf block) 0 l) at (now (keys .entry)) (now (rows .entry)) (now (keys .exit)) (now (rows .exit)) n ⌝ }
 {
-    let base = l * w;
     let mut n = at;
-    let mut x = start;
-    while x < w {
+    let mut x = line.start;
+    while x < line.width {
         n = store_cell(
             keys,
             rows,
@@ -233,7 +230,7 @@ fn store_cells(
             b,
             numbers,
             from,
-            base + x,
+            line.base + x,
             first + (x as u64),
         );
         x += 2;
@@ -259,11 +256,10 @@ fn store_line(
     requires { ⌜ Lies (triple nx ny nz) block × (length (now map) ≡ cells (sizeOf block)) × (b < mostBlocks) × (l < lineCount (sizeOf block)) × Room (length (foundAmong (sizeOf block) (now numbers) from (now map) (onLine (sizeOf block) 0 l))) at (length (now keys)) (length (now rows)) ⌝ }
     ensures { λ n. ⌜ Stored (triple nx ny nz) block b (now (map .entry)) (now (numbers .entry)) from (onLine (sizeOf block) 0 l) at (now (keys .entry)) (now (rows .entry)) (now (keys .exit)) (now (rows .exit)) n ⌝ }
 {
-    let w = 2 * block.nx - 1;
     let h = 2 * block.ny - 1;
     let y = l % h;
     let z = l / h;
-    let start = first_x(3, y % 2 + z % 2, w);
+    let line = line_with(block.nx, block.ny, block.nz, 3, l, y % 2 + z % 2);
     let first = embed(nx, ny, nz, block, 0, y, z);
     store_cells(
         keys,
@@ -278,8 +274,7 @@ fn store_line(
         numbers,
         from,
         l,
-        w,
-        start,
+        line,
         first,
     )
 }

@@ -11,13 +11,12 @@ use lib.Seq.{getD-set-same, getD-set-other}
 use borrow.Author.Tests.{eqb-true, eqb-false, ltb-true, ltb-false}
 use Rattle.lists.proofs.Cases.{by-test}
 use Rattle.cells.specs.Box.{Triple}
-use Rattle.cells.specs.Grid.{sides}
-use Rattle.lines.specs.Lines.{lineCount, lineY, lineZ, firstX}
+use Rattle.lines.specs.Lines.{LineAt}
+use Rattle.lines.specs.declared.Line.{Line}
 use Rattle.pass_survey.specs.Surveys.{onLine}
 use Rattle.totals.specs.Totals.{sumsWith, countsWith}
 use Rattle.strain_calls.specs.Adding.{gathered}
-use Rattle.pass_strain.specs.Summing.{Brought, brought, cellTaken, Lies, Skips, nextAt, Listed}
-use Rattle.pass_strain.specs.declared.Line.{Line}
+use Rattle.pass_strain.specs.Summing.{Brought, brought, cellTaken, Skips, nextAt, Listed}
 use Rattle.pass_strain.proofs.SumLaws.{skips-none, skips-more, Going, going-start, going-skip, going-more, going-end}
 
 -- The list after the cells before `at`: what is listed, and what is passed over since the last of them.
@@ -96,37 +95,36 @@ grow-end m base w start list k at G h = record { few = G .few; each = G .each; p
 -- ---- the listed cells of line l, taken in one after the other
 
 -- The tables after i of the listed cells.
-pub record Taking (e s : Triple) (g : Brought) (l start : ℕ) (list : List ℕ) (sums₀ : List Float) (counts₀ : List ℕ) (i : ℕ) (sums : List Float) (counts : List ℕ) : Type 0 where
-  pub late : start ≤ nextAt start list i
-  pub alike : nextAt start list i % 2 ≡ start % 2
-  pub going : Going e s g l sums₀ counts₀ (nextAt start list i) sums counts
+pub record Taking (e s : Triple) (g : Brought) (l : ℕ) (line : Line) (list : List ℕ) (sums₀ : List Float) (counts₀ : List ℕ) (i : ℕ) (sums : List Float) (counts : List ℕ) : Type 0 where
+  pub late : line .start ≤ nextAt (line .start) list i
+  pub alike : nextAt (line .start) list i % 2 ≡ line .start % 2
+  pub going : Going e s g l line sums₀ counts₀ (nextAt (line .start) list i) sums counts
 
-pub take-none : (e s : Triple) (g : Brought) (l start : ℕ) (list : List ℕ) (sums : List Float) (counts : List ℕ) → start ≡ firstX 1 (lineY e l + lineZ e l) (sides e .x)
-    → Taking e s g l start list sums counts 0 sums counts
+pub take-none : (e s : Triple) (g : Brought) (l : ℕ) (line : Line) → LineAt e 1 l line → (list : List ℕ) (sums : List Float) (counts : List ℕ) → Taking e s g l line list sums counts 0 sums counts
 unfolding nextAt
-take-none e s g l start list sums counts h = record { late = omega arith; alike = refl; going = going-start e s g l sums counts start h }
+take-none e s g l line L list sums counts = record { late = omega arith; alike = refl; going = going-start e s g l line L sums counts }
 
-module _ (e s : Triple) (m numbers : List ℕ) (from : ℕ) (values : List Float) (kinds : List ℕ) (l : ℕ) (hl : l < lineCount e) (r : Line) (L : Lies e l r) (list : List ℕ) (many : ℕ)
-    (K : Listed m (r .base) (sides e .x) (r .start) list many) (sums₀ : List Float) (counts₀ : List ℕ) (i : ℕ) (sums : List Float) (counts : List ℕ)
-    (T : Taking e s (brought m numbers from values kinds) l (r .start) list sums₀ counts₀ i sums counts) where
+module _ (e s : Triple) (m numbers : List ℕ) (from : ℕ) (values : List Float) (kinds : List ℕ) (l : ℕ) (r : Line) (L : LineAt e 1 l r) (list : List ℕ) (many : ℕ)
+    (K : Listed m (r .base) (r .width) (r .start) list many) (sums₀ : List Float) (counts₀ : List ℕ) (i : ℕ) (sums : List Float) (counts : List ℕ)
+    (T : Taking e s (brought m numbers from values kinds) l r list sums₀ counts₀ i sums counts) where
   -- the next of them is a face cell of the line
-  pub listed-cell : i < many → (getD list i 0 < sides e .x) × (r .start ≤ getD list i 0) × (getD list i 0 % 2 ≡ r .start % 2)
+  pub listed-cell : i < many → (getD list i 0 < r .width) × (r .start ≤ getD list i 0) × (getD list i 0 % 2 ≡ r .start % 2)
   listed-cell h = (K .each i h .0, omega (arith, T .late, K .each i h .1 .is), omega (arith, T .alike, K .each i h .1 .is))
 
   pub take-next : i < many → (sums′ : List Float) (counts′ : List ℕ)
       → sums′ ≡ sumsWith sums (cellTaken e s (brought m numbers from values kinds) (r .base + getD list i 0))
       → counts′ ≡ countsWith counts (cellTaken e s (brought m numbers from values kinds) (r .base + getD list i 0))
-      → Taking e s (brought m numbers from values kinds) l (r .start) list sums₀ counts₀ (i + 1) sums′ counts′
+      → Taking e s (brought m numbers from values kinds) l r list sums₀ counts₀ (i + 1) sums′ counts′
   unfolding nextAt
   take-next h sums′ counts′ a b =
-      let here = going-skip e s m numbers from values kinds l hl r L sums₀ counts₀ sums counts (nextAt (r .start) list i) (getD list i 0) (T .late) (T .alike) (K .each i h .1) (T .going) in
+      let here = going-skip e s m numbers from values kinds l r L sums₀ counts₀ sums counts (nextAt (r .start) list i) (getD list i 0) (T .late) (T .alike) (K .each i h .1) (T .going) in
       let x-in = listed-cell h in
       let q : suc i ≡ i + 1 = omega arith in
-      subst (λ (j : ℕ). Taking e s (brought m numbers from values kinds) l (r .start) list sums₀ counts₀ j sums′ counts′) q
+      subst (λ (j : ℕ). Taking e s (brought m numbers from values kinds) l r list sums₀ counts₀ j sums′ counts′) q
       record {
         late = omega (arith, x-in .1);
         alike = omega (arith, x-in .2);
-        going = going-more e s (brought m numbers from values kinds) l sums₀ counts₀ (getD list i 0) sums counts here r L sums′ counts′ (x-in .0) hl (x-in .1) (x-in .2) a b;
+        going = going-more e s (brought m numbers from values kinds) l r L sums₀ counts₀ (getD list i 0) sums counts here sums′ counts′ (x-in .0) (x-in .1) (x-in .2) a b;
       }
 
   pub taken-all : many ≤ i → i ≤ many
@@ -134,6 +132,6 @@ module _ (e s : Triple) (m numbers : List ℕ) (from : ℕ) (values : List Float
       × (counts ≡ countsWith counts₀ (gathered (cellTaken e s (brought m numbers from values kinds)) (onLine e 2 l)))
   taken-all a b =
       let q : many ≡ i = omega (arith, a, b) in
-      let rest : Skips m (r .base) (sides e .x) (nextAt (r .start) list i) (K .past) = subst (λ (j : ℕ). Skips m (r .base) (sides e .x) (nextAt (r .start) list j) (K .past)) q (K .rest) in
-      going-end e s (brought m numbers from values kinds) l sums₀ counts₀ (K .past) sums counts
-      (going-skip e s m numbers from values kinds l hl r L sums₀ counts₀ sums counts (nextAt (r .start) list i) (K .past) (T .late) (T .alike) rest (T .going)) (K .ended)
+      let rest : Skips m (r .base) (r .width) (nextAt (r .start) list i) (K .past) = subst (λ (j : ℕ). Skips m (r .base) (r .width) (nextAt (r .start) list j) (K .past)) q (K .rest) in
+      going-end e s (brought m numbers from values kinds) l r L sums₀ counts₀ (K .past) sums counts
+      (going-skip e s m numbers from values kinds l r L sums₀ counts₀ sums counts (nextAt (r .start) list i) (K .past) (T .late) (T .alike) rest (T .going)) (K .ended)

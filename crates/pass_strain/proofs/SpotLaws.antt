@@ -1,15 +1,15 @@
 -- Where the lines of a block lie.
 -- Assumes nothing.
 use mathlib.Core.Path.{_≡_, sym, ap, _∙_}
-use Prim.Native.Nat.{ℕ, suc, _+_, _-_, _*_, _/_, _%_, _≤_, _<_}
+use Prim.Native.Nat.{ℕ, suc, _+_, _*_, _/_, _%_, _≤_, _<_}
 use native.Mathlib.Nat.{suc-mod, mod-eq-of-lt, mod-self, mod-le, mod-lt, div-le-self, div-add-mod', div-eq-of-lt-le, div-eq-of-eq-mul-left, add-mul, one-mul}
 use native.Mathlib.Omega.{arith}
 use Rattle.cells.specs.Box.{Triple}
 use Rattle.cells.specs.Extents.{Sized}
 use Rattle.cells.specs.Grid.{sides}
-use Rattle.lines.specs.Lines.{lineCount, lineY, lineZ, firstX, firstStride}
+use Rattle.lines.specs.Lines.{lineCount, lineY, lineZ, firstStride, LineAt}
 use Rattle.pass_strain.specs.Summing.{Lies, Lying}
-use Rattle.pass_strain.specs.declared.Line.{Line}
+use Rattle.pass_strain.specs.declared.FaceLine.{FaceLine}
 use Rattle.pass_strain.specs.declared.Spot.{Spot}
 use Rattle.pass_strain.proofs.SumLaws.{bounds}
 
@@ -45,18 +45,21 @@ spot-small h l y z p q = (omega (arith, p, mod-le l h), omega (arith, q, div-le-
 
 -- What a line is told by, by where it lies.
 module _ (e : Triple) (l y z : ℕ) (p : y ≡ l % sides e .y) (q : z ≡ l / sides e .y) where
-  pub lies : (r : Line) → r .y ≡ y → r .z ≡ z → r .start ≡ firstX 1 (y % 2 + z % 2) (sides e .x)
-      → r .stride ≡ firstStride (r .start) (y % 2) (sides e .x) (sides e .x * sides e .y) → r .apart ≡ firstStride (r .start) (y % 2) (e .x) (e .x * e .y)
-      → r .base ≡ l * sides e .x → r .first ≡ y / 2 * e .x + z / 2 * (e .x * e .y) → Lies e l r
+  pub odd-there : y % 2 + z % 2 ≡ lineY e l + lineZ e l
   unfolding lineY lineZ
-  lies r a b c d f g h =
+  odd-there = rw (p, q)
+
+  pub lies : (r : FaceLine) → LineAt e 1 l (r .line) → r .y ≡ y → r .z ≡ z
+      → r .stride ≡ firstStride (r .line .start) (y % 2) (sides e .x) (sides e .x * sides e .y) → r .apart ≡ firstStride (r .line .start) (y % 2) (e .x) (e .x * e .y)
+      → r .first ≡ y / 2 * e .x + z / 2 * (e .x * e .y) → Lies e l r
+  unfolding lineY
+  lies r L a b d f h =
       record {
+        line = L;
         y = a ∙ p;
         z = b ∙ q;
-        start = rw (← p, ← q) c;
         stride = rw (← p) d;
         apart = rw (← p) f;
-        base = g;
         first = rw (← p, ← q) h;
       }
 

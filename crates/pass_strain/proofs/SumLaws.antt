@@ -14,25 +14,27 @@ use borrow.Author.Tests.{eq-eqb, ne-eqb, ltb-true, ltb-false, not-true, not-fals
 use Rattle.lists.proofs.Cases.{by-test}
 use Rattle.cells.specs.Box.{Triple, Y, Z, triple, stride, volume, place}
 use Rattle.cells.specs.Extents.{Sized}
-use Rattle.cells.specs.Grid.{sides, cells, order, voxel}
+use Rattle.cells.specs.Grid.{sides, order, voxel}
 use Rattle.cells.specs.Row.{padTo, rowOf, row}
 use Rattle.cells.proofs.BoxLaws.{same-triple}
 use Rattle.cells.proofs.RowFacts.{row-alike}
 use Rattle.cells.proofs.GridLaws.{voxel-inside}
-use Rattle.cells.proofs.ExtentLaws.{layer-high, area-high, cells-high}
-use Rattle.lines.specs.Lines.{odds, around, lineCount, lineY, lineZ, firstX, firstStride}
-use Rattle.lines.proofs.LineLaws.{up-around, row-odds, Reads, reads, Tests, line-odd, line-inside, line-place, line-strides, strided-one}
+use Rattle.cells.proofs.ExtentLaws.{layer-high, area-high}
+use Rattle.lines.specs.Lines.{odds, around, lineCount, lineY, lineZ, firstStride, LineAt}
+use Rattle.lines.specs.declared.Line.{Line}
+use Rattle.lines.proofs.LineLaws.{up-around, row-odds, Reads, reads, Tests, line-odd, line-place, line-strides, strided-one, order-tests}
+use Rattle.lines.proofs.WalkLaws.{ahead, walk-even, walk-inside, cells-first, cells-next, cells-last}
 use Rattle.pass_point.specs.Findings.{finalIn}
 use Rattle.pass_survey.specs.Surveys.{onLine}
-use Rattle.pass_survey.proofs.SurveyLaws.{among, tests, fromLine}
+use Rattle.pass_survey.proofs.SurveyLaws.{fromLine}
 use Rattle.strains.specs.declared.Reading.{Reading}
-use Rattle.totals.specs.Totals.{Taken, taken, slotOf, after, sumAdded, sumsWith, countAdded, countsWith, readingAt}
+use Rattle.totals.specs.Totals.{Taken, slotOf, after, sumAdded, sumsWith, countAdded, countsWith, readingAt}
 use Rattle.lowest.specs.Lowest.{startsBy}
 use Rattle.strain_calls.specs.Adding.{gathered, voxelTaken, faceTaken}
 use Rattle.pass_strain.specs.Summing.{Brought, brought, faceAt, ownFace, cellTaken, blockTaken, Whole, Lies, Beside, sideOf, Sided, sideTaken, OwnFace, Skips}
-use Rattle.pass_strain.specs.declared.Line.{Line}
+use Rattle.pass_strain.specs.declared.FaceLine.{FaceLine}
 use Rattle.pass_strain.specs.declared.Sides.{Sides}
-use Rattle.pass_strain.proofs.TakenLaws.{after-append, after-start, after-next, after-end, after-lines, after-line, after-last}
+use Rattle.pass_strain.proofs.TakenLaws.{after-append, after-next, after-none, after-lines, after-line, after-last}
 use Rattle.pass_strain.proofs.VoxelLaws.{voxels-beside}
 
 -- ---- one voxel
@@ -249,15 +251,14 @@ module _ (e s : Triple) (m numbers : List ℕ) (from : ℕ) (values : List Float
 
 -- ---- one line
 
--- The face cells of line l from x on.
-abbrev pub leftOn : Triple → ℕ → ℕ → List ℕ
-leftOn e l x = among e 2 (l * sides e .x + x) (sides e .x - x)
+-- The face cells of a line from x on.
+abbrev pub leftOn : Triple → Line → ℕ → List ℕ
+leftOn e line x = ahead (λ c. eqb (order e c) 2) line x
 
 -- sizes of the numbers that a line is told by
 pub record Bounds (e : Triple) (l : ℕ) : Type 0 where
   pub layer : (2 * e .x - 1) * (2 * e .y - 1) ≤ 16129
   pub area : e .x * e .y ≤ 4096
-  pub line : l * (2 * e .x - 1) < 2048383
   pub y : l % (2 * e .y - 1) / 2 * e .x ≤ 4096
   pub z : l / (2 * e .y - 1) / 2 * (e .x * e .y) ≤ 262144
   pub deep : l / (2 * e .y - 1) < 127
@@ -270,15 +271,17 @@ bounds e l S h =
     record {
       layer = layer-high S;
       area = area-high S;
-      line = omega (arith, line-inside e l 0 (omega (arith, S .x-low)) h, cells-high S);
       y = mul-le-mul {n₂ = 64} {m₂ = 64} (omega (arith, S .y-high)) (S .x-high);
       z = mul-le-mul {n₂ = 64} {m₂ = 4096} (omega (arith, S .z-high)) (area-high S);
       deep = omega (arith, S .z-high);
     }
 
-module _ (e : Triple) (l : ℕ) (r : Line) (L : Lies e l r) (x : ℕ) (hx : x < sides e .x) (hl : l < lineCount e) (a : r .start ≤ x) (b : x % 2 ≡ r .start % 2) where
-  pub passes : (r .start ≡ x % 2) × (1 ≡ x % 2 + (lineY e l + lineZ e l))
-  passes = line-odd 1 (lineY e l + lineZ e l) (sides e .x) {s = r .start} {x = x} (L .start) a b hx
+module _ (e : Triple) (l : ℕ) (r : FaceLine) (L : Lies e l r) (x : ℕ) (hx : x < r .line .width) (hl : l < lineCount e) (a : r .line .start ≤ x) (b : x % 2 ≡ r .line .start % 2) where
+  inside : x < sides e .x
+  inside = omega (arith, L .line .width)
+
+  passes : (r .line .start ≡ x % 2) × (1 ≡ x % 2 + (lineY e l + lineZ e l))
+  passes = line-odd 1 (lineY e l + lineZ e l) (sides e .x) {s = r .line .start} {x = x} (L .line .start) a b inside
 
   stride-is : r .stride ≡ firstStride (x % 2) (lineY e l) (stride (sides e) Y) (stride (sides e) Z)
   unfolding stride
@@ -288,83 +291,72 @@ module _ (e : Triple) (l : ℕ) (r : Line) (L : Lies e l r) (x : ℕ) (hx : x < 
   unfolding stride
   apart-is = L .apart ∙ ap (λ (s : ℕ). firstStride s (lineY e l) (e .x) (e .x * e .y)) (passes .0)
 
-  pub line-within : r .base + x < cells e
-  line-within = rw (L .base) (line-inside e l x hx hl)
+  line-axis : odds e (r .line .base + x) ≡ r .stride ∷ []
+  line-axis = rw (L .line .base, stride-is) (strided-one (line-strides e l x 1 inside (omega arith) (passes .1)) refl)
 
-  pub line-axis : odds e (r .base + x) ≡ r .stride ∷ []
-  line-axis = rw (L .base, stride-is) (strided-one (line-strides e l x 1 hx (omega arith) (passes .1)) refl)
-
-  pub line-beside : (m : List ℕ) (values : List Float) (kinds : List ℕ) → Whole e m values kinds → Beside e m values kinds (r .base + x) (r .stride) (x / 2 + r .first) (r .apart)
+  pub line-beside : (m : List ℕ) (values : List Float) (kinds : List ℕ) → Whole e m values kinds → Beside e m values kinds (r .line .base + x) (r .stride) (x / 2 + r .first) (r .apart)
   line-beside m values kinds W =
-      let v = voxels-beside e l x hx hl (passes .1) in
+      let v = voxels-beside e l x inside hl (passes .1) in
       let g : x / 2 + r .first ≡ x / 2 + l % sides e .y / 2 * e .x + l / sides e .y / 2 * (e .x * e .y) = omega (arith, L .first) in
       record {
         whole = W .whole;
         valued = W .valued;
         kinded = W .kinded;
-        within = line-within;
+        within = walk-inside (L .line) x hx hl;
         axis = line-axis;
-        below = rw (L .base, stride-is) (g ∙ sym (v .0));
-        above = rw (L .base, stride-is, apart-is) (ap (λ (n : ℕ). n + firstStride (x % 2) (lineY e l) (stride e Y) (stride e Z)) g ∙ sym (v .1));
+        below = rw (L .line .base, stride-is) (g ∙ sym (v .0));
+        above = rw (L .line .base, stride-is, apart-is) (ap (λ (n : ℕ). n + firstStride (x % 2) (lineY e l) (stride e Y) (stride e Z)) g ∙ sym (v .1));
       }
 
-  pub line-spot : place (sides e) (r .base + x) ≡ triple x (r .y) (r .z)
-  line-spot = rw (L .base, L .y, L .z) (same-triple _ _ (line-place e l x hx))
-
--- a line of cells lies in the map
-pub line-room : (e : Triple) (l : ℕ) → Sized 64 e → l < lineCount e → l * (2 * e .x - 1) + (2 * e .x - 1) ≤ cells e
-unfolding sides
-line-room e l S h = let q = line-inside e l (2 * e .x - 2) (omega (arith, S .x-low)) h in omega (arith, q, S .x-low)
+  pub line-spot : place (sides e) (r .line .base + x) ≡ triple x (r .y) (r .z)
+  line-spot = rw (L .line .base, L .y, L .z) (same-triple _ _ (line-place e l x inside))
 
 -- The tables so far, at x of line l, with what is left of the line, and with all of it before.
-pub record Going (e s : Triple) (g : Brought) (l : ℕ) (sums₀ : List Float) (counts₀ : List ℕ) (x : ℕ) (sums : List Float) (counts : List ℕ) : Type 0 where
-  pub summed-up : sumsWith sums (gathered (cellTaken e s g) (leftOn e l x)) ≡ sumsWith sums₀ (gathered (cellTaken e s g) (onLine e 2 l))
-  pub counted-up : countsWith counts (gathered (cellTaken e s g) (leftOn e l x)) ≡ countsWith counts₀ (gathered (cellTaken e s g) (onLine e 2 l))
+pub record Going (e s : Triple) (g : Brought) (l : ℕ) (line : Line) (sums₀ : List Float) (counts₀ : List ℕ) (x : ℕ) (sums : List Float) (counts : List ℕ) : Type 0 where
+  pub summed-up : sumsWith sums (gathered (cellTaken e s g) (leftOn e line x)) ≡ sumsWith sums₀ (gathered (cellTaken e s g) (onLine e 2 l))
+  pub counted-up : countsWith counts (gathered (cellTaken e s g) (leftOn e line x)) ≡ countsWith counts₀ (gathered (cellTaken e s g) (onLine e 2 l))
 
-module _ (e s : Triple) (g : Brought) (l : ℕ) where
+module _ (e s : Triple) (g : Brought) (l : ℕ) (line : Line) (L : LineAt e 1 l line) where
   abbrev told : Tests (λ c. eqb (order e c) 2) (l * sides e .x) (sides e .x) 1 (lineY e l + lineZ e l)
-  told = tests e 2 l (lineY e l + lineZ e l) (omega arith) refl
+  told = order-tests e 2 l (omega arith)
 
-  pub going-start : (sums : List Float) (counts : List ℕ) (x : ℕ) → x ≡ firstX 1 (lineY e l + lineZ e l) (sides e .x) → Going e s g l sums counts x sums counts
-  unfolding sumsWith countsWith onLine
-  going-start sums counts x h = record { summed-up = after-start _ (cellTaken e s g) told sums x h; counted-up = after-start _ (cellTaken e s g) told counts x h }
+  pub going-start : (sums : List Float) (counts : List ℕ) → Going e s g l line sums counts (line .start) sums counts
+  unfolding onLine
+  going-start sums counts = record { summed-up = rw (cells-first L told); counted-up = rw (cells-first L told) }
 
-  module _ (sums₀ : List Float) (counts₀ : List ℕ) (x : ℕ) (sums : List Float) (counts : List ℕ) (G : Going e s g l sums₀ counts₀ x sums counts) where
-    pub going-next : (sums′ : List Float) (counts′ : List ℕ) → x < sides e .x → 1 ≡ x % 2 + (lineY e l + lineZ e l)
-        → sums′ ≡ sumsWith sums (cellTaken e s g (l * sides e .x + x)) → counts′ ≡ countsWith counts (cellTaken e s g (l * sides e .x + x)) → Going e s g l sums₀ counts₀ (x + 2) sums′ counts′
+  module _ (sums₀ : List Float) (counts₀ : List ℕ) (x : ℕ) (sums : List Float) (counts : List ℕ) (G : Going e s g l line sums₀ counts₀ x sums counts) where
+    pub going-more : (sums′ : List Float) (counts′ : List ℕ) → x < line .width → line .start ≤ x → x % 2 ≡ line .start % 2
+        → sums′ ≡ sumsWith sums (cellTaken e s g (line .base + x)) → counts′ ≡ countsWith counts (cellTaken e s g (line .base + x)) → Going e s g l line sums₀ counts₀ (x + 2) sums′ counts′
     unfolding sumsWith countsWith
-    going-next sums′ counts′ h o i k =
+    going-more sums′ counts′ h a b i k =
+        let rest = cells-next L told (walk-even L a b) h in
         record {
-          summed-up = after-next _ (cellTaken e s g) told sums sums′ x h o i ∙ G .summed-up;
-          counted-up = after-next _ (cellTaken e s g) told counts counts′ x h o k ∙ G .counted-up;
+          summed-up = after-next _ (cellTaken e s g) sums sums′ (line .base + x) (leftOn e line (x + 2)) i ∙ (rw rest at (G .summed-up));
+          counted-up = after-next _ (cellTaken e s g) counts counts′ (line .base + x) (leftOn e line (x + 2)) k ∙ (rw rest at (G .counted-up));
         }
 
-    pub going-more : (r : Line) (L : Lies e l r) (sums′ : List Float) (counts′ : List ℕ) → x < sides e .x → l < lineCount e → r .start ≤ x → x % 2 ≡ r .start % 2
-        → sums′ ≡ sumsWith sums (cellTaken e s g (r .base + x)) → counts′ ≡ countsWith counts (cellTaken e s g (r .base + x)) → Going e s g l sums₀ counts₀ (x + 2) sums′ counts′
-    going-more r L sums′ counts′ hx hl a b i k =
-        going-next sums′ counts′ hx (passes e l r L x hx hl a b .1)
-        (i ∙ ap (λ (n : ℕ). sumsWith sums (cellTaken e s g (n + x))) (L .base)) (k ∙ ap (λ (n : ℕ). countsWith counts (cellTaken e s g (n + x))) (L .base))
-
-    pub going-end : sides e .x ≤ x
+    pub going-end : line .width ≤ x
         → (sums ≡ sumsWith sums₀ (gathered (cellTaken e s g) (onLine e 2 l))) × (counts ≡ countsWith counts₀ (gathered (cellTaken e s g) (onLine e 2 l)))
     unfolding sumsWith countsWith
-    going-end h = (after-end _ (cellTaken e s g) told sums x h ∙ G .summed-up, after-end _ (cellTaken e s g) told counts x h ∙ G .counted-up)
+    going-end h =
+        let none = cells-last L told h in
+        (after-none _ (cellTaken e s g) sums ∙ (rw none at (G .summed-up)), after-none _ (cellTaken e s g) counts ∙ (rw none at (G .counted-up)))
 
 -- cells that show 0 are passed over
-module _ (e s : Triple) (m numbers : List ℕ) (from : ℕ) (values : List Float) (kinds : List ℕ) (l : ℕ) (hl : l < lineCount e) (r : Line) (L : Lies e l r) (sums₀ : List Float) (counts₀ : List ℕ) (sums : List Float) (counts : List ℕ) where
+module _ (e s : Triple) (m numbers : List ℕ) (from : ℕ) (values : List Float) (kinds : List ℕ) (l : ℕ) (r : Line) (L : LineAt e 1 l r) (sums₀ : List Float) (counts₀ : List ℕ) (sums : List Float) (counts : List ℕ) where
   abbrev here : ℕ → Type 0
-  here x = Going e s (brought m numbers from values kinds) l sums₀ counts₀ x sums counts
+  here x = Going e s (brought m numbers from values kinds) l r sums₀ counts₀ x sums counts
 
-  skip-many : (n x : ℕ) → r .start ≤ x → x % 2 ≡ r .start % 2 → ((i : ℕ) → i < n → (x + 2 * i < sides e .x) × (getD m (r .base + (x + 2 * i)) 0 ≡ 0)) → here x → here (x + 2 * n)
+  skip-many : (n x : ℕ) → r .start ≤ x → x % 2 ≡ r .start % 2 → ((i : ℕ) → i < n → (x + 2 * i < r .width) × (getD m (r .base + (x + 2 * i)) 0 ≡ 0)) → here x → here (x + 2 * n)
   skip-many zero x a b f G = subst here (omega arith) G
   skip-many (suc n) x a b f G =
       let q = skip-many n x a b (λ i h. f i (omega (arith, h))) G in
       let w = f n (omega arith) in
       subst here (omega arith)
-      (going-more e s (brought m numbers from values kinds) l sums₀ counts₀ (x + 2 * n) sums counts q r L sums counts (w .0) hl (omega arith) (omega arith)
+      (going-more e s (brought m numbers from values kinds) l r L sums₀ counts₀ (x + 2 * n) sums counts q sums counts (w .0) (omega arith) (omega arith)
       (blank-sums e s m numbers from values kinds (r .base + (x + 2 * n)) (w .1) sums) (blank-counts e s m numbers from values kinds (r .base + (x + 2 * n)) (w .1) counts))
 
-  pub going-skip : (x y : ℕ) → r .start ≤ x → x % 2 ≡ r .start % 2 → Skips m (r .base) (sides e .x) x y → here x → here y
+  pub going-skip : (x y : ℕ) → r .start ≤ x → x % 2 ≡ r .start % 2 → Skips m (r .base) (r .width) x y → here x → here y
   going-skip x y a b K G = subst here (sym (K .is)) (skip-many (K .many) x a b (K .blank) G)
 
 -- the search of the next cell: none passed yet, and one more

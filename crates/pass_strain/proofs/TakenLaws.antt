@@ -1,16 +1,13 @@
 -- Lists of readings taken: one after the other, cell by cell, line by line.
 -- Assumes nothing.
 use mathlib.Core.Path.{_≡_, refl, sym, ap, _∙_}
-use mathlib.Core.Bool.{Bool}
 use mathlib.Core.List.{List, [], _∷_, _++_, append-assoc}
-use Prim.Native.Nat.{ℕ, _+_, _-_, _*_, _%_, _≤_, _<_}
+use Prim.Native.Nat.{ℕ, _+_, _*_, _≤_, _<_}
 use lib.ListN.{length, length-set}
 use lib.Ieee.{Float}
-use Rattle.lists.specs.Lists.{consecutive, keep}
 use Rattle.cells.specs.Box.{Triple}
 use Rattle.labels.specs.Components.{ofOrder}
-use Rattle.lines.specs.Lines.{firstX, lineCount}
-use Rattle.lines.proofs.LineLaws.{Tests, line-start, line-next, line-end}
+use Rattle.lines.specs.Lines.{lineCount}
 use Rattle.pass_survey.specs.Surveys.{onLine}
 use Rattle.pass_survey.proofs.SurveyLaws.{fromLine, from-first, from-next, from-last}
 use Rattle.strains.specs.Readings.{kindOf}
@@ -27,22 +24,16 @@ unfolding after
 after-append step xs [] b = refl
 after-append step xs (t ∷ a) b = after-append step (step xs t) a b
 
--- ---- along a line, from x on
+-- ---- the next cell of a list, and none
 
-module _ {A : Type 0} (step : A → Taken → A) (f : ℕ → List Taken) {g : ℕ → Bool} {base w n q : ℕ} (T : Tests g base w n q) where
-  abbrev ahead : ℕ → List ℕ
-  ahead x = keep g (consecutive (base + x) (w - x))
-
-  pub after-start : (xs : A) (s : ℕ) → s ≡ firstX n q w → after step xs (gathered f (ahead s)) ≡ after step xs (gathered f (keep g (consecutive base w)))
-  after-start xs s e = rw e (ap (λ (ps : List ℕ). after step xs (gathered f ps)) (sym (line-start T)))
-
-  pub after-next : (xs ys : A) (x : ℕ) → x < w → n ≡ x % 2 + q → ys ≡ after step xs (f (base + x)) → after step ys (gathered f (ahead (x + 2))) ≡ after step xs (gathered f (ahead x))
+module _ {A : Type 0} (step : A → Taken → A) (f : ℕ → List Taken) where
+  pub after-next : (xs ys : A) (p : ℕ) (ps : List ℕ) → ys ≡ after step xs (f p) → after step ys (gathered f ps) ≡ after step xs (gathered f (p ∷ ps))
   unfolding gathered
-  after-next xs ys x h e i = rw (line-next T x h e, i) (sym (after-append step xs (f (base + x)) (gathered f (ahead (x + 2)))))
+  after-next xs ys p ps i = rw i (sym (after-append step xs (f p) (gathered f ps)))
 
-  pub after-end : (xs : A) (x : ℕ) → w ≤ x → xs ≡ after step xs (gathered f (ahead x))
+  pub after-none : (xs : A) → xs ≡ after step xs (gathered f [])
   unfolding gathered after
-  after-end xs x h = rw (line-end T x h) refl
+  after-none xs = refl
 
 -- ---- from line l on
 

@@ -11,14 +11,14 @@ use Rattle.cells.specs.Box.{Triple, volume, place}
 use Rattle.cells.specs.Grid.{sides, cells, voxel}
 use Rattle.cells.specs.Extents.{Sized}
 use Rattle.cells.specs.Row.{rowOf}
-use Rattle.lines.specs.Lines.{odds, lineY, lineZ, firstX, firstStride}
+use Rattle.lines.specs.Lines.{odds, lineY, firstStride, LineAt}
 use Rattle.labels.specs.Components.{ofOrder}
 use Rattle.pass_point.specs.Findings.{finalIn}
 use Rattle.strains.specs.declared.Reading.{Reading}
 use Rattle.totals.specs.Totals.{Taken, taken, slotOf}
 use Rattle.strain_calls.specs.Adding.{gathered, faceTaken}
 use Rattle.lowest.specs.Lowest.{startsBy}
-use Rattle.pass_strain.specs.declared.Line.{Line}
+use Rattle.pass_strain.specs.declared.FaceLine.{FaceLine}
 use Rattle.pass_strain.specs.declared.Spot.{Spot}
 use Rattle.pass_strain.specs.declared.Sides.{Sides}
 
@@ -59,15 +59,14 @@ pub record Whole (e : Triple) (m : List ℕ) (values : List Float) (kinds : List
   pub valued : length values ≡ volume e
   pub kinded : length kinds ≡ volume e
 
--- Line l of the cells: y and z, where its face cells start, the stride of their odd axis, how far apart their voxels stand in the lists, the
--- position of its first cell, and the place of the voxel there or next to it.
-pub record Lies (e : Triple) (l : ℕ) (r : Line) : Type 0 where
+-- Line l, told for its face cells: y and z, the stride of their odd axis, how far apart their voxels stand in the lists, and the place of the voxel at its
+-- first cell or next to it.
+pub record Lies (e : Triple) (l : ℕ) (r : FaceLine) : Type 0 where
+  pub line : LineAt e 1 l (r .line)
   pub y : r .y ≡ l % sides e .y
   pub z : r .z ≡ l / sides e .y
-  pub start : r .start ≡ firstX 1 (lineY e l + lineZ e l) (sides e .x)
-  pub stride : r .stride ≡ firstStride (r .start) (lineY e l) (sides e .x) (sides e .x * sides e .y)
-  pub apart : r .apart ≡ firstStride (r .start) (lineY e l) (e .x) (e .x * e .y)
-  pub base : r .base ≡ l * sides e .x
+  pub stride : r .stride ≡ firstStride (r .line .start) (lineY e l) (sides e .x) (sides e .x * sides e .y)
+  pub apart : r .apart ≡ firstStride (r .line .start) (lineY e l) (e .x) (e .x * e .y)
   pub first : r .first ≡ l % sides e .y / 2 * e .x + l / sides e .y / 2 * (e .x * e .y)
 
 -- Cell p has one odd axis, of stride a; the voxels below and above it stand at places v and v + d of the lists.

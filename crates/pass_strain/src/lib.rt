@@ -1,6 +1,7 @@
 // The pass that adds a block's readings to the totals, face cell by face cell, line by line.
+use lines::Line;
 use lines::first_stride;
-use lines::first_x;
+use lines::line_with;
 use lowest::Start;
 use lowest::one_if;
 use lowest::starts_by;
@@ -152,31 +153,29 @@ fn take_cell(
 }
 
 // A line of the cells: what its face cells are told by.
-pub struct Line {
+pub struct FaceLine {
+    pub line: Line,
     pub y: usize,
     pub z: usize,
-    pub start: usize,
     pub stride: usize,
     pub apart: usize,
-    pub base: usize,
     pub first: usize,
 }
 
 // Line l, which lies at y and z.
-fn line_at(nx: usize, ny: usize, nz: usize, l: usize, y: usize, z: usize) -> Line
+fn face_line(nx: usize, ny: usize, nz: usize, l: usize, y: usize, z: usize) -> FaceLine
     requires { ⌜ Sized 64 (triple nx ny nz) × (l < lineCount (triple nx ny nz)) × (y ≡ l % (2 * ny - 1)) × (z ≡ l / (2 * ny - 1)) ⌝ }
     ensures { λ r. ⌜ Lies (triple nx ny nz) l r ⌝ }
 {
-    let w = 2 * nx - 1;
+    let line = line_with(nx, ny, nz, 1, l, y % 2 + z % 2);
+    let w = line.width;
     let h = 2 * ny - 1;
-    let start = first_x(1, y % 2 + z % 2, w);
-    Line {
+    FaceLine {
+        line: line,
         y: y,
         z: z,
-        start: start,
-        stride: first_stride(start, y % 2, w, w * h),
-        apart: first_stride(start, y % 2, nx, nx * ny),
-        base: l * w,
+        stride: first_stride(line.start, y % 2, w, w * h),
+        apart: first_stride(line.start, y % 2, nx, nx * ny),
         first: y / 2 * nx + z / 2 * (nx * ny),
     }
 }
@@ -238,9 +237,9 @@ fn take_line(
     ensures count { λ r. ⌜ now (counts .exit) ≡ countsWith (now (counts .entry))
         (gathered (cellTaken (triple nx ny nz) (startOf s) (brought (now (map .entry)) (now (numbers .entry)) from (now (values .entry)) (now (kinds .entry)))) (onLine (triple nx ny nz) 2 l)) ⌝ }
 {
-    let w = 2 * nx - 1;
-    let line = line_at(nx, ny, nz, l, y, z);
-    let many = list_shown(list, map, line.base, line.start, w);
+    let face = face_line(nx, ny, nz, l, y, z);
+    let line = face.line;
+    let many = list_shown(list, map, line.base, line.start, line.width);
     let mut i: usize = 0;
     while i < many {
         let x = list[i];
@@ -257,12 +256,12 @@ fn take_line(
             s,
             from,
             line.base + x,
-            line.stride,
-            x / 2 + line.first,
-            line.apart,
+            face.stride,
+            x / 2 + face.first,
+            face.apart,
             x,
-            line.y,
-            line.z,
+            face.y,
+            face.z,
         );
         i += 1;
     }

@@ -4,19 +4,16 @@ use mathlib.Core.Path.{_≡_, refl, sym, ap, _∙_}
 use mathlib.Core.Bool.{Bool, true, false, not, _&&_, true≢false}
 use mathlib.Core.Logic.{_≢_}
 use mathlib.Core.List.{List, [], _∷_, _++_}
-use Prim.Native.Nat.{ℕ, _+_, _-_, _*_, _%_, _≤_, _<_, max}
-use native.Mathlib.Nat.{mul-le-mul-right}
+use Prim.Native.Nat.{ℕ, _+_, _≤_, _<_, max}
 use native.Mathlib.Omega.{arith}
 use lib.Dec.{eqb}
 use lib.ListN.{getD}
 use borrow.Author.Tests.{eq-eqb, ne-eqb}
-use Rattle.lists.specs.Lists.{consecutive, keep}
-use Rattle.lists.proofs.Lists.{keep-append}
 use Rattle.cells.specs.Box.{Triple}
-use Rattle.cells.specs.Grid.{sides, cells, order}
+use Rattle.cells.specs.Grid.{order}
 use Rattle.labels.specs.Components.{ofOrder, largest}
-use Rattle.lines.specs.Lines.{lineCount, lineY, lineZ, firstX}
-use Rattle.lines.proofs.LineLaws.{cells-lines, next-line, Tests, line-start, line-next, line-end, line-odd, order-tests}
+use Rattle.lines.specs.Lines.{lineCount}
+use Rattle.lines.proofs.WalkLaws.{onwards, lines-first, lines-next, lines-last}
 use Rattle.joiner.specs.Declines.{filled}
 use Rattle.pass_survey.specs.Surveys.{onLine, most, full, lineAdded}
 use Rattle.pass_survey.specs.declared.Survey.{Survey}
@@ -53,77 +50,44 @@ unfolding full
 full-append m [] b = refl
 full-append m (x ∷ a) b = ap (λ (t : Bool). not (eqb (getD m x 0) 0) && t) (full-append m a b) ∙ and-three (not (eqb (getD m x 0) 0)) (full m a) (full m b)
 
--- ---- one line, from x on
+-- ---- the next cell of a list, and none
 
--- The cells of order j among n cells from p on, and the test for them along line l, of which q axes are odd.
-abbrev pub among : Triple → ℕ → ℕ → ℕ → List ℕ
-among e j p n = keep (λ c. eqb (order e c) j) (consecutive p n)
-
-pub tests : (e : Triple) (j l q : ℕ) → j ≤ 3 → q ≡ lineY e l + lineZ e l → Tests (λ c. eqb (order e c) j) (l * sides e .x) (sides e .x) (3 - j) q
-tests e j l q h i = rw i (order-tests e j l h)
-
--- The cell at x of a line, if there is one, has n odd axes, where q axes of the line are odd.
-pub passes-first : (n q w s : ℕ) → s ≡ firstX n q w → s < w → n ≡ s % 2 + q
-passes-first n q w s e h = line-odd n q w {s = s} {x = s} e (omega arith) refl h .1
-
-pub passes-next : (n q w x : ℕ) → (x < w → n ≡ x % 2 + q) → x + 2 < w → n ≡ (x + 2) % 2 + q
-passes-next n q w x f h = let g : n ≡ x % 2 + q = f (omega arith) in omega arith
-
-module _ (m : List ℕ) {g : ℕ → Bool} {base w n q : ℕ} (T : Tests g base w n q) where
-  abbrev ahead : ℕ → List ℕ
-  ahead x = keep g (consecutive (base + x) (w - x))
-
-  pub most-start : (k s : ℕ) → s ≡ firstX n q w → max k (most m (ahead s)) ≡ max k (most m (keep g (consecutive base w)))
-  most-start k s e = rw e (ap (λ (ps : List ℕ). max k (most m ps)) (sym (line-start T)))
-
-  pub most-next : (k x v : ℕ) → x < w → n ≡ x % 2 + q → v ≡ max k (getD m (base + x) 0) → max v (most m (ahead (x + 2))) ≡ max k (most m (ahead x))
+module _ (m : List ℕ) where
+  pub most-next : (k p v : ℕ) (ps : List ℕ) → v ≡ max k (getD m p 0) → max v (most m ps) ≡ max k (most m (p ∷ ps))
   unfolding most
-  most-next k x v h e i = rw (line-next T x h e, i) (max-three k (getD m (base + x) 0) (most m (ahead (x + 2))))
+  most-next k p v ps i = rw i (max-three k (getD m p 0) (most m ps))
 
-  pub most-end : (k x : ℕ) → w ≤ x → k ≡ max k (most m (ahead x))
+  pub most-none : (k : ℕ) → k ≡ max k (most m [])
   unfolding most
-  most-end k x h = rw (line-end T x h) (omega arith)
+  most-none k = omega arith
 
-  pub full-start : (s : ℕ) → s ≡ firstX n q w → full m (keep g (consecutive base w)) ≡ full m (ahead s)
-  full-start s e = rw e (ap (full m) (line-start T))
-
-  module _ (x : ℕ) (h : x < w) (e : n ≡ x % 2 + q) where
-    pub full-here : getD m (base + x) 0 ≡ 0 → full m (ahead x) ≡ false
-    unfolding full
-    full-here z = rw (line-next T x h e, eq-eqb (getD m (base + x) 0) 0 z)
-
-    pub full-next : getD m (base + x) 0 ≢ 0 → full m (ahead x) ≡ full m (ahead (x + 2))
-    unfolding full
-    full-next z = rw (line-next T x h e, ne-eqb (getD m (base + x) 0) 0 z)
-
-  pub full-end : (x : ℕ) → w ≤ x → full m (ahead x) ≡ true
+  pub full-here : (p : ℕ) (ps : List ℕ) → getD m p 0 ≡ 0 → full m (p ∷ ps) ≡ false
   unfolding full
-  full-end x h = rw (line-end T x h)
+  full-here p ps z = rw (eq-eqb (getD m p 0) 0 z)
 
--- ---- from line l on
+  pub full-next : (p : ℕ) (ps : List ℕ) → getD m p 0 ≢ 0 → full m (p ∷ ps) ≡ full m ps
+  unfolding full
+  full-next p ps z = rw (ne-eqb (getD m p 0) 0 z)
 
-unfoldable pub fromLine : Triple → ℕ → ℕ → List ℕ
-fromLine e j l = keep (λ p. eqb (order e p) j) (consecutive (l * sides e .x) (cells e - l * sides e .x))
+  pub full-none : full m [] ≡ true
+  unfolding full
+  full-none = refl
+
+-- ---- the cells of order j from line l on
+
+abbrev pub fromLine : Triple → ℕ → ℕ → List ℕ
+fromLine e j l = onwards (λ p. eqb (order e p) j) e l
 
 pub from-first : (e : Triple) (j : ℕ) → fromLine e j 0 ≡ ofOrder e j
-unfolding fromLine ofOrder
-from-first e j =
-    let z : 0 * sides e .x ≡ 0 = omega arith in
-    let n : cells e - 0 ≡ cells e = omega arith in
-    rw (z, n)
+unfolding ofOrder
+from-first e j = sym (lines-first (λ p. eqb (order e p) j) e)
 
 pub from-next : (e : Triple) (j l : ℕ) → l < lineCount e → fromLine e j l ≡ onLine e j l ++ fromLine e j (l + 1)
-unfolding fromLine onLine
-from-next e j l h =
-    let w : ℕ = sides e .x in
-    rw (next-line e l h) (keep-append (λ p. eqb (order e p) j) (consecutive (l * w) w) (consecutive ((l + 1) * w) (cells e - (l + 1) * w)))
+unfolding onLine
+from-next e j l h = lines-next (λ p. eqb (order e p) j) e h
 
 pub from-last : (e : Triple) (j l : ℕ) → lineCount e ≤ l → fromLine e j l ≡ []
-unfolding fromLine consecutive
-from-last e j l h =
-    let k : lineCount e * sides e .x ≤ l * sides e .x = mul-le-mul-right (sides e .x) h in
-    let n : cells e - l * sides e .x ≡ 0 = omega (arith, cells-lines e) in
-    rw n
+from-last e j l h = lines-last (λ p. eqb (order e p) j) e h
 
 -- The survey s of the lines before l, and what is ahead, give that of the map.
 pub record Looked (e : Triple) (m : List ℕ) (l : ℕ) (s : Survey) : Type 0 where

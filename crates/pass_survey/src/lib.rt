@@ -1,5 +1,5 @@
 // What every step of a job learns of a map first: whether each voxel has a code, and the largest number of each order.
-use lines::first_x;
+use lines::line_with;
 ghost use mathlib.Core.Path.{_≡_};
 ghost use mathlib.Core.Bool.{_&&_};
 ghost use Prim.Native.Nat.{_+_, _-_, _*_, _≤_, _<_, max};
@@ -41,13 +41,11 @@ fn larger_on(
     requires { ⌜ Sized 64 (triple nx ny nz) × (length (now map) ≡ cells (triple nx ny nz)) × (j ≤ 2) × (l < lineCount (triple nx ny nz)) × (q ≡ lineY (triple nx ny nz) l + lineZ (triple nx ny nz) l) ⌝ }
     ensures { λ r. ⌜ r ≡ max number (most (now (map .entry)) (onLine (triple nx ny nz) j l)) ⌝ }
 {
-    let w = 2 * nx - 1;
-    let start = first_x(3 - j, q, w);
-    let base = l * w;
+    let line = line_with(nx, ny, nz, 3 - j, l, q);
     let mut m = number;
-    let mut x = start;
-    while x < w {
-        m = larger(m, map[base + x]);
+    let mut x = line.start;
+    while x < line.width {
+        m = larger(m, map[line.base + x]);
         x += 2;
     }
     m
@@ -61,12 +59,10 @@ fn full_on(map: &[u32], nx: usize, ny: usize, nz: usize, l: usize, q: usize, fil
     if !filled {
         return false;
     }
-    let width = 2 * nx - 1;
-    let start = first_x(0, q, width);
-    let base = l * width;
-    let mut x = start;
-    while x < width {
-        if map[base + x] == 0 {
+    let line = line_with(nx, ny, nz, 0, l, q);
+    let mut x = line.start;
+    while x < line.width {
+        if map[line.base + x] == 0 {
             return false;
         }
         x += 2;

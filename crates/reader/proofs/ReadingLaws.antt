@@ -1,34 +1,32 @@
 -- The ways of the reader's functions, over plain lists and numbers.
 -- Assumes nothing.
 use Prim.Native.Nat.{ℕ, zero, suc, _+_, _-_, _*_, _≤_, _<_}
-use mathlib.Core.Path.{_≡_, refl, sym, ap, _∙_}
+use mathlib.Core.Path.{_≡_, refl, sym, _∙_}
 use mathlib.Core.Logic.{_≢_}
 use mathlib.Core.Bool.{Bool, true, false, cond, not, _||_}
 use mathlib.Core.List.{List, [], _∷_}
 use native.Mathlib.Numerals.{add-one}
-use native.Mathlib.Nat.{zero-mul, mul-one, sub-zero, mul-le-mul-right}
+use native.Mathlib.Nat.{mul-one}
 use native.Mathlib.Omega.{arith}
 use lib.Dec.{eqb, leb}
 use lib.ListN.{length, set}
 use lib.Seq.{take-all, take-suc-set}
 use borrow.Author.Tests.{eqb-true, eq-eqb, ne-eqb, leb-true, le-leb, lt-leb, not-false}
 use Rattle.lists.proofs.Cases.{neither}
-use Rattle.lists.specs.Lists.{consecutive, keep, tabulate}
-use Rattle.lists.proofs.Lists.{keep-append, tabulate-snoc}
+use Rattle.lists.specs.Lists.{consecutive, tabulate}
+use Rattle.lists.proofs.Lists.{tabulate-snoc}
 use Rattle.closure.specs.Numbered.{countBelow}
 use Rattle.refusals.specs.Refusals.{off-size, wrong-tray, bad-record, number, table, first, givenBy, listedNumbers, standsIn}
 use Rattle.refusals.proofs.RefusalLaws.{given-none}
 use Rattle.cells.specs.Box.{Triple, triple}
 use Rattle.cells.specs.Extents.{offPlace}
-use Rattle.cells.specs.Grid.{sides, cells, order}
+use Rattle.cells.specs.Grid.{cells}
 use Rattle.cells.proofs.ExtentLaws.{cells-high}
 use Rattle.extents.proofs.SizeLaws.{sized-at}
 use Rattle.labels.specs.Components.{ofOrder}
-use Rattle.lines.specs.Lines.{lineCount}
-use Rattle.lines.proofs.LineLaws.{cells-lines, next-line}
 use Rattle.records.specs.Fields.{fieldAt}
 use Rattle.records.specs.Record.{extentsOf, originOf, bitAt, standing, bitmapLength, numberOf, decodeRecord, some, lengthOf, damaged}
-use Rattle.records.proofs.BitLaws.{standing-more, some-append, some-none}
+use Rattle.records.proofs.BitLaws.{standing-more}
 use Rattle.records.proofs.ReadLaws.{standing-mono}
 use Rattle.reader.specs.declared.Head.{Head}
 use Rattle.reader.specs.Parts.{Mapped, ReadTo, numberAt}
@@ -47,36 +45,6 @@ or-next t b d e h q = rw (sym e ∙ h) q
 pub none-left : (i n : ℕ) → n ≤ i → consecutive i (n - i) ≡ []
 unfolding consecutive
 none-left i n h = let e : n - i ≡ 0 = omega arith in rw e
-
--- ---- voxels
-
--- The voxels from line l on.
-abbrev pub voxelsFrom : Triple → ℕ → List ℕ
-voxelsFrom e l = keep (λ p. eqb (order e p) 3) (consecutive (l * sides e .x) (cells e - l * sides e .x))
-
-abbrev voxelsOn : Triple → ℕ → List ℕ
-voxelsOn e l = keep (λ p. eqb (order e p) 3) (consecutive (l * sides e .x) (sides e .x))
-
-module _ (f : ℕ → Bool) (e : Triple) where
-  pub lines-all : some f (ofOrder e 3) ≡ some f (voxelsFrom e 0)
-  unfolding ofOrder
-  lines-all = rw (zero-mul (sides e .x), sub-zero (cells e))
-
-  module _ (l : ℕ) where
-    pub lines-none : {b : Bool} → lineCount e ≤ l → b ≡ some f (voxelsFrom e l) → false ≡ b
-    lines-none h q =
-        let m : lineCount e * sides e .x ≤ l * sides e .x = mul-le-mul-right (sides e .x) h in
-        some-none f q (ap (keep (λ p. eqb (order e p) 3)) (none-left (l * sides e .x) (cells e) (omega (arith, cells-lines e))))
-
-    module _ (h : l < lineCount e) {b : Bool} (q : b ≡ some f (voxelsFrom e l)) where
-      parted : b ≡ (some f (voxelsOn e l) || some f (voxelsFrom e (l + 1)))
-      parted = q ∙ rw (next-line e l h, keep-append) (some-append f (voxelsOn e l) (voxelsFrom e (l + 1)))
-
-      pub lines-here : true ≡ some f (voxelsOn e l) → true ≡ b
-      lines-here t = sym (parted ∙ rw (sym t))
-
-      pub lines-next : false ≡ some f (voxelsOn e l) → b ≡ some f (voxelsFrom e (l + 1))
-      lines-next t = parted ∙ rw (sym t)
 
 -- ---- one cell
 

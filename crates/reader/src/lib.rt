@@ -1,6 +1,6 @@
 // The reader of block records.
 use extents::off_place;
-use lines::first_x;
+use lines::line_at;
 use refusals::BAD_RECORD;
 use refusals::OFF_SIZE;
 use refusals::WRONG_TRAY;
@@ -121,13 +121,10 @@ fn line_clear(bytes: &[u8], nx: usize, ny: usize, nz: usize, l: usize) -> bool
     requires { ⌜ Sized 64 (triple nx ny nz) × Mapped (now bytes) (cells (triple nx ny nz)) × (l < lineCount (triple nx ny nz)) ⌝ }
     ensures { λ r. ⌜ r ≡ some (λ c. eqb (bitAt (now (bytes .entry)) c) 0) (keep (λ p. eqb (order (triple nx ny nz) p) 3) (consecutive (l * (2 * nx - 1)) (2 * nx - 1))) ⌝ }
 {
-    let w = 2 * nx - 1;
-    let h = 2 * ny - 1;
-    let start = first_x(0, l % h % 2 + l / h % 2, w);
-    let base = l * w;
-    let mut x = start;
-    while x < w {
-        if bit_at(bytes, base + x) == 0 {
+    let line = line_at(nx, ny, nz, 0, l);
+    let mut x = line.start;
+    while x < line.width {
+        if bit_at(bytes, line.base + x) == 0 {
             return true;
         }
         x += 2;

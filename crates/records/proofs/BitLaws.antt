@@ -86,6 +86,17 @@ module _ (f : ℕ → Bool) where
     unfolding some
     some-next t = e ∙ rw (s, t)
 
+  -- The next entries of the list.
+  module _ {b : Bool} {k : List ℕ} (l m : List ℕ) (e : b ≡ some f k) (s : k ≡ l ++ m) where
+    some-split : b ≡ (some f l || some f m)
+    some-split = e ∙ rw s (some-append l m)
+
+    pub some-part : true ≡ some f l → true ≡ b
+    some-part t = sym (some-split ∙ rw (sym t))
+
+    pub some-rest : false ≡ some f l → b ≡ some f m
+    some-rest t = some-split ∙ rw (sym t)
+
   pub some-none : {b : Bool} {k : List ℕ} → b ≡ some f k → k ≡ [] → false ≡ b
   unfolding some
   some-none e s = sym (e ∙ rw s)

@@ -1,9 +1,9 @@
 -- The ways of the writer's functions, over plain lists and numbers.
 -- Assumes nothing.
 use mathlib.Core.Path.{_≡_, refl, sym, ap, _∙_}
-use mathlib.Core.Bool.{Bool, true, false, cond, not, _||_}
+use mathlib.Core.Bool.{true, false, cond, not, _||_}
 use mathlib.Core.List.{List, [], _∷_, _++_}
-use Prim.Native.Nat.{ℕ, zero, suc, _+_, _-_, _*_, _%_, _^_, _≤_, _<_}
+use Prim.Native.Nat.{ℕ, zero, suc, _+_, _-_, _*_, _^_, _≤_, _<_}
 use native.Mathlib.Nat.{two-pow-succ}
 use native.Mathlib.Numerals.{add-one}
 use native.Mathlib.Omega.{arith}
@@ -11,20 +11,18 @@ use lib.Dec.{eqb, ltb}
 use lib.ListN.{length, getD, take, drop, set, drop-of-length-le, length-append, length-drop}
 use lib.Seq.{drop-cons, take-all}
 use borrow.Author.Tests.{eqb-true, eq-eqb, ne-eqb, ltb-false, lt-ltb, le-ltb, not-false}
-use Rattle.lists.specs.Lists.{consecutive, tabulate, keep}
+use Rattle.lists.specs.Lists.{consecutive, tabulate}
 use Rattle.lists.proofs.Cases.{by-test, neither}
-use Rattle.lists.proofs.Lists.{keep-append, length-tabulate, tabulate-snoc, drop-down}
+use Rattle.lists.proofs.Lists.{length-tabulate, tabulate-snoc, drop-down}
 use Rattle.cells.specs.Box.{Triple}
 use Rattle.cells.specs.Extents.{offPlace}
-use Rattle.cells.specs.Grid.{sides, cells}
+use Rattle.cells.specs.Grid.{cells}
 use Rattle.cells.proofs.ExtentLaws.{cells-high}
 use Rattle.extents.proofs.SizeLaws.{sized-at}
 use Rattle.refusals.specs.Refusals.{off-size, wrong-tray, number, table, first, givenBy, listedNumbers, standsIn}
 use Rattle.refusals.proofs.RefusalLaws.{given-none}
-use Rattle.lines.specs.Lines.{lineCount, firstX}
-use Rattle.lines.proofs.LineLaws.{Tests, line-start, line-next, line-end, next-line, cells-lines}
 use Rattle.records.specs.Fields.{packed, laid}
-use Rattle.records.specs.Record.{headBytes, bit, mapByte, bitmapLength, bitmap, listed, encodeRecord, some, blankVoxel}
+use Rattle.records.specs.Record.{headBytes, bit, mapByte, bitmapLength, bitmap, listed, encodeRecord, blankVoxel}
 use Rattle.records.proofs.LaidLaws.{length-laid, laid-append, laid-none, laid-more, laid-front, laid-encode, length-encode, listed-next, length-next}
 use Rattle.writer.specs.Inner.{byteOf, Ready}
 use Rattle.writer.specs.Writing.{declines, refusalOf, outcome, accepted, refused, writing}
@@ -42,62 +40,6 @@ module _ (m : List ℕ) (i n k : ℕ) (e : 4 * n + length (listed (drop i m)) �
   pub counted-all : length m ≤ i → 4 * n ≡ k
   unfolding listed
   counted-all h = let s = rw (drop-of-length-le m {i = i} h) at e in omega (arith, s)
-
--- ---- blank voxels
-
-some-append : (f : ℕ → Bool) (a b : List ℕ) → some f (a ++ b) ≡ (some f a || some f b)
-unfolding some
-some-append f [] b = refl
-some-append f (x ∷ a) b = by-test (f x) (λ t. rw t) (λ t. rw t (some-append f a b))
-
--- a line of cells, from x on
-module _ (f : ℕ → Bool) {g : ℕ → Bool} {base w n q : ℕ} (T : Tests g base w n q) where
-  abbrev ahead : ℕ → Bool
-  ahead x = some f (keep g (consecutive (base + x) (w - x)))
-
-  pub blank-start : (s : ℕ) → s ≡ firstX n q w → some f (keep g (consecutive base w)) ≡ ahead s
-  blank-start s e = rw e (ap (some f) (line-start T))
-
-  module _ (x : ℕ) (h : x < w) (e : n ≡ x % 2 + q) where
-    pub blank-here : f (base + x) ≡ true → ahead x ≡ true
-    unfolding some
-    blank-here t = rw (line-next T x h e, t)
-
-    pub blank-next : f (base + x) ≡ false → ahead x ≡ ahead (x + 2)
-    unfolding some
-    blank-next t = rw (line-next T x h e, t)
-
-  pub blank-end : (x : ℕ) → w ≤ x → ahead x ≡ false
-  unfolding some
-  blank-end x h = rw (line-end T x h)
-
--- the grid, from line l on
-module _ (f : ℕ → Bool) (g : ℕ → Bool) (e : Triple) where
-  abbrev onwards : ℕ → Bool
-  onwards l = some f (keep g (consecutive (l * sides e .x) (cells e - l * sides e .x)))
-
-  pub grid-start : some f (keep g (consecutive 0 (cells e))) ≡ onwards 0
-  grid-start =
-      let z : 0 * sides e .x ≡ 0 = omega arith in
-      let r : cells e - 0 ≡ cells e = omega arith in
-      rw (z, r)
-
-  module _ (l : ℕ) (h : l < lineCount e) where
-    grid-split : onwards l ≡ (some f (keep g (consecutive (l * sides e .x) (sides e .x))) || onwards (l + 1))
-    grid-split = rw (next-line e l h, keep-append g) (some-append f _ _)
-
-    pub grid-here : some f (keep g (consecutive (l * sides e .x) (sides e .x))) ≡ true → onwards l ≡ true
-    grid-here t = rw (grid-split, t)
-
-    pub grid-next : some f (keep g (consecutive (l * sides e .x) (sides e .x))) ≡ false → onwards l ≡ onwards (l + 1)
-    grid-next t = rw (grid-split, t)
-
-  pub grid-end : (l : ℕ) → lineCount e ≤ l → l ≤ lineCount e → onwards l ≡ false
-  unfolding some consecutive
-  grid-end l h k =
-      let i : l ≡ lineCount e = omega arith in
-      let r : cells e - lineCount e * sides e .x ≡ 0 = omega (arith, cells-lines e) in
-      rw (i, r)
 
 -- ---- the bit map
 

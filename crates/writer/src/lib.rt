@@ -1,6 +1,6 @@
 // The writer of block records. Everything is decided before the first store.
 use extents::off_place;
-use lines::first_x;
+use lines::line_at;
 use refusals::OFF_SIZE;
 use refusals::STRAY_LABEL;
 use refusals::WRONG_TRAY;
@@ -51,13 +51,10 @@ fn blank_on(map: &[u32], nx: usize, ny: usize, nz: usize, l: usize) -> bool
     requires { ⌜ Sized 64 (triple nx ny nz) × (length (now map) ≡ cells (triple nx ny nz)) × (l < lineCount (triple nx ny nz)) ⌝ }
     ensures { λ r. ⌜ r ≡ some (λ p. eqb (getD (now (map .entry)) p 0) 0) (keep (λ p. eqb (order (triple nx ny nz) p) 3) (consecutive (l * (2 * nx - 1)) (2 * nx - 1))) ⌝ }
 {
-    let w = 2 * nx - 1;
-    let h = 2 * ny - 1;
-    let start = first_x(0, l % h % 2 + l / h % 2, w);
-    let base = l * w;
-    let mut x = start;
-    while x < w {
-        if map[base + x] == 0 {
+    let line = line_at(nx, ny, nz, 0, l);
+    let mut x = line.start;
+    while x < line.width {
+        if map[line.base + x] == 0 {
             return true;
         }
         x += 2;

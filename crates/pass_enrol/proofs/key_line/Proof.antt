@@ -8,12 +8,6 @@ use Rattle.pass_enrol.proofs.PlaceLaws.{shift-in, line-in}
 use Rattle.pass_enrol.proofs.key_line.Statement.{statement}
 use Rattle.pass_enrol.proofs.key_line.Tie as tie
 
-mul-w : tie.Need-mul-w
-mul-w c = search needs
-
-sub-w : tie.Need-sub-w
-sub-w c = search needs
-
 mul-h : tie.Need-mul-h
 mul-h c = search needs
 
@@ -26,31 +20,28 @@ rem-y c = search needs
 div-z : tie.Need-div-z
 div-z c = search needs
 
-sub-first-x : tie.Need-sub-first-x
-sub-first-x c = search needs
+sub-line-with : tie.Need-sub-line-with
+sub-line-with c = search needs
 
-add-first-x : tie.Need-add-first-x
-add-first-x c = search needs
+add-line-with : tie.Need-add-line-with
+add-line-with c = search needs
 
-first-x-requires : tie.Need-first-x-requires
-first-x-requires c κs = search needs
+line-with-requires : tie.Need-line-with-requires
+unfolding sides lineY lineZ
+line-with-requires c κs = let p = c .before .before .before .pre in (p .0 .sized, p .5, refl)
 
 embed-requires : tie.Need-embed-requires
 unfolding sides
 embed-requires c κs =
-    let p4 = c .before .before .before .before in
-    let p = p4 .before .pre in
+    let p = c .before .before .before .before .pre in
     (p .0 .whole, shift-in (p .0) _ (line-in _ _ (omega (arith, p .0 .sized)) (p .5)))
 
 key-cells-requires : tie.Need-key-cells-requires
-unfolding sides lineY lineZ
+unfolding sides
 key-cells-requires c κs =
-    let p4 = c .before .before .before .before in
-    let p = p4 .before .before .before .pre in (
-      record { lies = p .0; size = p .1; below = p .3; on = p .5; wide = refl; first = c .before .before .first-x .ensures; begins = c .before .embed .ensures },
-      p .2,
-      p .4,
-    )
+    let told = c .before .before in
+    let p = told .before .before .before .before .pre in
+    (record { lies = p .0; size = p .1; below = p .3; on = p .5; told = told .line-with .ensures; begins = c .before .embed .ensures }, p .2, p .4)
 
 same-length : tie.Need-same-length
 same-length c = search needs
@@ -62,15 +53,13 @@ pub key-line-spec : {M : Type 1} → statement M
 key-line-spec =
     tie.close
     (tie.spec
-    mul-w
-    sub-w
     mul-h
     sub-h
     rem-y
     div-z
-    sub-first-x
-    add-first-x
-    first-x-requires
+    sub-line-with
+    add-line-with
+    line-with-requires
     embed-requires
     key-cells-requires
     same-length

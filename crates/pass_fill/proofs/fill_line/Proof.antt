@@ -1,22 +1,22 @@
 -- `pass_fill::fill_line` meets its contract.
-use mathlib.Core.Path.{sym, _∙_}
+use mathlib.Core.Path.{refl, sym, _∙_}
 use native.Mathlib.Omega.{arith}
 use borrow.Author.Needs.{needs}
 use Rattle.lists.proofs.Overlay.{overlay-same}
 use Rattle.cells.specs.Box.{triple}
 use Rattle.cells.specs.Grid.{sides}
-use Rattle.pass_fill.proofs.FillLaws.{code-line, other-cell, Room, room}
+use Rattle.lines.specs.Lines.{lineY, lineZ}
+use Rattle.lines.proofs.WalkLaws.{walk-room}
+use Rattle.pass_fill.proofs.FillLaws.{voxels-there, voxels-none, code-line, other-cell, Room, room}
 use Rattle.pass_fill.proofs.fill_line.Statement.{statement}
 use Rattle.pass_fill.proofs.fill_line.Tie as tie
 
 at-start : (st : tie.Start) → Room (triple (st .args .nx) (st .args .ny) (st .args .nz)) (st .args .l)
 at-start st = room (triple (st .args .nx) (st .args .ny) (st .args .nz)) (st .args .l) (st .pre .0) (st .pre .3)
 
-mul-w : tie.Need-mul-w
-mul-w c = search needs
-
-sub-w : tie.Need-sub-w
-sub-w c = search needs
+-- The entry, from the place where the line is told.
+abbrev entry : tie.After-line-with → tie.Start
+entry told = told .before .before .before
 
 mul-h : tie.Need-mul-h
 mul-h c = search needs
@@ -30,34 +30,38 @@ rem-y c = search needs
 div-z : tie.Need-div-z
 div-z c = search needs
 
-mul-base : tie.Need-mul-base
-mul-base c = omega (arith, at-start (c .before .before))
+add-line-with : tie.Need-add-line-with
+add-line-with c = search needs
 
-add-if1 : tie.Need-add-if1
-add-if1 c = search needs
+line-with-requires : tie.Need-line-with-requires
+unfolding sides lineY lineZ
+line-with-requires c κs = let p = c .before .before .pre in (p .0, p .3, refl)
 
 mul-v : tie.Need-mul-v
-mul-v c = omega (arith, at-start (c .before .before .before))
+mul-v c = omega (arith, at-start (entry (c .before .before)))
 
 mul-v-2 : tie.Need-mul-v-2
-mul-v-2 c = omega (arith, at-start (c .before .before .before))
+mul-v-2 c = omega (arith, at-start (entry (c .before .before)))
 
 mul-v-3 : tie.Need-mul-v-3
-mul-v-3 c = omega (arith, at-start (c .before .before .before))
+mul-v-3 c = omega (arith, at-start (entry (c .before .before)))
 
 add-v : tie.Need-add-v
-add-v c = omega (arith, at-start (c .before .before .before))
+add-v c = omega (arith, at-start (entry (c .before .before)))
 
 lay-codes-requires : tie.Need-lay-codes-requires
+unfolding sides
 lay-codes-requires c κs =
-    let st = c .before .before .before .before in
+    let told = c .before .before .before in
+    let st = entry told in
     let r = at-start st in
-    (omega (arith, st .pre .0), omega (arith, r, st .pre .1), omega (arith, r, st .pre .2))
+    (omega (arith, st .pre .0), omega (arith, r, st .pre .1), omega (arith, r, st .pre .2, told .line-with .ensures .base))
 
 write-zeros-requires : tie.Need-write-zeros-requires
 write-zeros-requires c κs =
-    let st = c .before .before .before .before in
-    omega (arith, at-start st, st .pre .2)
+    let told = c .before .before .before in
+    let st = entry told in
+    omega (arith, walk-room (told .line-with .ensures) (st .pre .3), st .pre .2)
 
 same-length : tie.Need-same-length
 same-length c = search needs
@@ -67,9 +71,11 @@ unfolding sides
 returns c =
     let called = c .before .before in
     let taken = called .before .before in
-    let a = taken .before .before .before .args in
-    called .lay-codes .ensures
-    ∙ sym (overlay-same _ _ _ _ _ (λ x h. code-line (triple (a .nx) (a .ny) (a .nz)) (a .codes .now) (a .l) x h (taken .if1 .taken)))
+    let told = taken .before .before in
+    let a = entry told .args in
+    let L = told .line-with .ensures in
+    (rw (L .base) at (called .lay-codes .ensures))
+    ∙ sym (overlay-same _ _ _ _ _ (λ x h. code-line (triple (a .nx) (a .ny) (a .nz)) (a .codes .now) (a .l) x h (voxels-there L (omega (arith, entry told .pre .0)) (taken .if1 .taken))))
 
 same-length-2 : tie.Need-same-length-2
 same-length-2 c = search needs
@@ -79,22 +85,22 @@ unfolding sides
 returns-2 c =
     let called = c .before .before in
     let left = called .before .before in
-    let a = left .before .before .before .args in
-    called .write-zeros .ensures
-    ∙ sym (overlay-same _ _ _ _ _ (λ x h. other-cell (triple (a .nx) (a .ny) (a .nz)) (a .codes .now) (a .l) x h (left .if1 .left)))
+    let told = left .before .before in
+    let a = entry told .args in
+    let L = told .line-with .ensures in
+    (rw (L .base, L .width) at (called .write-zeros .ensures))
+    ∙ sym (overlay-same _ _ _ _ _ (λ x h. other-cell (triple (a .nx) (a .ny) (a .nz)) (a .codes .now) (a .l) x h (voxels-none L (left .if1 .left))))
 
 pub fill-line-spec : {M : Type 1} → statement M
 fill-line-spec =
     tie.close
     (tie.spec
-    mul-w
-    sub-w
     mul-h
     sub-h
     rem-y
     div-z
-    mul-base
-    add-if1
+    add-line-with
+    line-with-requires
     mul-v
     mul-v-2
     mul-v-3

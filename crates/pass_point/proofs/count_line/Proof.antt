@@ -1,99 +1,81 @@
 -- `pass_point::count_line` meets its contract. The loop's invariant: the cell at x is a point cell, and the points so far and those from x on make the answer.
-use Prim.Native.Nat.{_+_, _-_, _*_, _<_}
+use Prim.Native.Nat.{_+_, _-_, _<_}
 use mathlib.Core.Path.{_≡_}
 use native.Mathlib.Omega.{arith}
+use lib.Dec.{eqb}
 use lib.ListN.{length}
 use borrow.Author.Needs.{needs}
 use Rattle.cells.specs.Box.{triple}
-use Rattle.cells.specs.Grid.{sides, cells}
-use Rattle.lines.specs.Lines.{lineY, lineZ}
-use Rattle.lines.proofs.LineLaws.{line-inside}
+use Rattle.cells.specs.Grid.{cells, order}
+use Rattle.cells.proofs.ExtentLaws.{cells-high}
+use Rattle.lines.proofs.LineLaws.{order-tests}
+use Rattle.lines.proofs.WalkLaws.{Walking, ahead, walk-first, walk-next, walk-inside, walk-order, cells-first, cells-next, cells-last}
 use Rattle.pass_survey.specs.Surveys.{onLine}
 use Rattle.pass_point.specs.Findings.{foundAmong}
-use Rattle.pass_point.proofs.PointLaws.{AtPoint, ahead, at-first, at-next, at-level, at-within, count-first, count-next, count-last}
+use Rattle.pass_point.proofs.PointLaws.{counted-next, counted-all}
 use Rattle.pass_point.proofs.count_line.Statement.{statement}
 use Rattle.pass_point.proofs.count_line.Tie as tie
 
 abbrev Inv-loop : tie.InvT-loop
-Inv-loop map nx ny nz l numbers from count w h start base n₀ x₀ n x =
+Inv-loop map nx ny nz l numbers from count line n₀ x₀ n x =
     let e = triple nx ny nz in
-    AtPoint e l x × (n + length (foundAmong e numbers from map (ahead e l x)) ≡ count + length (foundAmong e numbers from map (onLine e 0 l)))
+    Walking e 3 l x × (n + length (foundAmong e numbers from map (ahead (λ p. eqb (order e p) 0) line x)) ≡ count + length (foundAmong e numbers from map (onLine e 0 l)))
 
 abbrev μ-loop : tie.MeasureT-loop
-μ-loop map nx ny nz l numbers from count w h start base n₀ x₀ n x = w - x
+μ-loop map nx ny nz l numbers from count line n₀ x₀ n x = line .width - x
 
--- the cell at x lies in the grid
-within : (c : tie.In-loop Inv-loop μ-loop) → let s = c .before .before .before .before in let a = s .before .args in a .l * (2 * a .nx - 1) + c .before .loop .x < cells (triple (a .nx) (a .ny) (a .nz))
-unfolding sides
-within c =
-    let back4 = c .before .before .before .before in
-    at-within _ _ _ (c .before .loop .inv .0) (c .loop-test .taken) (back4 .before .pre .2)
+-- The entry, from the loop.
+abbrev entry : tie.At-loop Inv-loop μ-loop → tie.Start Inv-loop μ-loop
+entry turn = turn .before .before .before .before
 
--- the count with the cell at x
-more : (c : tie.After-count-cell Inv-loop μ-loop) → let s = c .before .before .before .before in let a = s .before .before .args in
+-- The cell at x lies in the grid.
+within : (c : tie.Then1 Inv-loop μ-loop) → let turn = c .before .before in let a = entry turn .args in turn .before .line-at .result .base + turn .loop .x < cells (triple (a .nx) (a .ny) (a .nz))
+within c = let turn = c .before .before in walk-inside (turn .before .line-at .ensures) _ (c .if1 .taken) (entry turn .pre .2)
+
+-- The count with the cell at x.
+more : (c : tie.After-count-cell Inv-loop μ-loop) → let turn = c .before .before .before .before in let a = entry turn .args in
     let e = triple (a .nx) (a .ny) (a .nz) in
-    c .before .before .loop .n + c .count-cell .result + length (foundAmong e (a .numbers .now) (a .from) (a .map .now) (ahead e (a .l) (c .before .before .loop .x + 2))) ≡ a .count + length (foundAmong e (a .numbers .now) (a .from) (a .map .now) (onLine e 0 (a .l)))
-unfolding sides
-more c = count-next _ _ _ _ _ _ _ _ _ (c .before .before .loop .inv .0) (c .before .loop-test .taken) (c .count-cell .ensures) (c .before .before .loop .inv .1)
+    turn .loop .n + c .count-cell .result + length (foundAmong e (a .numbers .now) (a .from) (a .map .now) (ahead (λ p. eqb (order e p) 0) (turn .before .line-at .result) (turn .loop .x + 2)))
+    ≡ a .count + length (foundAmong e (a .numbers .now) (a .from) (a .map .now) (onLine e 0 (a .l)))
+more c =
+    let test = c .before .before in
+    let turn = test .before .before in
+    let i = turn .loop .inv in
+    counted-next _ _ _ _ _ _ _ _ _ _ (cells-next (turn .before .line-at .ensures) (order-tests _ 0 _ (omega arith)) (i .0) (test .if1 .taken)) (c .count-cell .ensures) (i .1)
 
-mul-w : tie.Need-mul-w Inv-loop μ-loop
-mul-w c = search needs
-
-sub-w : tie.Need-sub-w Inv-loop μ-loop
-sub-w c = search needs
-
-mul-h : tie.Need-mul-h Inv-loop μ-loop
-mul-h c = search needs
-
-sub-h : tie.Need-sub-h Inv-loop μ-loop
-sub-h c = search needs
-
-rem-first-x : tie.Need-rem-first-x Inv-loop μ-loop
-rem-first-x c = search needs
-
-div-first-x : tie.Need-div-first-x Inv-loop μ-loop
-div-first-x c = search needs
-
-add-first-x : tie.Need-add-first-x Inv-loop μ-loop
-add-first-x c = search needs
-
-first-x-requires : tie.Need-first-x-requires Inv-loop μ-loop
-first-x-requires c κs = search needs
-
-mul-base : tie.Need-mul-base Inv-loop μ-loop
-unfolding sides
-mul-base c = let st = c .before .before .before in omega (arith, line-inside _ _ 0 (omega (arith, st .pre .0)) (st .pre .2))
+line-at-requires : tie.Need-line-at-requires Inv-loop μ-loop
+line-at-requires c κs = search needs
 
 loop-holds : tie.Need-loop-holds Inv-loop μ-loop
-unfolding sides lineY lineZ
-loop-holds c = (at-first _ _ _ (c .first-x .ensures), count-first _ _ _ _ _ _ _ (c .first-x .ensures))
+unfolding onLine
+loop-holds c = let L = c .line-at .ensures in (walk-first L, rw (cells-first L (order-tests _ 0 _ (omega arith))))
 
 add-count-cell : tie.Need-add-count-cell Inv-loop μ-loop
-add-count-cell c = omega (arith, within c)
+add-count-cell c = omega (arith, within (c .before), cells-high (entry (c .before .before .before) .pre .0))
 
 count-cell-requires : tie.Need-count-cell-requires Inv-loop μ-loop
-unfolding sides
 count-cell-requires c κs =
-    let p4 = c .before .before .before .before in
-    let p = p4 .before .pre in record { sized = p .0; size = p .1; within = within c; level = at-level _ _ _ (c .before .loop .inv .0) (c .loop-test .taken) }
+    let test = c .before in
+    let turn = test .before .before in
+    let p = entry turn .pre in
+    record { sized = p .0; size = p .1; within = within test; level = walk-order (turn .before .line-at .ensures) _ (test .if1 .taken) (turn .loop .inv .0) }
 
 add-n : tie.Need-add-n Inv-loop μ-loop
-add-n c =
-    let back4 = c .before .before .before .before in
-    omega (arith, more c, back4 .before .before .pre .3)
+add-n c = omega (arith, more c, entry (c .before .before .before .before) .pre .3)
 
 add-x : tie.Need-add-x Inv-loop μ-loop
-add-x c = search needs
+add-x c = let test = c .before .before in omega (arith, within test, cells-high (entry (test .before .before) .pre .0))
 
 loop-less : tie.Need-loop-less Inv-loop μ-loop
 loop-less c = search needs
 
 loop-again : tie.Need-loop-again Inv-loop μ-loop
-loop-again c = (at-next _ _ _ (c .before .before .loop .inv .0), more c)
+loop-again c = (walk-next (c .before .before .before .before .loop .inv .0), more c)
 
 returns : tie.Need-returns Inv-loop μ-loop
-unfolding sides
-returns c = count-last _ _ _ _ _ _ _ _ (omega arith) (c .before .loop .inv .1)
+returns c =
+    let turn = c .before .before in
+    counted-all _ _ _ _ _ _ _ (cells-last (turn .before .line-at .ensures) (order-tests _ 0 _ (omega arith)) (c .if1 .left)) (turn .loop .inv .1)
 
 pub count-line-spec : {M : Type 1} → statement M
 count-line-spec =
@@ -101,15 +83,7 @@ count-line-spec =
     (tie.spec
     Inv-loop
     μ-loop
-    mul-w
-    sub-w
-    mul-h
-    sub-h
-    rem-first-x
-    div-first-x
-    add-first-x
-    first-x-requires
-    mul-base
+    line-at-requires
     loop-holds
     add-count-cell
     count-cell-requires

@@ -8,11 +8,9 @@ use Rattle.pass_enrol.proofs.PlaceLaws.{shift-in, line-in}
 use Rattle.pass_point.proofs.store_line.Statement.{statement}
 use Rattle.pass_point.proofs.store_line.Tie as tie
 
-mul-w : tie.Need-mul-w
-mul-w c = search needs
-
-sub-w : tie.Need-sub-w
-sub-w c = search needs
+-- The entry, from the place where the code begins.
+abbrev entry : tie.After-struct-known → tie.Start
+entry d = let known = d .before in known .before .before .before .before
 
 mul-h : tie.Need-mul-h
 mul-h c = search needs
@@ -26,29 +24,25 @@ rem-y c = search needs
 div-z : tie.Need-div-z
 div-z c = search needs
 
-add-first-x : tie.Need-add-first-x
-add-first-x c = search needs
+add-line-with : tie.Need-add-line-with
+add-line-with c = search needs
 
-first-x-requires : tie.Need-first-x-requires
-first-x-requires c κs = search needs
+line-with-requires : tie.Need-line-with-requires
+unfolding sides lineY lineZ
+line-with-requires c κs = let p = entry c .pre in (p .0 .sized, p .3, refl)
 
 embed-requires : tie.Need-embed-requires
 unfolding sides
 embed-requires c κs =
-    let p4 = c .before .before .before .before in
-    let p = p4 .before .before .before .pre in
+    let p = entry (c .before) .pre in
     (p .0 .whole, shift-in (p .0) _ (line-in _ _ (omega (arith, p .0 .sized)) (p .3)))
 
 store-cells-requires : tie.Need-store-cells-requires
-unfolding sides lineY lineZ
+unfolding sides
 store-cells-requires c κs =
-    let p4 = c .before .before .before .before in
-    let p8 = p4 .before .before .before .before in
-    let p = p8 .before .before .pre in (
-      record { lies = p .0; size = p .1; below = omega arith; on = p .3; wide = refl; first = c .before .before .before .first-x .ensures; begins = c .before .before .embed .ensures },
-      p .2,
-      p .4,
-    )
+    let told = c .before .before .before in
+    let p = entry (told .before) .pre in
+    (record { lies = p .0; size = p .1; below = omega arith; on = p .3; told = told .line-with .ensures; begins = c .before .before .embed .ensures }, p .2, p .4)
 
 same-length : tie.Need-same-length
 same-length c = search needs
@@ -63,14 +57,12 @@ pub store-line-spec : {M : Type 1} → statement M
 store-line-spec =
     tie.close
     (tie.spec
-    mul-w
-    sub-w
     mul-h
     sub-h
     rem-y
     div-z
-    add-first-x
-    first-x-requires
+    add-line-with
+    line-with-requires
     embed-requires
     store-cells-requires
     same-length

@@ -1,95 +1,89 @@
 -- `pass_survey::full_on` meets its contract. The loop's invariant: the cell at x is a voxel, and the voxels from x on decide.
-use Prim.Native.Nat.{_+_, _-_, _*_, _%_, _<_}
-use mathlib.Core.Path.{_≡_, _∙_}
+use Prim.Native.Nat.{_+_, _-_, _<_}
+use mathlib.Core.Path.{_≡_, ap, _∙_}
 use native.Mathlib.Omega.{arith}
+use lib.Dec.{eqb}
 use borrow.Author.Needs.{needs}
 use Rattle.cells.specs.Box.{triple}
-use Rattle.cells.specs.Grid.{sides, cells}
+use Rattle.cells.specs.Grid.{cells, order}
 use Rattle.cells.proofs.ExtentLaws.{cells-high}
-use Rattle.lines.proofs.LineLaws.{line-inside}
+use Rattle.lines.proofs.LineLaws.{order-tests}
+use Rattle.lines.proofs.WalkLaws.{Walking, ahead, walk-first, walk-next, walk-inside, cells-first, cells-next, cells-last}
 use Rattle.pass_survey.specs.Surveys.{onLine, full}
-use Rattle.pass_survey.proofs.SurveyLaws.{among, and-off, and-none, and-all, tests, passes-first, passes-next, full-start, full-here, full-next, full-end}
+use Rattle.pass_survey.proofs.SurveyLaws.{and-off, and-none, and-all, full-here, full-next, full-none}
 use Rattle.pass_survey.proofs.full_on.Statement.{statement}
 use Rattle.pass_survey.proofs.full_on.Tie as tie
 
 abbrev Inv-loop : tie.InvT-loop
-Inv-loop map nx ny nz l q filled width start base x₀ x =
+Inv-loop map nx ny nz l q filled line x₀ x =
     let e = triple nx ny nz in
-    (x < width → 0 ≡ x % 2 + q) × (full map (among e 3 base width) ≡ full map (among e 3 (base + x) (width - x)))
+    Walking e 0 l x × (full map (onLine e 3 l) ≡ full map (ahead (λ p. eqb (order e p) 3) line x))
 
 abbrev μ-loop : tie.MeasureT-loop
-μ-loop map nx ny nz l q filled width start base x₀ x = width - x
+μ-loop map nx ny nz l q filled line x₀ x = line .width - x
 
--- the cell at x lies in the grid
-inside : (c : tie.In-loop Inv-loop μ-loop) → let s = c .before .before .before .before in let a = s .before .args in a .l * (2 * a .nx - 1) + c .before .loop .x < cells (triple (a .nx) (a .ny) (a .nz))
-unfolding sides
-inside c =
-    let st4 = c .before .before .before .before in
-    let st = st4 .before in line-inside _ _ _ (omega (arith, st .pre .0)) (st .pre .2)
+-- The entry, from the loop.
+abbrev entry : tie.At-loop Inv-loop μ-loop → tie.Start Inv-loop μ-loop
+entry turn = turn .before .before .before .before
+
+-- The cell at x lies in the grid.
+inside : (c : tie.Then2 Inv-loop μ-loop) → let turn = c .before .before in let a = entry turn .args in turn .before .line-with .result .base + turn .loop .x < cells (triple (a .nx) (a .ny) (a .nz))
+inside c = let turn = c .before .before in walk-inside (turn .before .line-with .ensures) _ (c .if2 .taken) (entry turn .pre .2)
 
 returns : tie.Need-returns Inv-loop μ-loop
 returns c = search and-off
 
-mul-width : tie.Need-mul-width Inv-loop μ-loop
-mul-width c = search needs
-
-sub-width : tie.Need-sub-width Inv-loop μ-loop
-sub-width c = search needs
-
-first-x-requires : tie.Need-first-x-requires Inv-loop μ-loop
-first-x-requires c κs = search needs
-
-mul-base : tie.Need-mul-base Inv-loop μ-loop
-unfolding sides
-mul-base c = let st = c .before .before .before in omega (arith, line-inside _ _ 0 (omega (arith, st .pre .0)) (st .pre .2))
+line-with-requires : tie.Need-line-with-requires Inv-loop μ-loop
+line-with-requires c κs = search needs
 
 loop-holds : tie.Need-loop-holds Inv-loop μ-loop
-unfolding sides
-loop-holds c = (passes-first _ _ _ _ (c .first-x .ensures), full-start _ (tests _ _ _ _ (omega arith) (c .before .before .before .pre .3)) _ (c .first-x .ensures))
+unfolding onLine
+loop-holds c = let L = c .line-with .ensures in (walk-first L, ap (full _) (cells-first L (order-tests _ 3 _ (omega arith))))
 
-add-if2 : tie.Need-add-if2 Inv-loop μ-loop
-add-if2 c = omega (arith, inside c)
+add-if3 : tie.Need-add-if3 Inv-loop μ-loop
+add-if3 c =
+    let turn = c .before .before .before in
+    omega (arith, inside (c .before), cells-high (entry turn .pre .0))
 
-mul-if2 : tie.Need-mul-if2 Inv-loop μ-loop
-mul-if2 c =
-    let back4 = c .before .before .before .before in
-    omega (arith, inside c, cells-high (back4 .before .pre .0))
+mul-if3 : tie.Need-mul-if3 Inv-loop μ-loop
+mul-if3 c =
+    let turn = c .before .before .before in
+    omega (arith, inside (c .before), cells-high (entry turn .pre .0))
 
-shared-slice-read-if2 : tie.Need-shared-slice-read-if2 Inv-loop μ-loop
-shared-slice-read-if2 c =
-    let back4 = c .before .before .before .before in
-    omega (arith, inside (c .before), back4 .before .before .pre .1)
+shared-slice-read-if3 : tie.Need-shared-slice-read-if3 Inv-loop μ-loop
+shared-slice-read-if3 c =
+    let test = c .before .before in
+    omega (arith, inside test, entry (test .before .before) .pre .1)
 
 returns-2 : tie.Need-returns-2 Inv-loop μ-loop
-unfolding sides onLine
 returns-2 c =
-    let i = c .before .before .before .loop .inv in
-    let st4 = c .before .before .before .before in
-    let st = st4 .before .before .before in
-    let h = st .pre .0 in
-    and-none (st .args .filled) _ (i .1 ∙ full-here _ (tests _ _ _ _ (omega arith) (st .pre .3)) _ (omega (arith, h)) (i .0 (omega (arith, h))) (c .if2 .taken))
+    let test = c .before .before .before in
+    let turn = test .before .before in
+    let i = turn .loop .inv in
+    let rest = cells-next (turn .before .line-with .ensures) (order-tests _ 3 _ (omega arith)) (i .0) (test .if2 .taken) in
+    and-none (entry turn .args .filled) _ (i .1 ∙ ap (full _) rest ∙ full-here _ _ _ (c .if3 .taken))
 
 add-x : tie.Need-add-x Inv-loop μ-loop
-add-x c = search needs
+add-x c =
+    let test = c .before .before .before in
+    omega (arith, inside test, cells-high (entry (test .before .before) .pre .0))
 
 loop-less : tie.Need-loop-less Inv-loop μ-loop
 loop-less c = search needs
 
 loop-again : tie.Need-loop-again Inv-loop μ-loop
-unfolding sides
 loop-again c =
-    let i = c .before .before .before .loop .inv in
-    let st4 = c .before .before .before .before in
-    let st = st4 .before .before .before in
-    let h = st .pre .0 in
-    (passes-next _ _ _ _ (i .0), i .1 ∙ full-next _ (tests _ _ _ _ (omega arith) (st .pre .3)) _ (omega (arith, h)) (i .0 (omega (arith, h))) (c .if2 .left))
+    let test = c .before .before .before in
+    let turn = test .before .before in
+    let i = turn .loop .inv in
+    let rest = cells-next (turn .before .line-with .ensures) (order-tests _ 3 _ (omega arith)) (i .0) (test .if2 .taken) in
+    (walk-next (i .0), i .1 ∙ ap (full _) rest ∙ full-next _ _ _ (c .if3 .left))
 
 returns-3 : tie.Need-returns-3 Inv-loop μ-loop
-unfolding sides onLine
 returns-3 c =
-    let st4 = c .before .before .before .before in
-    let st = st4 .before in
-    and-all (st .args .filled) _ (c .before .before .before .if1 .left) (c .before .loop .inv .1 ∙ full-end _ (tests _ _ _ _ (omega arith) (st .pre .3)) _ (omega arith))
+    let turn = c .before .before in
+    let none = cells-last (turn .before .line-with .ensures) (order-tests _ 3 _ (omega arith)) (c .if2 .left) in
+    and-all (entry turn .args .filled) _ (turn .before .before .if1 .left) (turn .loop .inv .1 ∙ ap (full _) none ∙ full-none _)
 
 pub full-on-spec : {M : Type 1} → statement M
 full-on-spec =
@@ -98,14 +92,11 @@ full-on-spec =
     Inv-loop
     μ-loop
     returns
-    mul-width
-    sub-width
-    first-x-requires
-    mul-base
+    line-with-requires
     loop-holds
-    add-if2
-    mul-if2
-    shared-slice-read-if2
+    add-if3
+    mul-if3
+    shared-slice-read-if3
     returns-2
     add-x
     loop-less

@@ -1,83 +1,83 @@
 -- `pass_survey::larger_on` meets its contract. The loop's invariant: the cell at x has order j, and the larger of m and the numbers from x on is the answer.
-use Prim.Native.Nat.{_+_, _-_, _*_, _%_, _<_, max}
+use Prim.Native.Nat.{_+_, _-_, _<_, max}
 use mathlib.Core.Path.{_≡_, _∙_}
 use native.Mathlib.Omega.{arith}
+use lib.Dec.{eqb}
 use borrow.Author.Needs.{needs}
 use Rattle.cells.specs.Box.{triple}
-use Rattle.cells.specs.Grid.{sides, cells}
+use Rattle.cells.specs.Grid.{cells, order}
 use Rattle.cells.proofs.ExtentLaws.{cells-high}
-use Rattle.lines.proofs.LineLaws.{line-inside}
+use Rattle.lines.proofs.LineLaws.{order-tests}
+use Rattle.lines.proofs.WalkLaws.{Walking, ahead, walk-first, walk-next, walk-inside, cells-first, cells-next, cells-last}
 use Rattle.pass_survey.specs.Surveys.{onLine, most}
-use Rattle.pass_survey.proofs.SurveyLaws.{among, tests, passes-first, passes-next, most-start, most-next, most-end}
+use Rattle.pass_survey.proofs.SurveyLaws.{most-next, most-none}
 use Rattle.pass_survey.proofs.larger_on.Statement.{statement}
 use Rattle.pass_survey.proofs.larger_on.Tie as tie
 
 abbrev Inv-loop : tie.InvT-loop
-Inv-loop map nx ny nz j l q number w start base m₀ x₀ m x =
+Inv-loop map nx ny nz j l q number line m₀ x₀ m x =
     let e = triple nx ny nz in
-    (x < w → 3 - j ≡ x % 2 + q) × (max m (most map (among e j (base + x) (w - x))) ≡ max number (most map (among e j base w)))
+    Walking e (3 - j) l x × (max m (most map (ahead (λ p. eqb (order e p) j) line x)) ≡ max number (most map (onLine e j l)))
 
 abbrev μ-loop : tie.MeasureT-loop
-μ-loop map nx ny nz j l q number w start base m₀ x₀ m x = w - x
+μ-loop map nx ny nz j l q number line m₀ x₀ m x = line .width - x
 
--- the cell at x lies in the grid
-inside : (c : tie.In-loop Inv-loop μ-loop) → let a = c .before .before .before .before .args in a .l * (2 * a .nx - 1) + c .before .loop .x < cells (triple (a .nx) (a .ny) (a .nz))
-unfolding sides
-inside c = line-inside _ _ _ (c .loop-test .taken) (c .before .before .before .before .pre .3)
+-- The cell at x lies in the grid.
+inside : (c : tie.Then1 Inv-loop μ-loop) → let turn = c .before .before in let a = turn .before .before .before .args in turn .before .line-with .result .base + turn .loop .x < cells (triple (a .nx) (a .ny) (a .nz))
+inside c =
+    let turn = c .before .before in
+    walk-inside (turn .before .line-with .ensures) _ (c .if1 .taken) (turn .before .before .before .pre .3)
 
-mul-w : tie.Need-mul-w Inv-loop μ-loop
-mul-w c = search needs
+sub-line-with : tie.Need-sub-line-with Inv-loop μ-loop
+sub-line-with c = search needs
 
-sub-w : tie.Need-sub-w Inv-loop μ-loop
-sub-w c = search needs
-
-sub-first-x : tie.Need-sub-first-x Inv-loop μ-loop
-sub-first-x c = search needs
-
-first-x-requires : tie.Need-first-x-requires Inv-loop μ-loop
-first-x-requires c κs = search needs
-
-mul-base : tie.Need-mul-base Inv-loop μ-loop
-unfolding sides
-mul-base c = let st = c .before .before in omega (arith, line-inside _ _ 0 (omega (arith, st .pre .0)) (st .pre .3))
+line-with-requires : tie.Need-line-with-requires Inv-loop μ-loop
+line-with-requires c κs = search needs
 
 loop-holds : tie.Need-loop-holds Inv-loop μ-loop
-unfolding sides
-loop-holds c = (passes-first _ _ _ _ (c .first-x .ensures), most-start _ (tests _ _ _ _ (omega arith) (c .before .before .pre .4)) _ _ (c .first-x .ensures))
+unfolding onLine
+loop-holds c = let L = c .line-with .ensures in (walk-first L, rw (cells-first L (order-tests _ _ _ (omega arith))))
 
 add-larger : tie.Need-add-larger Inv-loop μ-loop
-add-larger c = omega (arith, inside c)
+add-larger c =
+    let turn = c .before .before .before in
+    omega (arith, inside (c .before), cells-high (turn .before .before .before .pre .0))
 
 mul-larger : tie.Need-mul-larger Inv-loop μ-loop
-mul-larger c = omega (arith, inside c, cells-high (c .before .before .before .before .pre .0))
+mul-larger c =
+    let turn = c .before .before .before in
+    omega (arith, inside (c .before), cells-high (turn .before .before .before .pre .0))
 
 shared-slice-read-larger : tie.Need-shared-slice-read-larger Inv-loop μ-loop
 shared-slice-read-larger c =
-    let back4 = c .before .before .before .before in
-    omega (arith, inside (c .before), back4 .before .pre .1)
+    let test = c .before .before in
+    let turn = test .before .before in
+    omega (arith, inside test, turn .before .before .before .pre .1)
 
 larger-requires : tie.Need-larger-requires Inv-loop μ-loop
 larger-requires c κs = search needs
 
 add-x : tie.Need-add-x Inv-loop μ-loop
-add-x c = search needs
+add-x c =
+    let test = c .before .before .before in
+    let turn = test .before .before in
+    omega (arith, inside test, cells-high (turn .before .before .before .pre .0))
 
 loop-less : tie.Need-loop-less Inv-loop μ-loop
 loop-less c = search needs
 
 loop-again : tie.Need-loop-again Inv-loop μ-loop
-unfolding sides
 loop-again c =
-    let i = c .before .before .before .loop .inv in
-    let st4 = c .before .before .before .before in
-    let st = st4 .before .before in
-    (passes-next _ _ _ _ (i .0), most-next _ (tests _ _ _ _ (omega arith) (st .pre .4)) _ _ _ (omega arith) (i .0 (omega arith)) (c .larger .ensures) ∙ i .1)
+    let test = c .before .before .before in
+    let turn = test .before .before in
+    let i = turn .loop .inv in
+    let rest = cells-next (turn .before .line-with .ensures) (order-tests _ _ _ (omega arith)) (i .0) (test .if1 .taken) in
+    (walk-next (i .0), most-next _ _ _ _ _ (c .larger .ensures) ∙ (rw rest at (i .1)))
 
 returns : tie.Need-returns Inv-loop μ-loop
-unfolding sides onLine
 returns c =
-    let st = c .before .before .before .before in
-    most-end _ (tests _ _ _ _ (omega arith) (st .pre .4)) _ _ (omega arith) ∙ c .before .loop .inv .1
+    let turn = c .before .before in
+    most-none _ _ ∙ (rw (cells-last (turn .before .line-with .ensures) (order-tests _ _ _ (omega arith)) (c .if1 .left)) at (turn .loop .inv .1))
 
 pub larger-on-spec : {M : Type 1} → statement M
 larger-on-spec =
@@ -85,11 +85,8 @@ larger-on-spec =
     (tie.spec
     Inv-loop
     μ-loop
-    mul-w
-    sub-w
-    sub-first-x
-    first-x-requires
-    mul-base
+    sub-line-with
+    line-with-requires
     loop-holds
     add-larger
     mul-larger

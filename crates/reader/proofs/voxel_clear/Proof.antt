@@ -1,23 +1,24 @@
 -- `reader::voxel_clear` meets its contract. The loop's invariant: the voxels from line l on answer for all of them.
 use Prim.Native.Nat.{_-_, _≤_}
-use mathlib.Core.Path.{_≡_, _∙_, sym}
+use mathlib.Core.Path.{_≡_, ap, _∙_, sym}
 use native.Mathlib.Omega.{arith}
 use lib.Dec.{eqb}
 use borrow.Author.Needs.{needs}
 use Rattle.cells.specs.Box.{triple}
-use Rattle.cells.specs.Grid.{sides}
+use Rattle.cells.specs.Grid.{sides, order}
 use Rattle.labels.specs.Components.{ofOrder}
 use Rattle.lines.specs.Lines.{lineCount}
 use Rattle.lines.proofs.LineLaws.{lines-high}
+use Rattle.lines.proofs.WalkLaws.{onwards, lines-first, lines-next, lines-last}
 use Rattle.records.specs.Record.{bitAt, some}
-use Rattle.reader.proofs.ReadingLaws.{voxelsFrom, lines-all, lines-here, lines-next, lines-none}
+use Rattle.records.proofs.BitLaws.{some-part, some-rest, some-none}
 use Rattle.reader.proofs.voxel_clear.Statement.{statement}
 use Rattle.reader.proofs.voxel_clear.Tie as tie
 
 abbrev Inv-loop : tie.InvT-loop
 Inv-loop bytes nx ny nz lines l₀ l =
     let e = triple nx ny nz in
-    (l ≤ lines) × (some (λ c. eqb (bitAt bytes c) 0) (ofOrder e 3) ≡ some (λ c. eqb (bitAt bytes c) 0) (voxelsFrom e l))
+    (l ≤ lines) × (some (λ c. eqb (bitAt bytes c) 0) (ofOrder e 3) ≡ some (λ c. eqb (bitAt bytes c) 0) (onwards (λ p. eqb (order e p) 3) e l))
 
 abbrev μ-loop : tie.MeasureT-loop
 μ-loop bytes nx ny nz lines l₀ l = lines - l
@@ -39,7 +40,8 @@ unfolding lineCount sides
 mul-lines-3 c = omega (arith, lines-high (c .before .pre .0))
 
 loop-holds : tie.Need-loop-holds Inv-loop μ-loop
-loop-holds c = (omega arith, lines-all _ _)
+unfolding ofOrder
+loop-holds c = (omega arith, ap (some _) (lines-first _ _))
 
 line-clear-requires : tie.Need-line-clear-requires Inv-loop μ-loop
 unfolding lineCount sides
@@ -47,7 +49,7 @@ line-clear-requires c κs = search needs
 
 returns : tie.Need-returns Inv-loop μ-loop
 unfolding lineCount sides
-returns c = lines-here _ _ _ (c .before .before .loop-test .taken) (c .before .before .before .loop .inv .1) (sym (c .if1 .taken) ∙ c .before .line-clear .ensures)
+returns c = some-part _ _ _ (c .before .before .before .loop .inv .1) (lines-next _ _ (c .before .before .loop-test .taken)) (sym (c .if1 .taken) ∙ c .before .line-clear .ensures)
 
 add-l : tie.Need-add-l Inv-loop μ-loop
 unfolding lineCount sides
@@ -60,11 +62,11 @@ loop-less c = search needs
 
 loop-again : tie.Need-loop-again Inv-loop μ-loop
 unfolding lineCount sides
-loop-again c = (omega arith, lines-next _ _ _ (c .before .before .loop-test .taken) (c .before .before .before .loop .inv .1) (sym (c .if1 .left) ∙ c .before .line-clear .ensures))
+loop-again c = (omega arith, some-rest _ _ _ (c .before .before .before .loop .inv .1) (lines-next _ _ (c .before .before .loop-test .taken)) (sym (c .if1 .left) ∙ c .before .line-clear .ensures))
 
 returns-2 : tie.Need-returns-2 Inv-loop μ-loop
 unfolding lineCount sides
-returns-2 c = lines-none _ _ _ (omega arith) (c .before .loop .inv .1)
+returns-2 c = some-none _ (c .before .loop .inv .1) (lines-last _ _ (omega arith))
 
 pub voxel-clear-spec : {M : Type 1} → statement M
 voxel-clear-spec =

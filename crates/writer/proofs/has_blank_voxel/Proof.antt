@@ -1,24 +1,25 @@
 -- `writer::has_blank_voxel` meets its contract. The loop's invariant: the answer is that of the lines from l on.
-use Prim.Native.Nat.{_-_, _*_, _≤_}
-use mathlib.Core.Path.{_≡_, _∙_, sym}
+use Prim.Native.Nat.{_-_, _≤_}
+use mathlib.Core.Path.{_≡_, ap, _∙_, sym}
 use native.Mathlib.Omega.{arith}
 use lib.ListN.{getD}
 use lib.Dec.{eqb}
 use borrow.Author.Needs.{needs}
-use Rattle.lists.specs.Lists.{consecutive, keep}
 use Rattle.cells.specs.Box.{triple}
-use Rattle.cells.specs.Grid.{sides, cells, order}
+use Rattle.cells.specs.Grid.{sides, order}
 use Rattle.lines.specs.Lines.{lineCount}
 use Rattle.lines.proofs.LineLaws.{lines-high}
+use Rattle.lines.proofs.WalkLaws.{onwards, lines-first, lines-next, lines-last}
 use Rattle.labels.specs.Components.{ofOrder}
 use Rattle.records.specs.Record.{some, blankVoxel}
-use Rattle.writer.proofs.WriteLaws.{grid-start, grid-here, grid-next, grid-end}
+use Rattle.records.proofs.BitLaws.{some-part, some-rest, some-none}
 use Rattle.writer.proofs.has_blank_voxel.Statement.{statement}
 use Rattle.writer.proofs.has_blank_voxel.Tie as tie
 
 abbrev Inv-loop : tie.InvT-loop
 Inv-loop map nx ny nz lines l₀ l =
-    (l ≤ lines) × (blankVoxel (triple nx ny nz) map ≡ some (λ p. eqb (getD map p 0) 0) (keep (λ p. eqb (order (triple nx ny nz) p) 3) (consecutive (l * sides (triple nx ny nz) .x) (cells (triple nx ny nz) - l * sides (triple nx ny nz) .x))))
+    let e = triple nx ny nz in
+    (l ≤ lines) × (blankVoxel e map ≡ some (λ p. eqb (getD map p 0) 0) (onwards (λ p. eqb (order e p) 3) e l))
 
 abbrev μ-loop : tie.MeasureT-loop
 μ-loop map nx ny nz lines l₀ l = lines - l
@@ -41,7 +42,7 @@ mul-lines-3 c = omega (arith, lines-high (c .before .pre .0))
 
 loop-holds : tie.Need-loop-holds Inv-loop μ-loop
 unfolding blankVoxel ofOrder
-loop-holds c = (omega arith, grid-start _ _ _)
+loop-holds c = (omega arith, ap (some _) (lines-first _ _))
 
 blank-on-requires : tie.Need-blank-on-requires Inv-loop μ-loop
 unfolding lineCount sides
@@ -49,9 +50,7 @@ blank-on-requires c κs = search needs
 
 returns : tie.Need-returns Inv-loop μ-loop
 unfolding lineCount sides
-returns c =
-    let l = c .before .before .before .loop in
-    sym (l .inv .1 ∙ grid-here _ _ _ _ (c .before .before .loop-test .taken) (sym (c .before .blank-on .ensures) ∙ c .if1 .taken))
+returns c = some-part _ _ _ (c .before .before .before .loop .inv .1) (lines-next _ _ (c .before .before .loop-test .taken)) (sym (c .if1 .taken) ∙ c .before .blank-on .ensures)
 
 add-l : tie.Need-add-l Inv-loop μ-loop
 unfolding lineCount sides
@@ -65,14 +64,12 @@ loop-less c = search needs
 loop-again : tie.Need-loop-again Inv-loop μ-loop
 unfolding lineCount sides
 loop-again c =
-    let l = c .before .before .before .loop in
-    (omega (arith, c .before .before .loop-test .taken), l .inv .1 ∙ grid-next _ _ _ _ (c .before .before .loop-test .taken) (sym (c .before .blank-on .ensures) ∙ c .if1 .left))
+    let h = c .before .before .loop-test .taken in
+    (omega arith, some-rest _ _ _ (c .before .before .before .loop .inv .1) (lines-next _ _ h) (sym (c .if1 .left) ∙ c .before .blank-on .ensures))
 
 returns-2 : tie.Need-returns-2 Inv-loop μ-loop
 unfolding lineCount sides
-returns-2 c =
-    let l = c .before .loop in
-    sym (l .inv .1 ∙ grid-end _ _ _ _ (c .loop-test .left) (l .inv .0))
+returns-2 c = some-none _ (c .before .loop .inv .1) (lines-last _ _ (c .loop-test .left))
 
 pub has-blank-voxel-spec : {M : Type 1} → statement M
 has-blank-voxel-spec =
