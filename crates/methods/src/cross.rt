@@ -4,9 +4,8 @@ use step_cross::crossing;
 ghost use mathlib.Core.List.{[]};
 ghost use Rattle.joiner.specs.Calls.{cross, answer};
 ghost use Rattle.joiner.specs.Entries.{CallStep};
-ghost use Rattle.job.specs.Jobs.{tablesOf, stateOf};
+ghost use Rattle.job.specs.Jobs.{tablesOf, stateOf, anyTables};
 ghost use Rattle.joiner.specs.Job.{Face, Curve, Point};
-ghost use Rattle.exports.specs.Exports.{anyTables};
 
 impl Joining {
     // Joins the curves of a block at its point cells; the last one numbers faces and curves.

@@ -5,9 +5,8 @@ ghost use mathlib.Core.List.{[]};
 ghost use Rattle.cells.specs.Box.{triple};
 ghost use Rattle.joiner.specs.Calls.{look, answer};
 ghost use Rattle.joiner.specs.Entries.{CallStep};
-ghost use Rattle.job.specs.Jobs.{tablesOf, stateOf};
+ghost use Rattle.job.specs.Jobs.{tablesOf, stateOf, anyTables};
 ghost use Rattle.joiner.specs.Job.{Face, Curve, Point};
-ghost use Rattle.exports.specs.Exports.{anyTables};
 
 impl Joining {
     // The number of a cell of a closed job.

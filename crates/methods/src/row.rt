@@ -4,9 +4,8 @@ use reading_row::row;
 ghost use mathlib.Core.List.{[]};
 ghost use Rattle.joiner.specs.Calls.{reading, answer};
 ghost use Rattle.joiner.specs.Entries.{CallStep};
-ghost use Rattle.job.specs.Jobs.{tablesOf, stateOf, anyCuts};
+ghost use Rattle.job.specs.Jobs.{tablesOf, stateOf, anyCuts, anyTables};
 ghost use Rattle.joiner.specs.Job.{Face, Curve, Point};
-ghost use Rattle.exports.specs.Exports.{anyTables};
 ghost use Rattle.reading_row.specs.Inner.{kindOf};
 
 impl Joining {

@@ -12,9 +12,10 @@ use lib.ListN.{getD}
 use borrow.Author.Tests.{eq-eqb, ne-eqb}
 use Rattle.lists.specs.Lists.{consecutive, keep}
 use Rattle.lists.proofs.Lists.{keep-append}
+use Rattle.lists.proofs.Tests.{none-all}
 use Rattle.cells.specs.Box.{Triple}
 use Rattle.cells.specs.Grid.{sides, cells, order}
-use Rattle.labels.specs.Components.{ofOrder, largest}
+use Rattle.labels.specs.Components.{ofOrder, largest, blankVoxel}
 use Rattle.lines.specs.Lines.{lineCount, lineY, lineZ, firstX}
 use Rattle.lines.proofs.LineLaws.{cells-lines, next-line, Tests, line-start, line-next, line-end, line-odd, order-tests}
 use Rattle.joiner.specs.Declines.{filled}
@@ -138,8 +139,8 @@ module _ (e : Triple) (m : List ℕ) where
   most-all j = rw (from-first e j) (omega arith)
 
   pub looked-none : Looked e m 0 (record { filled = true; faces = 0; curves = 0; points = 0 })
-  unfolding full filled
-  looked-none = record { voxels = rw (from-first e 3); faces = most-all 2; curves = most-all 1; points = most-all 0 }
+  unfolding full filled blankVoxel
+  looked-none = record { voxels = rw (from-first e 3) (none-all (λ p. eqb (getD m p 0) 0) (ofOrder e 3)); faces = most-all 2; curves = most-all 1; points = most-all 0 }
 
   module _ (l : ℕ) (h : l < lineCount e) where
     most-line : (j k : ℕ) → max (max k (most m (onLine e j l))) (most m (fromLine e j (l + 1))) ≡ max k (most m (fromLine e j l))

@@ -13,8 +13,9 @@ use lib.ListN.{length, set}
 use lib.Seq.{take-all, take-suc-set}
 use borrow.Author.Tests.{eqb-true, eq-eqb, ne-eqb, leb-true, le-leb, lt-leb, not-false}
 use Rattle.lists.proofs.Cases.{neither}
-use Rattle.lists.specs.Lists.{consecutive, keep, tabulate}
+use Rattle.lists.specs.Lists.{consecutive, keep, tabulate, someOf}
 use Rattle.lists.proofs.Lists.{keep-append, tabulate-snoc}
+use Rattle.lists.proofs.Tests.{some-append, some-end}
 use Rattle.closure.specs.Numbered.{countBelow}
 use Rattle.refusals.specs.Refusals.{off-size, wrong-tray, bad-record, number, table, first, givenBy, listedNumbers, standsIn}
 use Rattle.refusals.proofs.RefusalLaws.{given-none}
@@ -27,8 +28,8 @@ use Rattle.labels.specs.Components.{ofOrder}
 use Rattle.lines.specs.Lines.{lineCount}
 use Rattle.lines.proofs.LineLaws.{cells-lines, next-line}
 use Rattle.records.specs.Fields.{fieldAt}
-use Rattle.records.specs.Record.{extentsOf, originOf, bitAt, standing, bitmapLength, numberOf, decodeRecord, some, lengthOf, damaged}
-use Rattle.records.proofs.BitLaws.{standing-more, some-append, some-none}
+use Rattle.records.specs.Record.{extentsOf, originOf, bitAt, standing, bitmapLength, numberOf, decodeRecord, lengthOf, damaged}
+use Rattle.records.proofs.BitLaws.{standing-more}
 use Rattle.records.proofs.ReadLaws.{standing-mono}
 use Rattle.reader.specs.declared.Head.{Head}
 use Rattle.reader.specs.Parts.{Mapped, ReadTo, numberAt}
@@ -58,24 +59,24 @@ abbrev voxelsOn : Triple → ℕ → List ℕ
 voxelsOn e l = keep (λ p. eqb (order e p) 3) (consecutive (l * sides e .x) (sides e .x))
 
 module _ (f : ℕ → Bool) (e : Triple) where
-  pub lines-all : some f (ofOrder e 3) ≡ some f (voxelsFrom e 0)
+  pub lines-all : someOf f (ofOrder e 3) ≡ someOf f (voxelsFrom e 0)
   unfolding ofOrder
   lines-all = rw (zero-mul (sides e .x), sub-zero (cells e))
 
   module _ (l : ℕ) where
-    pub lines-none : {b : Bool} → lineCount e ≤ l → b ≡ some f (voxelsFrom e l) → false ≡ b
+    pub lines-none : {b : Bool} → lineCount e ≤ l → b ≡ someOf f (voxelsFrom e l) → false ≡ b
     lines-none h q =
         let m : lineCount e * sides e .x ≤ l * sides e .x = mul-le-mul-right (sides e .x) h in
-        some-none f q (ap (keep (λ p. eqb (order e p) 3)) (none-left (l * sides e .x) (cells e) (omega (arith, cells-lines e))))
+        some-end f q (ap (keep (λ p. eqb (order e p) 3)) (none-left (l * sides e .x) (cells e) (omega (arith, cells-lines e))))
 
-    module _ (h : l < lineCount e) {b : Bool} (q : b ≡ some f (voxelsFrom e l)) where
-      parted : b ≡ (some f (voxelsOn e l) || some f (voxelsFrom e (l + 1)))
+    module _ (h : l < lineCount e) {b : Bool} (q : b ≡ someOf f (voxelsFrom e l)) where
+      parted : b ≡ (someOf f (voxelsOn e l) || someOf f (voxelsFrom e (l + 1)))
       parted = q ∙ rw (next-line e l h, keep-append) (some-append f (voxelsOn e l) (voxelsFrom e (l + 1)))
 
-      pub lines-here : true ≡ some f (voxelsOn e l) → true ≡ b
+      pub lines-here : true ≡ someOf f (voxelsOn e l) → true ≡ b
       lines-here t = sym (parted ∙ rw (sym t))
 
-      pub lines-next : false ≡ some f (voxelsOn e l) → b ≡ some f (voxelsFrom e (l + 1))
+      pub lines-next : false ≡ someOf f (voxelsOn e l) → b ≡ someOf f (voxelsFrom e (l + 1))
       lines-next t = parted ∙ rw (sym t)
 
 -- ---- one cell
@@ -134,9 +135,9 @@ module _ (e : Triple) (r : List ℕ) where
     damaged-length d = rw (ne-eqb _ _ (rw (j, i) at d))
 
     pub damaged-rest : length r ≡ 12 + bitmapLength n + 4 * k → damaged e r
-        ≡ (some (λ c. eqb (bitAt r c) 1) (consecutive n (8 * bitmapLength n - n)) ||
-        (some (λ c. eqb (bitAt r c) 0) (ofOrder e 3) ||
-        some (λ c. eqb (fieldAt r (12 + bitmapLength n + 4 * c) 4) 0) (consecutive 0 k)))
+        ≡ (someOf (λ c. eqb (bitAt r c) 1) (consecutive n (8 * bitmapLength n - n)) ||
+        (someOf (λ c. eqb (bitAt r c) 0) (ofOrder e 3) ||
+        someOf (λ c. eqb (fieldAt r (12 + bitmapLength n + 4 * c) 4) 0) (consecutive 0 k)))
     unfolding damaged lengthOf
     damaged-rest d = rw (j, i, eq-eqb _ _ (rw (j, i) at d))
 

@@ -11,9 +11,11 @@ use lib.Dec.{eqb, ltb}
 use lib.ListN.{length, getD, take, drop, set, drop-of-length-le, length-append, length-drop}
 use lib.Seq.{drop-cons, take-all}
 use borrow.Author.Tests.{eqb-true, eq-eqb, ne-eqb, ltb-false, lt-ltb, le-ltb, not-false}
-use Rattle.lists.specs.Lists.{consecutive, tabulate, keep}
+use Rattle.labels.specs.Components.{blankVoxel}
+use Rattle.lists.specs.Lists.{consecutive, tabulate, keep, someOf}
 use Rattle.lists.proofs.Cases.{by-test, neither}
 use Rattle.lists.proofs.Lists.{keep-append, length-tabulate, tabulate-snoc, drop-down}
+use Rattle.lists.proofs.Tests.{some-append}
 use Rattle.cells.specs.Box.{Triple}
 use Rattle.cells.specs.Extents.{offPlace}
 use Rattle.cells.specs.Grid.{sides, cells}
@@ -24,8 +26,8 @@ use Rattle.refusals.proofs.RefusalLaws.{given-none}
 use Rattle.lines.specs.Lines.{lineCount, firstX}
 use Rattle.lines.proofs.LineLaws.{Tests, line-start, line-next, line-end, next-line, cells-lines}
 use Rattle.records.specs.Fields.{packed, laid}
-use Rattle.records.specs.Record.{headBytes, bit, mapByte, bitmapLength, bitmap, listed, encodeRecord, some, blankVoxel}
-use Rattle.records.proofs.LaidLaws.{length-laid, laid-append, laid-none, laid-more, laid-front, laid-encode, length-encode, listed-next, length-next}
+use Rattle.records.specs.Record.{headBytes, bit, mapByte, bitmapLength, bitmap, listed, encodeRecord}
+use Rattle.records.proofs.LaidLaws.{length-laid, laid-append, laid-none, laid-more, laid-front, laid-encode, encode-length, listed-next, length-next}
 use Rattle.writer.specs.Inner.{byteOf, Ready}
 use Rattle.writer.specs.Writing.{declines, refusalOf, outcome, accepted, refused, writing}
 
@@ -45,55 +47,47 @@ module _ (m : List ℕ) (i n k : ℕ) (e : 4 * n + length (listed (drop i m)) �
 
 -- ---- blank voxels
 
-some-append : (f : ℕ → Bool) (a b : List ℕ) → some f (a ++ b) ≡ (some f a || some f b)
-unfolding some
-some-append f [] b = refl
-some-append f (x ∷ a) b = by-test (f x) (λ t. rw t) (λ t. rw t (some-append f a b))
-
 -- a line of cells, from x on
 module _ (f : ℕ → Bool) {g : ℕ → Bool} {base w n q : ℕ} (T : Tests g base w n q) where
   abbrev ahead : ℕ → Bool
-  ahead x = some f (keep g (consecutive (base + x) (w - x)))
+  ahead x = someOf f (keep g (consecutive (base + x) (w - x)))
 
-  pub blank-start : (s : ℕ) → s ≡ firstX n q w → some f (keep g (consecutive base w)) ≡ ahead s
-  blank-start s e = rw e (ap (some f) (line-start T))
+  pub blank-start : (s : ℕ) → s ≡ firstX n q w → someOf f (keep g (consecutive base w)) ≡ ahead s
+  blank-start s e = rw e (ap (someOf f) (line-start T))
 
   module _ (x : ℕ) (h : x < w) (e : n ≡ x % 2 + q) where
     pub blank-here : f (base + x) ≡ true → ahead x ≡ true
-    unfolding some
     blank-here t = rw (line-next T x h e, t)
 
     pub blank-next : f (base + x) ≡ false → ahead x ≡ ahead (x + 2)
-    unfolding some
     blank-next t = rw (line-next T x h e, t)
 
   pub blank-end : (x : ℕ) → w ≤ x → ahead x ≡ false
-  unfolding some
   blank-end x h = rw (line-end T x h)
 
 -- the grid, from line l on
 module _ (f : ℕ → Bool) (g : ℕ → Bool) (e : Triple) where
   abbrev onwards : ℕ → Bool
-  onwards l = some f (keep g (consecutive (l * sides e .x) (cells e - l * sides e .x)))
+  onwards l = someOf f (keep g (consecutive (l * sides e .x) (cells e - l * sides e .x)))
 
-  pub grid-start : some f (keep g (consecutive 0 (cells e))) ≡ onwards 0
+  pub grid-start : someOf f (keep g (consecutive 0 (cells e))) ≡ onwards 0
   grid-start =
       let z : 0 * sides e .x ≡ 0 = omega arith in
       let r : cells e - 0 ≡ cells e = omega arith in
       rw (z, r)
 
   module _ (l : ℕ) (h : l < lineCount e) where
-    grid-split : onwards l ≡ (some f (keep g (consecutive (l * sides e .x) (sides e .x))) || onwards (l + 1))
-    grid-split = rw (next-line e l h, keep-append g) (some-append f _ _)
+    grid-split : onwards l ≡ (someOf f (keep g (consecutive (l * sides e .x) (sides e .x))) || onwards (l + 1))
+    grid-split = rw (next-line e l h, keep-append g) (some-append f (keep g (consecutive (l * sides e .x) (sides e .x))) (keep g (consecutive ((l + 1) * sides e .x) (cells e - (l + 1) * sides e .x))))
 
-    pub grid-here : some f (keep g (consecutive (l * sides e .x) (sides e .x))) ≡ true → onwards l ≡ true
+    pub grid-here : someOf f (keep g (consecutive (l * sides e .x) (sides e .x))) ≡ true → onwards l ≡ true
     grid-here t = rw (grid-split, t)
 
-    pub grid-next : some f (keep g (consecutive (l * sides e .x) (sides e .x))) ≡ false → onwards l ≡ onwards (l + 1)
+    pub grid-next : someOf f (keep g (consecutive (l * sides e .x) (sides e .x))) ≡ false → onwards l ≡ onwards (l + 1)
     grid-next t = rw (grid-split, t)
 
   pub grid-end : (l : ℕ) → lineCount e ≤ l → l ≤ lineCount e → onwards l ≡ false
-  unfolding some consecutive
+  unfolding consecutive
   grid-end l h k =
       let i : l ≡ lineCount e = omega arith in
       let r : cells e - lineCount e * sides e .x ≡ 0 = omega (arith, cells-lines e) in
@@ -199,7 +193,7 @@ module _ (m : List ℕ) (at : ℕ) (t : List ℕ) (fits : at + length (listed m)
 pub pieces : (e o : Triple) (m t t₁ t₂ t₃ : List ℕ) (at r : ℕ) → Ready m (length t) → t₁ ≡ laid 0 (headBytes e o) t → t₂ ≡ laid 12 (bitmap m) t₁ → at ≡ 12 + bitmapLength (length m)
     → (r ≡ at + length (listed m)) × (t₃ ≡ laid at (listed m) t₂) → (r ≡ length (encodeRecord e o m)) × (t₃ ≡ laid 0 (encodeRecord e o m) t)
 pieces e o m t t₁ t₂ t₃ at r g a b c d = (
-  d .0 ∙ ap (λ (n : ℕ). n + length (listed m)) c ∙ sym (length-encode e o m),
+  d .0 ∙ ap (λ (n : ℕ). n + length (listed m)) c ∙ sym (encode-length e o m),
   d .1 ∙ rw (c, b, a) (laid-encode e o m t (g .fits)),
 )
 
@@ -219,14 +213,14 @@ module _ (e o : Triple) (m : List ℕ) (tray : ℕ) where
 
   module _ (p : offPlace e o ≡ false) (k : length m ≡ cells e) (r : ℕ) (q : r ≡ 12 + bitmapLength (length m) + length (listed m)) where
     pub wrong-tray-given : tray < r → 6 ≡ refusalOf e o m tray
-    wrong-tray-given h = rw (ladder, p, eq-eqb _ _ k, length-encode e o m, ← q, lt-ltb tray r h)
+    wrong-tray-given h = rw (ladder, p, eq-eqb _ _ k, encode-length e o m, ← q, lt-ltb tray r h)
 
     module _ (h : r ≤ tray) where
       pub stray-label-given : blankVoxel e m ≡ true → 8 ≡ refusalOf e o m tray
-      stray-label-given b = rw (ladder, p, eq-eqb _ _ k, length-encode e o m, ← q, le-ltb tray r h, b)
+      stray-label-given b = rw (ladder, p, eq-eqb _ _ k, encode-length e o m, ← q, le-ltb tray r h, b)
 
       pub none-given : blankVoxel e m ≡ false → 0 ≡ refusalOf e o m tray
-      none-given b = rw (ladder, p, eq-eqb _ _ k, length-encode e o m, ← q, le-ltb tray r h, b)
+      none-given b = rw (ladder, p, eq-eqb _ _ k, encode-length e o m, ← q, le-ltb tray r h, b)
 
   -- What holds where nothing is refused.
   pub ready-of : refusalOf e o m tray ≡ 0 → Ready m tray
@@ -239,7 +233,7 @@ module _ (e o : Triple) (m : List ℕ) (tray : ℕ) where
       let b = ltb tray (length (encodeRecord e o m)) in
       let k : length m ≡ cells e = eqb-true _ _ (not-false _ (neither a b w .0)) in
       let f = ltb-false tray (length (encodeRecord e o m)) (neither a b w .1) in
-      record { short = omega (arith, cells-high s); fits = rw (length-encode e o m) at f }
+      record { short = omega (arith, cells-high s); fits = rw (encode-length e o m) at f }
 
 -- ---- the ways of `write_record`
 

@@ -5,20 +5,20 @@ use native.Mathlib.Omega.{arith}
 use lib.Dec.{eqb}
 use borrow.Author.Needs.{needs}
 use borrow.Author.Tests.{eq-eqb, ne-eqb}
-use Rattle.lists.specs.Lists.{consecutive, keep}
+use Rattle.lists.specs.Lists.{consecutive, keep, someOf}
+use Rattle.lists.proofs.Tests.{some-here, some-next, some-end}
 use Rattle.cells.specs.Box.{triple}
 use Rattle.cells.specs.Grid.{sides, cells, order}
 use Rattle.lines.specs.Lines.{lineY, lineZ}
 use Rattle.lines.proofs.LineLaws.{line-inside, line-odd, line-start, line-next, line-end, order-tests}
-use Rattle.records.specs.Record.{bitAt, some, bitmapLength}
-use Rattle.records.proofs.BitLaws.{some-here, some-next, some-none}
+use Rattle.records.specs.Record.{bitAt, bitmapLength}
 use Rattle.reader.proofs.line_clear.Statement.{statement}
 use Rattle.reader.proofs.line_clear.Tie as tie
 
 abbrev Inv-loop : tie.InvT-loop
 Inv-loop bytes nx ny nz l w h start base x₀ x =
     (start ≤ x) × (x % 2 ≡ start % 2)
-    × (some (λ c. eqb (bitAt bytes c) 0) (keep (λ p. eqb (order (triple nx ny nz) p) 3) (consecutive base w)) ≡ some (λ c. eqb (bitAt bytes c) 0) (keep (λ p. eqb (order (triple nx ny nz) p) 3) (consecutive (base + x) (w - x))))
+    × (someOf (λ c. eqb (bitAt bytes c) 0) (keep (λ p. eqb (order (triple nx ny nz) p) 3) (consecutive base w)) ≡ someOf (λ c. eqb (bitAt bytes c) 0) (keep (λ p. eqb (order (triple nx ny nz) p) 3) (consecutive (base + x) (w - x))))
 
 abbrev μ-loop : tie.MeasureT-loop
 μ-loop bytes nx ny nz l w h start base x₀ x = w - x
@@ -60,7 +60,7 @@ mul-base c =
 
 loop-holds : tie.Need-loop-holds Inv-loop μ-loop
 unfolding lineY lineZ sides
-loop-holds c = (omega arith, refl, rw (c .first-x .ensures) (ap (some _) (line-start (order-tests _ 3 _ (omega arith)))))
+loop-holds c = (omega arith, refl, rw (c .first-x .ensures) (ap (someOf _) (line-start (order-tests _ 3 _ (omega arith)))))
 
 add-bit-at : tie.Need-add-bit-at Inv-loop μ-loop
 add-bit-at c = omega (arith, inside c, c .before .before .before .before .pre .1 .few)
@@ -94,7 +94,7 @@ loop-again c =
 
 returns-2 : tie.Need-returns-2 Inv-loop μ-loop
 unfolding sides
-returns-2 c = some-none _ (c .before .loop .inv .2) (line-end (order-tests _ 3 _ (omega arith)) _ (omega arith))
+returns-2 c = some-end _ (c .before .loop .inv .2) (line-end (order-tests _ 3 _ (omega arith)) _ (omega arith))
 
 pub line-clear-spec : {M : Type 1} → statement M
 line-clear-spec =

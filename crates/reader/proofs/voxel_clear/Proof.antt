@@ -4,12 +4,13 @@ use mathlib.Core.Path.{_≡_, _∙_, sym}
 use native.Mathlib.Omega.{arith}
 use lib.Dec.{eqb}
 use borrow.Author.Needs.{needs}
+use Rattle.lists.specs.Lists.{someOf}
 use Rattle.cells.specs.Box.{triple}
 use Rattle.cells.specs.Grid.{sides}
 use Rattle.labels.specs.Components.{ofOrder}
 use Rattle.lines.specs.Lines.{lineCount}
 use Rattle.lines.proofs.LineLaws.{lines-high}
-use Rattle.records.specs.Record.{bitAt, some}
+use Rattle.records.specs.Record.{bitAt}
 use Rattle.reader.proofs.ReadingLaws.{voxelsFrom, lines-all, lines-here, lines-next, lines-none}
 use Rattle.reader.proofs.voxel_clear.Statement.{statement}
 use Rattle.reader.proofs.voxel_clear.Tie as tie
@@ -17,7 +18,7 @@ use Rattle.reader.proofs.voxel_clear.Tie as tie
 abbrev Inv-loop : tie.InvT-loop
 Inv-loop bytes nx ny nz lines l₀ l =
     let e = triple nx ny nz in
-    (l ≤ lines) × (some (λ c. eqb (bitAt bytes c) 0) (ofOrder e 3) ≡ some (λ c. eqb (bitAt bytes c) 0) (voxelsFrom e l))
+    (l ≤ lines) × (someOf (λ c. eqb (bitAt bytes c) 0) (ofOrder e 3) ≡ someOf (λ c. eqb (bitAt bytes c) 0) (voxelsFrom e l))
 
 abbrev μ-loop : tie.MeasureT-loop
 μ-loop bytes nx ny nz lines l₀ l = lines - l

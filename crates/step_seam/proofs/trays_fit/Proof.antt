@@ -1,6 +1,6 @@
 -- `step_seam::trays_fit` meets its contract.
 use borrow.Author.Needs.{needs}
-use Rattle.job.proofs.JobLaws.{and-here, and-next}
+use Rattle.lists.proofs.Cases.{and-here, and-next}
 use Rattle.step_seam.specs.Inner.{fitsBoth}
 use Rattle.step_seam.proofs.trays_fit.Statement.{statement}
 use Rattle.step_seam.proofs.trays_fit.Tie as tie

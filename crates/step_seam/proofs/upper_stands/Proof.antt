@@ -1,6 +1,6 @@
 -- `step_seam::upper_stands` meets its contract.
 use borrow.Author.Needs.{needs}
-use Rattle.job.proofs.JobLaws.{and-here, and-next}
+use Rattle.lists.proofs.Cases.{and-here, and-next}
 use Rattle.step_seam.specs.Inner.{upperStands}
 use Rattle.step_seam.proofs.upper_stands.Statement.{statement}
 use Rattle.step_seam.proofs.upper_stands.Tie as tie

@@ -6,20 +6,19 @@ use lib.ListN.{getD}
 use lib.Dec.{eqb}
 use borrow.Author.Needs.{needs}
 use borrow.Author.Tests.{eq-eqb, ne-eqb}
-use Rattle.lists.specs.Lists.{consecutive, keep}
+use Rattle.lists.specs.Lists.{consecutive, keep, someOf}
 use Rattle.cells.specs.Box.{triple}
 use Rattle.cells.specs.Grid.{sides, cells, order}
 use Rattle.cells.proofs.ExtentLaws.{cells-high}
 use Rattle.lines.specs.Lines.{lineY, lineZ}
 use Rattle.lines.proofs.LineLaws.{line-inside, line-odd, order-tests}
-use Rattle.records.specs.Record.{some}
 use Rattle.writer.proofs.WriteLaws.{blank-start, blank-here, blank-next, blank-end}
 use Rattle.writer.proofs.blank_on.Statement.{statement}
 use Rattle.writer.proofs.blank_on.Tie as tie
 
 abbrev Inv-loop : tie.InvT-loop
 Inv-loop map nx ny nz l w h start base x₀ x =
-    (start ≤ x) × (x % 2 ≡ start % 2) × (some (λ p. eqb (getD map p 0) 0) (keep (λ p. eqb (order (triple nx ny nz) p) 3) (consecutive base w)) ≡ some (λ p. eqb (getD map p 0) 0) (keep (λ p. eqb (order (triple nx ny nz) p) 3) (consecutive (base + x) (w - x))))
+    (start ≤ x) × (x % 2 ≡ start % 2) × (someOf (λ p. eqb (getD map p 0) 0) (keep (λ p. eqb (order (triple nx ny nz) p) 3) (consecutive base w)) ≡ someOf (λ p. eqb (getD map p 0) 0) (keep (λ p. eqb (order (triple nx ny nz) p) 3) (consecutive (base + x) (w - x))))
 
 abbrev μ-loop : tie.MeasureT-loop
 μ-loop map nx ny nz l w h start base x₀ x = w - x

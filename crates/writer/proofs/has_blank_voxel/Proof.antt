@@ -5,20 +5,19 @@ use native.Mathlib.Omega.{arith}
 use lib.ListN.{getD}
 use lib.Dec.{eqb}
 use borrow.Author.Needs.{needs}
-use Rattle.lists.specs.Lists.{consecutive, keep}
+use Rattle.lists.specs.Lists.{consecutive, keep, someOf}
 use Rattle.cells.specs.Box.{triple}
 use Rattle.cells.specs.Grid.{sides, cells, order}
 use Rattle.lines.specs.Lines.{lineCount}
 use Rattle.lines.proofs.LineLaws.{lines-high}
-use Rattle.labels.specs.Components.{ofOrder}
-use Rattle.records.specs.Record.{some, blankVoxel}
+use Rattle.labels.specs.Components.{ofOrder, blankVoxel}
 use Rattle.writer.proofs.WriteLaws.{grid-start, grid-here, grid-next, grid-end}
 use Rattle.writer.proofs.has_blank_voxel.Statement.{statement}
 use Rattle.writer.proofs.has_blank_voxel.Tie as tie
 
 abbrev Inv-loop : tie.InvT-loop
 Inv-loop map nx ny nz lines l₀ l =
-    (l ≤ lines) × (blankVoxel (triple nx ny nz) map ≡ some (λ p. eqb (getD map p 0) 0) (keep (λ p. eqb (order (triple nx ny nz) p) 3) (consecutive (l * sides (triple nx ny nz) .x) (cells (triple nx ny nz) - l * sides (triple nx ny nz) .x))))
+    (l ≤ lines) × (blankVoxel (triple nx ny nz) map ≡ someOf (λ p. eqb (getD map p 0) 0) (keep (λ p. eqb (order (triple nx ny nz) p) 3) (consecutive (l * sides (triple nx ny nz) .x) (cells (triple nx ny nz) - l * sides (triple nx ny nz) .x))))
 
 abbrev μ-loop : tie.MeasureT-loop
 μ-loop map nx ny nz lines l₀ l = lines - l
