@@ -11,6 +11,8 @@ use lib.Dec.{eqb, leb, ltb}
 use lib.ListN.{length, getD, drop, drop-of-length-le, List·getD-eq-default}
 use lib.Seq.{drop-cons}
 use borrow.Author.Tests.{ltb-true, leb-true, eqb-true, not-true, not-false, lt-ltb, le-ltb, le-leb, lt-leb, eq-eqb, ne-eqb}
+use Rattle.lists.proofs.Lists.{past}
+use Rattle.lists.proofs.Cases.{same-test}
 use Rattle.cells.specs.Box.{X, Y, Z, triple, volume, place}
 use Rattle.cells.specs.Grid.{sides}
 use Rattle.cutting.specs.Cutting.{Cutting, ascends, cutList, goodCut, intervals, lowEnd, highEnd, blockSides, blocks, interval, origin, blockExtents, follows, sameInterval, seam, mostBlocks, FewBlocks}
@@ -19,12 +21,6 @@ use Rattle.blocks.specs.Blocks.{cutOf, anyExtents, Tells, inOn, hasIn, s
 use Rattle.blocks.specs.declared.Block.{Block}
 use Rattle.blocks.specs.declared.Place.{Place}
 use Rattle.blocks.specs.declared.Side.{Side}
-
--- two tests that each follow from the other
-pub same-test : (s t : Bool) → (s ≡ true → t ≡ true) → (t ≡ true → s ≡ true) → s ≡ t
-same-test true t f g = sym (f refl)
-same-test false true f g = g refl
-same-test false false f g = refl
 
 -- ---- a cut list
 
@@ -173,13 +169,9 @@ module _ (k : Cutting) where
 
 -- ---- one interval
 
-pub low-past : (c : List ℕ) (i : ℕ) → length c ≤ i → 0 ≡ lowEnd c i
-unfolding lowEnd
-low-past c i h = sym (List·getD-eq-default c 0 {n = i} h)
-
 pub high-past : (c : List ℕ) (i : ℕ) → length c ≤ i → 0 ≡ highEnd c i
-unfolding highEnd
-high-past c i h = low-past c i h ∙ sym (List·getD-eq-default c (lowEnd c i) {n = suc i} (omega arith))
+unfolding highEnd lowEnd
+high-past c i h = past c i h ∙ sym (List·getD-eq-default c (lowEnd c i) {n = suc i} (omega arith))
 
 pub high-last : (c : List ℕ) (i : ℕ) → length c - i < 2 → getD c i 0 ≡ highEnd c i
 unfolding highEnd lowEnd

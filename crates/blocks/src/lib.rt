@@ -1,5 +1,6 @@
 // Blocks, seams and cells by the cut lists that every call lends. All but `block_count`, `local` and `embed` answer for every input.
 use cutting::MOST_BLOCKS;
+use lists::read_or_zero;
 ghost use mathlib.Core.Path.{_≡_};
 ghost use mathlib.Core.Bool.{true, _&&_};
 ghost use Prim.Native.Nat.{suc, _+_, _-_, _*_, _≤_, _<_};
@@ -129,10 +130,7 @@ pub fn has_block(cx: &[u32], cy: &[u32], cz: &[u32], b: u32) -> bool
 fn low(c: &[u32], i: usize) -> u32
     ensures { λ r. ⌜ r ≡ lowEnd (now (c .entry)) i ⌝ }
 {
-    if i < c.len() {
-        return c[i];
-    }
-    0
+    read_or_zero(c, i)
 }
 
 fn high(c: &[u32], i: usize) -> u32

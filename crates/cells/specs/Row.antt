@@ -38,9 +38,13 @@ padTo (suc n) (x ∷ xs) = x ∷ padTo n xs
 unfoldable pub rowOf : List ℕ → List ℕ
 rowOf xs = padTo 6 (sortAscending (keep (once xs) xs))
 
+-- The numbers of some cells over the map m.
+abbrev pub numbersAt : List ℕ → List ℕ → List ℕ
+numbersAt m ps = map (λ p. getD m p 0) ps
+
 -- The row of a cell over the map m. A voxel has no upper neighbours, so its row is six zeros.
 unfoldable pub row : Triple → List ℕ → ℕ → List ℕ
-row e m p = rowOf (map (λ q. getD m q 0) (upperNeighbours e p))
+row e m p = rowOf (numbersAt m (upperNeighbours e p))
 
 -- A row has an entry.
 unfoldable pub occupied : List ℕ → Bool

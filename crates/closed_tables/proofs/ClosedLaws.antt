@@ -3,31 +3,14 @@
 use mathlib.Core.Path.{_≡_, sym, ap, _∙_}
 use mathlib.Core.List.{List}
 use Prim.Native.Nat.{ℕ, suc, _+_, _*_, _/_, _%_, _≤_, _<_}
-use native.Mathlib.Nat.{zero-add}
 use native.Mathlib.Omega.{arith}
-use lib.Dec.{ltb}
 use lib.ListN.{getD, length, take}
-use lib.Seq.{ext-getD}
-use borrow.Author.Tests.{ltb-true, ltb-false}
 use Rattle.lists.specs.Lists.{tabulate, overlay}
-use Rattle.lists.proofs.Cases.{by-test}
 use Rattle.lists.proofs.Lists.{getD-tabulate}
-use Rattle.lists.proofs.Overlay.{length-overlay, overlay-at, overlay-behind, front-at, overlay-same}
+use Rattle.lists.proofs.Overlay.{front-at, overlay-same, overlay-front}
 use Rattle.joiner.specs.Job.{Kind, Face, Curve, Point, width, Tables, firstAt}
 use Rattle.joiner.specs.Entries.{headOf, rowAt, finalFace, rowFinal}
-use Rattle.theory_model.proofs.Numbers.{overlay-front}
 use Rattle.closed_tables.specs.Closings.{positionAt, entryAt, faceIn, ascendingFour, curveRow}
-
--- A front that is written twice holds what was written last.
-pub front-over : (xs : List ℕ) (f g : ℕ → ℕ) (n : ℕ) → n ≤ length xs → overlay (overlay xs 0 f n) 0 g n ≡ overlay xs 0 g n
-front-over xs f g n h =
-    ext-getD 0 (overlay (overlay xs 0 f n) 0 g n) (overlay xs 0 g n) (length-overlay (overlay xs 0 f n) 0 g n ∙ length-overlay xs 0 f n ∙ sym (length-overlay xs 0 g n))
-    (λ i _. by-test (ltb i n)
-    (λ t. let k : i < n = ltb-true i n t in at (overlay xs 0 f n) i k (omega (arith, length-overlay xs 0 f n)) ∙ sym (at xs i k h))
-    (λ t. let k : 0 + n ≤ i = omega (arith, ltb-false i n t) in overlay-behind (overlay xs 0 f n) 0 g n i k ∙ overlay-behind xs 0 f n i k ∙ sym (overlay-behind xs 0 g n i k)))
-  where
-    at : (l : List ℕ) (i : ℕ) → i < n → n ≤ length l → getD (overlay l 0 g n) i 0 ≡ g i
-    at l i k s = ap (λ (j : ℕ). getD (overlay l 0 g n) j 0) (sym (zero-add i)) ∙ overlay-at l 0 g n i k (omega arith)
 
 -- ---- rows
 

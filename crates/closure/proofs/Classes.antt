@@ -1,7 +1,7 @@
 -- The laws of `rep`: it gives of each id the least one on a path from it, so edge lists with the same paths have the same `rep`.
 -- Assumes nothing.
 use Prim.Native.Nat.{ℕ, _≤_, min, max}
-use native.Mathlib.Nat.{le-refl, le-trans, le-antisymm, le-of-eq, min-comm, max-comm}
+use native.Mathlib.Nat.{le-refl, le-trans, min-comm, max-comm}
 use native.Mathlib.Omega.{arith}
 use mathlib.Core.Bool.{Bool, true, false}
 use mathlib.Core.Logic.{_⊎_, inl, inr, ⊎-elim}
@@ -9,7 +9,7 @@ use mathlib.Core.List.{List, [], _∷_, _++_, foldl, List·Memᴰ, List·Memᴰ�
 use mathlib.Core.Path.{_≡_, refl, sym, ap, _∙_}
 use lib.Dec.{eqb}
 use borrow.Author.Tests.{eqb-true, eqb-false, eq-eqb, ne-eqb}
-use Rattle.closure.specs.Joined.{Edge, Linked, stay, along, back, via, mergeIds, joinClasses, joins, rep, Least}
+use Rattle.closure.specs.Joined.{Edge, Linked, stay, along, back, via, mergeIds, joinClasses, joins, rep}
 
 -- ---- `mergeIds`
 
@@ -183,24 +183,6 @@ path-rep es x y e = joins-sound (Linked es) (path-closed es) es (λ e i. along i
 
 pub path-to-rep : (es : List Edge) (x : ℕ) → Linked es x (rep es x)
 path-to-rep es x = path-rep es x (rep es x) (sym (rep-idem es x))
-
--- `rep` is the least id of the class.
-pub rep-least : (es : List Edge) → Least (Linked es) (rep es)
-rep-least es = record { low = rep-low es; linked = path-to-rep es; agree = rep-path es }
-
--- ---- `Least` decides the function
-
-pub least-unique : (R S : ℕ → ℕ → Type 0) (f g : ℕ → ℕ) → Least R f → Least S g
-    → ((x y : ℕ) → R x y → S x y) → ((x y : ℕ) → S x y → R x y) → (x : ℕ) → f x ≡ g x
-least-unique R S f g lf lg there here x =
-    le-antisymm
-    (le-trans (le-of-eq (lf .agree (here x (g x) (lg .linked x)))) (lf .low (g x)))
-    (le-trans (le-of-eq (lg .agree (there x (f x) (lf .linked x)))) (lg .low (f x)))
-
--- The order and the number of the edges do not matter, only which ids they connect.
-pub rep-same : (es ds : List Edge) → ((x y : ℕ) → Linked es x y → Linked ds x y) → ((x y : ℕ) → Linked ds x y → Linked es x y)
-    → (x : ℕ) → rep es x ≡ rep ds x
-rep-same es ds there here x = least-unique (Linked es) (Linked ds) (rep es) (rep ds) (rep-least es) (rep-least ds) there here x
 
 -- A path follows from its edges, so one list's paths are the other's where each edge of the first has a path in the other.
 pub path-map : (es ds : List Edge) → ((e : Edge) → List·Memᴰ e es → Linked ds (e .from) (e .to)) → {x y : ℕ} → Linked es x y → Linked ds x y

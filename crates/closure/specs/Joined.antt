@@ -1,8 +1,7 @@
 -- Ids joined by edges: the closure of the edges as a relation, `Path`, and the least id of each class as a function, `rep`.
-use Prim.Native.Nat.{ℕ, _≤_, min, max}
+use Prim.Native.Nat.{ℕ, min, max}
 use mathlib.Core.Bool.{cond}
 use mathlib.Core.List.{List, [], _∷_, List·Memᴰ}
-use mathlib.Core.Path.{_≡_}
 use lib.Dec.{eqb}
 
 -- An edge between two ids.
@@ -36,9 +35,3 @@ joins f (e ∷ es) x = joins (joinClasses f (e .from) (e .to)) es x
 -- The least id of the class of x, where the list's edges are joined.
 unfoldable pub rep : List Edge → ℕ → ℕ
 rep es x = joins (λ y. y) es x
-
--- f gives of each id the least one that R relates it to.
-pub record Least (R : ℕ → ℕ → Type 0) (f : ℕ → ℕ) : Type 0 where
-  pub low : (x : ℕ) → f x ≤ x
-  pub linked : (x : ℕ) → R x (f x)
-  pub agree : {x y : ℕ} → R x y → f x ≡ f y

@@ -8,7 +8,6 @@ use mathlib.Core.Logic.{_↔_}
 use mathlib.Core.List.{List}
 use Prim.Native.Nat.{ℕ, _<_}
 use lib.ListN.{getD}
-use Rattle.cells.specs.Box.{Triple}
 use Rattle.cells.specs.Grid.{cells, order}
 use Rattle.cells.specs.Row.{row, active}
 use Rattle.labels.specs.Numbering.{Meet, Joined, here, step}
@@ -16,6 +15,7 @@ use Rattle.cutting.specs.Cutting.{Cutting, goodCut, blocks, blockExtents
 use Rattle.cutting.specs.Nodes.{uncutMap, part}
 use Rattle.cells.proofs.GridLaws.{Upper, upper-neighbour}
 use Rattle.labels.proofs.LabelLaws.{labels-numbering}
+use Rattle.labels.proofs.NumberLaws.{joined-then}
 use Rattle.cutting.proofs.CutLaws.{embed-order}
 use Rattle.cutting.proofs.BlockLaws.{MeetIn, meet-in, meet-embed, Carried, carried, joined-embed}
 
@@ -45,10 +45,6 @@ pub data Chained (k : Cutting) (codes : List ℕ) (j : ℕ) : ℕ → ℕ → Ty
   end : {x : ℕ} → Chained k codes j x x
   alike : {x y z : ℕ} → SameIn k codes j x y → Chained k codes j y z → Chained k codes j x z
   cross : {x y z : ℕ} → CrossIn k codes x y → Chained k codes j y z → Chained k codes j x z
-
-joined-link : (e : Triple) (m : List ℕ) {x y z : ℕ} → Joined e m x y → Joined e m y z → Joined e m x z
-joined-link e m here l = l
-joined-link e m (step r t s h) l = step r t s (joined-link e m h l)
 
 module _ (k : Cutting) (good : goodCut k ≡ true) (codes : List ℕ) (j : ℕ) (lo : 0 < j) (hi : j < 3) where
   c : (b : ℕ) → b < blocks k → Carried k codes b j
@@ -93,7 +89,7 @@ module _ (k : Cutting) (good : goodCut k ≡ true) (codes : List ℕ) (j : ℕ) 
   pub chained-joined : {x y : ℕ} → order (k .extents) x ≡ j → Chained k codes j x y → Joined (k .extents) (uncutMap k codes) x y
   chained-joined o end = here
   chained-joined o (alike r l) =
-      joined-link (k .extents) (uncutMap k codes) (same-joined r)
+      joined-then (k .extents) (uncutMap k codes) (same-joined r)
       (chained-joined (ap (order (k .extents)) (sym (r .q-is)) ∙ embed-order k good (r .b) (r .listed) (r .q) (r .q-in) ∙ r .q-order) l)
   chained-joined o (cross r l) = cross-step o r (chained-joined (cross-order r ∙ o) l)
 

@@ -12,16 +12,12 @@ use Rattle.joiner.specs.Calls.{Call, reading, answer}
 use Rattle.joiner.specs.Entries.{CallStep}
 use Rattle.job.specs.declared.Job.{Job}
 use Rattle.job.specs.declared.Stage.{Stage}
-use Rattle.job.specs.Jobs.{jobOf, stateOf, anyCuts}
+use Rattle.job.specs.Jobs.{jobOf, stateOf, anyCuts, anyTables}
 use Rattle.job.specs.Lent.{rowLent}
 use Rattle.job_numbers.specs.Numbers.{jobIn, keptNumbers}
 use Rattle.totals.specs.declared.Totals.{Totals}
 use Rattle.strain_calls.specs.Tables.{TotalTables}
 use Rattle.strain_calls.specs.Entries.{TotalsOpening, StrainPromise, TotalPromise}
-
--- What holds whatever the tables are. An export's contract takes out of them those that the call is not lent.
-abbrev pub anyTables : (Tables → Type 0) → Type 0
-anyTables P = (t : Tables) → P t
 
 -- Of an opening: `TotalsOpening`, with the tables of the readings; its job is stored if it is accepted, and the numbers stay if it is refused.
 pub record ExportedOpening (ns ns′ : List ℕ) (o : Told) (t t′ : Tables) (w w′ : TotalTables) (r : ℕ) : Type 0 where

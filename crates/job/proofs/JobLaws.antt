@@ -1,40 +1,17 @@
 -- Tests in the order of the code, the lengths of tables, and the job of a refused opening.
 -- Assumes nothing.
-use mathlib.Core.Path.{_≡_, refl, sym, _∙_}
-use mathlib.Core.Bool.{Bool, true, false, not, cond, _&&_, and-assoc}
+use mathlib.Core.Path.{_≡_, refl, sym}
+use mathlib.Core.Bool.{Bool, false, _&&_, and-assoc}
 use mathlib.Core.List.{List, [], _∷_, _++_}
 use Prim.Native.Nat.{ℕ, _*_, _^_, _≤_, _<_}
 use native.Mathlib.Nat.{mul-le-mul}
 use native.Mathlib.Omega.{arith}
 use lib.Dec.{eqb, leb}
-use borrow.Author.Tests.{eq-eqb, ne-eqb, le-leb, lt-leb, not-true, not-false}
+use borrow.Author.Tests.{eq-eqb, ne-eqb, le-leb, lt-leb}
 use Rattle.joiner.specs.Job.{Kind, Face, Curve, Point, Tray, lengthsFit}
 use Rattle.joiner.specs.Entries.{Fresh, nothing}
 use Rattle.job.specs.declared.Job.{Job}
 use Rattle.job.specs.Jobs.{byKind, jobOf, freshJob, NoJob}
-
--- t is the value of the code's test, which is denied, b the test of the definition
-module _ (t b r c : Bool) where
-  pub and-here : t ≡ b → not t ≡ true → false ≡ (b && c)
-  and-here e p = rw (sym e ∙ not-true t p)
-
-  pub and-next : t ≡ b → not t ≡ false → r ≡ c → r ≡ (b && c)
-  and-next e p q = rw (sym e ∙ not-false t p) q
-
--- one rung of a ladder of refusals
-module _ {A : Type 0} (t b : Bool) (r x y : A) where
-  pub cond-here : t ≡ b → t ≡ true → r ≡ x → r ≡ cond b x y
-  cond-here e p q = rw (sym e ∙ p) q
-
-  pub cond-next : t ≡ b → t ≡ false → r ≡ y → r ≡ cond b x y
-  cond-next e p q = rw (sym e ∙ p) q
-
-  -- .. where the code asks for what must be
-  pub cond-not-here : t ≡ b → not t ≡ true → r ≡ x → r ≡ cond (not b) x y
-  cond-not-here e p q = rw (sym e ∙ not-true t p) q
-
-  pub cond-not-next : t ≡ b → not t ≡ false → r ≡ y → r ≡ cond (not b) x y
-  cond-not-next e p q = rw (sym e ∙ not-false t p) q
 
 -- ---- the lengths of tables
 

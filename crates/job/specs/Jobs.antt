@@ -46,6 +46,10 @@ jobOf j cx cy cz =
 abbrev pub anyCuts : (List ℕ → List ℕ → List ℕ → Type 0) → Type 0
 anyCuts P = (cx cy cz : List ℕ) → P cx cy cz
 
+-- What holds whatever the tables are. An export's contract takes out of them those that the call is not lent.
+abbrev pub anyTables : (Tables → Type 0) → Type 0
+anyTables P = (t : Tables) → P t
+
 -- The tables, in the order in which an entry is lent them. Points have no links.
 abbrev pub tablesOf : List ℕ → List ℕ → List ℕ → List ℕ → List ℕ → List ℕ → List ℕ → List ℕ → List ℕ → List ℕ → List ℕ → List ℕ → List ℕ → List ℕ → List ℕ → List ℕ
     → List ℕ → List ℕ → List ℕ → Tables

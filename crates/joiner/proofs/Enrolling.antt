@@ -4,10 +4,9 @@ use mathlib.Core.Bool.{_&&_, cond, false, true}
 use mathlib.Core.List.{List, List·Memᴰ, List·Memᴰ·cases-cons, List·Memᴰ·head, List·Memᴰ·not-nil, List·Memᴰ·tail, Memᴰ·map, [], _∷_}
 use mathlib.Core.Logic.{_≢_, _⊎_, inl, inr}
 use mathlib.Core.Path.{_∙_, _≡_, ap, ap₂, refl, subst, sym}
-use Prim.Native.Nat.{_%_, _*_, _+_, _-_, _/_, _<_, _≤_, suc, ℕ}
+use Prim.Native.Nat.{_*_, _+_, _-_, _/_, _<_, _≤_, suc, ℕ}
 use native.Mathlib.Nat.{mul-add, mul-le-mul-left}
 use native.Mathlib.Omega.{arith}
-use lib.Arith.{digits-div, digits-lt, digits-mod}
 use lib.Dec.{eqb, leb, ltb}
 use lib.ListN.{getD, length, length-set}
 use borrow.Author.Tests.{eqb-false, eqb-true, le-leb, leb-true, ltb-false, ltb-true}
@@ -19,7 +18,7 @@ use Rattle.union_find.specs.Links.{parent, root, soundAt}
 use Rattle.labels.specs.Components.{component, firstCell, largest}
 use Rattle.labels.specs.Number.{numbered}
 use Rattle.labels.specs.Numbering.{Numbering}
-use Rattle.cutting.specs.Cutting.{Cutting, blockExtents, blocks, cutList, embed, goodCut, mostBlocks, sameInterval}
+use Rattle.cutting.specs.Cutting.{Cutting, blockExtents, blocks, cutList, embed, goodCut, mostBlocks}
 use Rattle.joiner.specs.Book.{Book, bookAdds, bookAfter, entered}
 use Rattle.joiner.specs.Calls.{Call, enrol}
 use Rattle.joiner.specs.Declines.{adds}
@@ -29,7 +28,7 @@ use Rattle.joiner.specs.Stages.{crossingStep, enrolStep, seamStep, steps
 use Rattle.joiner.specs.Statement.{Labelling}
 use Rattle.lists.proofs.Cases.{and-second, by-test, picked}
 use Rattle.lists.proofs.Lists.{consecutive-in}
-use Rattle.lists.proofs.Overlay.{length-overlay, overlay-at, overlay-before, overlay-behind}
+use Rattle.lists.proofs.Overlay.{length-overlay, overlay-at, overlay-before, overlay-behind, rows-at, rows-before}
 use Rattle.union_find.proofs.LinkLaws.{own-root, root-idem, root-low, root-own}
 use Rattle.labels.proofs.ComponentLaws.{component-in}
 use Rattle.labels.proofs.CountLaws.{Somewhere, every-number}
@@ -46,28 +45,6 @@ use Rattle.joiner.proofs.Passed.{Passed}
 pub blocks-most : (k : Cutting) → goodCut k ≡ true → blocks k ≤ mostBlocks
 unfolding goodCut
 blocks-most k t = leb-true (blocks k) mostBlocks (and-second (cutList (k .extents .x) (k .cx) && cutList (k .extents .y) (k .cy) && cutList (k .extents .z) (k .cz)) (leb (blocks k) mostBlocks) t)
-
-pub row-place : (w x n i : ℕ) → x < n → i < w → w * x + i < w * n
-row-place w x n i h k = let d : x * w + i < n * w = digits-lt h k in omega arith
-
--- the i-th place of row x, counted through the rows
-pub row-split : (w x i : ℕ) → i < w → ((w * x + i) / w ≡ x) × ((w * x + i) % w ≡ i)
-row-split w x i h =
-    let e : w * x + i ≡ x * w + i = omega arith in
-    (ap (λ (n : ℕ). n / w) e ∙ digits-div x h, ap (λ (n : ℕ). n % w) e ∙ digits-mod x h)
-
--- a place of a run of rows, written row by row
-pub rows-at : (xs : List ℕ) (w n : ℕ) (f : ℕ → ℕ → ℕ) (k x i : ℕ) → x < k → i < w → w * n + w * k ≤ length xs
-    → getD (overlay xs (w * n) (λ j. f (j / w) (j % w)) (w * k)) (w * (n + x) + i) 0 ≡ f x i
-rows-at xs w n f k x i hx hi l =
-    let e : w * (n + x) + i ≡ w * n + (w * x + i) = omega (arith, mul-add w n x) in
-    let q = row-split w x i hi in
-    ap (λ (j : ℕ). getD (overlay xs (w * n) (λ j. f (j / w) (j % w)) (w * k)) j 0) e
-    ∙ overlay-at xs (w * n) (λ j. f (j / w) (j % w)) (w * k) (w * x + i) (row-place w x k i hx hi) l
-    ∙ ap₂ f (q .0) (q .1)
-
-pub rows-before : (xs : List ℕ) (w n : ℕ) (f : ℕ → ℕ) (k x i : ℕ) → x < n → i < w → getD (overlay xs (w * n) f k) (w * x + i) 0 ≡ getD xs (w * x + i) 0
-rows-before xs w n f k x i hx hi = overlay-before xs (w * n) f k (w * x + i) (row-place w x n i hx hi)
 
 -- a number that a cell has stands where its first cell does
 first-is : (k : Cutting) (b : ℕ) (m : List ℕ) → Labelling (blockExtents k b) m → (κ : Kind) (n : ℕ) → 0 < n → n ≤ largest (blockExtents k b) m (orderOf κ)

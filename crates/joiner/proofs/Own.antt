@@ -14,14 +14,14 @@ use Rattle.cells.specs.Box.{Triple, volume}
 use Rattle.cells.specs.Codes.{blank}
 use Rattle.cells.specs.Grid.{voxel, voxelCell}
 use Rattle.cells.specs.Row.{sameRow}
-use Rattle.labels.specs.Components.{ofOrder}
+use Rattle.labels.specs.Components.{ofOrder, blankVoxel}
 use Rattle.labels.specs.Number.{labels}
 use Rattle.joiner.specs.Book.{labelled, voxelCodes}
 use Rattle.joiner.specs.Declines.{filled}
 use Rattle.joiner.specs.Statement.{Labelling}
 use Rattle.lists.proofs.Cases.{and-both, and-first, and-second, not-twice}
 use Rattle.lists.proofs.Lists.{getD-tabulate, length-tabulate}
-use Rattle.lists.proofs.Tests.{all-in}
+use Rattle.lists.proofs.Tests.{all-in, none-all}
 use Rattle.cells.proofs.CodeLaws.{blank-not, not-blank}
 use Rattle.cells.proofs.GridLaws.{voxel-cell, voxel-cell-inside, voxel-cell-order, voxel-inside}
 use Rattle.cells.proofs.RowLaws.{row-same, same-row}
@@ -67,9 +67,10 @@ module _ (e : Triple) (m : List ℕ) where
 
   -- it has a code at each voxel, and a number for each cell
   pub labelling-filled : Labelling e m → filled e m ≡ true
-  unfolding filled
+  unfolding filled blankVoxel
   labelling-filled l =
-      all-in (λ p. not (eqb (getD m p 0) 0)) (ofOrder e 3)
+      sym (none-all (λ p. eqb (getD m p 0) 0) (ofOrder e 3))
+      ∙ all-in (λ p. not (eqb (getD m p 0) 0)) (ofOrder e 3)
       (λ p h.
       let r = of-order-out e 3 h in
       let c : getD m p 0 ≡ getD (l .codes) (voxel e p) 0 = ap (λ (x : List ℕ). getD x p 0) (l .left) ∙ labels-numbering e (l .codes) .voxels p (r .0) (r .1) in

@@ -4,7 +4,7 @@ use mathlib.Core.Bool.{true}
 use mathlib.Core.List.{List, List·Memᴰ, List·Memᴰ·cases-cons, List·Memᴰ·head, List·Memᴰ·not-nil, List·Memᴰ·tail, [], _∷_}
 use mathlib.Core.Logic.{_≢_, _⊎_, inl, inr}
 use mathlib.Core.Path.{_∙_, _≡_, ap, refl, subst, sym}
-use Prim.Native.Nat.{_%_, _*_, _+_, _-_, _/_, _<_, _≤_, suc, zero, ℕ}
+use Prim.Native.Nat.{_%_, _*_, _+_, _-_, _/_, _<_, _≤_, suc, ℕ}
 use native.Mathlib.Omega.{arith}
 use lib.Dec.{eqb, ltb}
 use lib.ListN.{getD, length}
@@ -20,15 +20,15 @@ use Rattle.joiner.specs.Entries.{classOf, rowAt, rowFinal}
 use Rattle.joiner.specs.Job.{Point, Tables, firstAt, keyOf, keyPosition}
 use Rattle.joiner.specs.Stages.{pointStep, shared}
 use Rattle.lists.proofs.Cases.{by-test}
-use Rattle.lists.proofs.Lists.{Ascends, ascends-consecutive, ascends-keep, ascends-le, getD-in, getD-tabulate, keep-in, keep-out}
-use Rattle.lists.proofs.Overlay.{overlay-at, overlay-before}
+use Rattle.lists.proofs.Lists.{Ascends, ascends-at, ascends-consecutive, ascends-keep, getD-in, getD-tabulate, keep-in, keep-out}
+use Rattle.lists.proofs.Overlay.{overlay-at, overlay-before, rows-at, rows-before}
 use Rattle.lists.proofs.Table.{every}
 use Rattle.labels.proofs.ComponentLaws.{Belongs, belongs-at, least-at, of-order-in, of-order-out}
 use Rattle.labels.proofs.CountLaws.{Somewhere, every-number, firsts-ascend, largest-bound}
 use Rattle.labels.proofs.LabelLaws.{labels-numbering, numbered-active, point-alone}
 use Rattle.cutting.proofs.CutLaws.{InBlock, blocks-cover, embed-inside, embed-less, embed-order}
 use Rattle.cutting.proofs.SeamLaws.{point-block}
-use Rattle.joiner.proofs.Enrolling.{blocks-most, rows-at, rows-before}
+use Rattle.joiner.proofs.Enrolling.{blocks-most}
 use Rattle.joiner.proofs.Keys.{key-first}
 use Rattle.joiner.proofs.Ranking.{Ranked}
 
@@ -164,13 +164,6 @@ module _ (k : Cutting) (good : goodCut k ≡ true) (codes : List ℕ) where
         let z : o .b ≡ b =
         point-block k good (embed k (o .b) (o .p)) (o .b) b (embed-order k good (o .b) (o .listed) (o .p) (c .within) ∙ c .level) (o .listed) hb (record { p = o .p; within = c .within; is = refl }) (record { p = getD (pointsOf b) i 0; within = d .within; is = q }) in
         fresh (subst (λ (y : ℕ). List·Memᴰ (pointStep y) done) z (o .ticked-in))
-
-    ascends-at : (c : ℕ) (l : List ℕ) → Ascends c l → (i j : ℕ) → i < j → j < length l → getD l i 0 < getD l j 0
-    ascends-at c [] s i j h l = absurd (omega arith)
-    ascends-at c (y ∷ l) s zero zero h q = absurd (omega arith)
-    ascends-at c (y ∷ l) s zero (suc j) h q = omega (arith, ascends-le (suc y) l (s .1) (getD-in l j (omega arith)))
-    ascends-at c (y ∷ l) s (suc i) zero h q = absurd (omega arith)
-    ascends-at c (y ∷ l) s (suc i) (suc j) h q = ascends-at (suc y) l (s .1) i j (omega arith) (omega arith)
 
     grows : (i j : ℕ) → i < j → j < length (pointsOf b) → firstAt u Point (n + i) < firstAt u Point (n + j)
     grows i j h l =

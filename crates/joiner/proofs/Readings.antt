@@ -25,7 +25,7 @@ use Rattle.joiner.specs.Job.{Curve, Face, Kind, Point, Points, State, To
 use Rattle.joiner.specs.Stages.{codesOf, hasCell, local, shared}
 use Rattle.joiner.specs.Statement.{Labelling}
 use Rattle.lists.proofs.Cases.{and-first, and-second, by-test, picked}
-use Rattle.lists.proofs.Overlay.{front-at}
+use Rattle.lists.proofs.Overlay.{front-at, row-place, row-split}
 use Rattle.cells.proofs.GridLaws.{order-most}
 use Rattle.cells.proofs.RowLaws.{getD-pad}
 use Rattle.labels.proofs.ComponentLaws.{Belongs, belongs-at}
@@ -34,7 +34,6 @@ use Rattle.labels.proofs.LabelLaws.{labels-numbering, numbered-active, point-al
 use Rattle.cutting.proofs.BlockLaws.{voxel-same}
 use Rattle.cutting.proofs.CutLaws.{embed-inside, embed-order}
 use Rattle.joiner.proofs.Codes.{has-held}
-use Rattle.joiner.proofs.Enrolling.{row-place, row-split}
 use Rattle.joiner.proofs.Final.{Final, layout, part-is, uncut-is, volume-map}
 use Rattle.joiner.proofs.Inv.{Inv, Kept}
 use Rattle.joiner.proofs.RowsFinal.{final-cell}

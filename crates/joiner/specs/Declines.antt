@@ -12,7 +12,7 @@ use Rattle.cells.specs.Box.{Triple}
 use Rattle.cells.specs.Extents.{offSize}
 use Rattle.cells.specs.Grid.{order, upperNeighbours}
 use Rattle.cells.specs.Row.{rowOf, occupied}
-use Rattle.labels.specs.Components.{ofOrder, largest}
+use Rattle.labels.specs.Components.{ofOrder, largest, blankVoxel}
 use Rattle.cutting.specs.Cutting.{Cutting, blockExtents, goodCut}
 use Rattle.joiner.specs.Job.{Kind, Face, Curve, Point, orderOf, Crossing, sameStage, Told, Job, Tables, State, Tray, ticked, countOf, fromOf, node, lengthsFit, blockTrays, linkTrays, foundTrays, numberTrays, firstTrays, listedTrays, kindTrays}
 use Rattle.joiner.specs.Stages.{local, crossingStep, finished}
@@ -39,9 +39,9 @@ tallyFits j κ = leb (j .sofar κ) (j .told .entries κ) && leb (j .numbered κ)
 unfoldable pub talliesFit : Job → Bool
 talliesFit j = tallyFits j Face && (tallyFits j Curve && tallyFits j Point)
 
--- "A map has 0 at a voxel."
+-- No voxel of a map has 0.
 unfoldable pub filled : Triple → List ℕ → Bool
-filled e m = allOf (λ p. not (eqb (getD m p 0) 0)) (ofOrder e 3)
+filled e m = not (blankVoxel e m)
 
 -- ".. or after enrolment a number above the block's count of that order."
 unfoldable pub counted : Tables → Triple → ℕ → List ℕ → Kind → Bool

@@ -72,12 +72,6 @@ pub record Unopened (o : Told) (lent : Tables) (s : State) : Type 0 where
   pub fresh : Fresh (s .job)
   pub tables : s .tables ≡ lent
 
--- An opening, whatever it is handed: its answer and what it leaves.
-pub record Opening (o : Told) (lent : Tables) (r : ℕ) (s : State) : Type 0 where
-  pub told : r ≡ openRefusal o lent
-  pub declined : openRefusal o lent ≢ 0 → Unopened o lent s
-  pub opened : openRefusal o lent ≡ 0 → Opened o lent s
-
 -- ---- which components are one
 
 -- The classes of f, and those that R relates, made one.

@@ -2,14 +2,13 @@
 -- Assumes nothing.
 use mathlib.Core.Path.{_≡_, refl, sym, ap, subst, _∙_}
 use mathlib.Core.Bool.{Bool, true, false, not, cond, _&&_}
-use mathlib.Core.Logic.{_≢_}
 use mathlib.Core.List.{List, [], _++_}
 use Prim.Native.Nat.{ℕ, _+_, _*_, _≤_, _<_}
 use native.Mathlib.Omega.{arith}
 use lib.Dec.{eqb, leb, ltb}
-use lib.ListN.{getD, length, set, List·getD-eq-default}
-use borrow.Author.Tests.{eqb-true, eqb-false, ne-eqb, eq-eqb, le-ltb, lt-ltb, ltb-true, not-true, not-false}
-use Rattle.lists.proofs.Cases.{by-test, and-first}
+use lib.ListN.{getD, length, set}
+use borrow.Author.Tests.{eqb-true, eqb-false, ne-eqb, eq-eqb, le-ltb, leb-true, lt-ltb, ltb-true, not-true, not-false}
+use Rattle.lists.proofs.Cases.{by-test, and-first, and-second}
 use Rattle.refusals.specs.Refusals.{number, table, first, givenBy, standsIn}
 use Rattle.cells.specs.Box.{Triple}
 use Rattle.cells.specs.Extents.{Sized, offSize}
@@ -24,7 +23,7 @@ use Rattle.joiner.specs.Calls.{Call, enrol, join, cross, point, look, reading, 
 use Rattle.joiner.specs.Declines.{adds, counted, cutFor, declines, filled, lentTo, linksStand, mapStands, numberStands, refusal, standing, standsFor, stray, talliesFit, waysStand}
 use Rattle.joiner.specs.Entries.{Done, CallStep, Ticked, allTrays}
 use Rattle.joiner.proofs.Passed.{tally-fits}
-use Rattle.blocks.specs.Blocks.{anyExtents, cutOf, sizeOf, Tells}
+use Rattle.blocks.specs.Blocks.{anyExtents, sizeOf, Tells}
 use Rattle.blocks.specs.declared.Block.{Block}
 use Rattle.blocks.proofs.BlockLaws.{good-few, told-sized}
 use Rattle.blocks.proofs.CodeLaws.{blocks-are}
@@ -209,9 +208,6 @@ module _ (k : Cutting) (good : goodCut k ≡ true) where
 
 -- ---- a block's map and its entry
 
-pub past : (l : List ℕ) (i : ℕ) → length l ≤ i → 0 ≡ getD l i 0
-past l i h = sym (List·getD-eq-default l 0 {n = i} h)
-
 -- a value that the code has is tested itself
 module _ (b r c : Bool) where
   pub stands-here : not b ≡ true → false ≡ (b && c)
@@ -241,15 +237,20 @@ pub number-is : (s : State) (κ : Kind) (x : ℕ) → numberStands s κ x ≡ nu
 unfolding numberStands numberStandsIn
 number-is s κ x = refl
 
--- t is the code's test
-module _ (numbers : List ℕ) (most x n : ℕ) (e : n ≡ getD numbers x 0) where
-  pub number-none : n ≡ 0 → false ≡ numberStandsIn numbers most x
-  unfolding numberStandsIn
-  number-none z = rw (← e, z)
+-- a number that a closed table has
+module _ (n most : ℕ) where
+  pub number-none : n ≡ 0 → false ≡ (ltb 0 n && leb n most)
+  number-none z = rw z
 
-  pub number-some : (n ≡ 0 → ⊥) → (t : Bool) → t ≡ leb n most → t ≡ numberStandsIn numbers most x
+  pub number-some : (n ≡ 0 → ⊥) → leb n most ≡ (ltb 0 n && leb n most)
+  number-some z = rw (lt-ltb 0 n (omega arith))
+
+  pub number-of : (ltb 0 n && leb n most) ≡ true → (0 < n) × (n ≤ most)
+  number-of h = (ltb-true 0 n (and-first (ltb 0 n) (leb n most) h), leb-true n most (and-second (ltb 0 n) (leb n most) h))
+
+  pub number-at : (numbers : List ℕ) (x : ℕ) (t : Bool) → n ≡ getD numbers x 0 → t ≡ (ltb 0 n && leb n most) → t ≡ numberStandsIn numbers most x
   unfolding numberStandsIn
-  number-some z t h = rw (← e, lt-ltb 0 n (omega arith)) h
+  number-at numbers x t e h = rw (← e) h
 
 -- ---- the lengths of what is lent
 
@@ -338,7 +339,7 @@ module _ (s : State) (c : Call) (cut : cutFor s c ≡ goodCut (s .job .told .cut
 
 -- ---- what the judge has passed
 
-six-passed : (a : Bool) (x : ℕ) → _≡_ {A = ℕ} (cond (not a) 6 x) 0 → a ≡ true
+pub six-passed : (a : Bool) (x : ℕ) → _≡_ {A = ℕ} (cond (not a) 6 x) 0 → a ≡ true
 six-passed true x h = refl
 six-passed false x h = absurd (omega arith)
 

@@ -17,6 +17,7 @@ use job::row_tray;
 use job::same_stage;
 use job::tallies_fit;
 use joiner::NUMBERS_PER_BLOCK;
+use lists::read_or_zero;
 use pass_survey::Survey;
 use pass_survey::survey_map;
 use refusals::BAD_CUT;
@@ -31,8 +32,8 @@ use union_find::sound_ways;
 ghost use mathlib.Core.Path.{_≡_};
 ghost use mathlib.Core.Bool.{true, _&&_};
 ghost use Prim.Native.Nat.{_+_, _≤_};
-ghost use lib.Dec.{eqb, leb};
-ghost use lib.ListN.{getD, length};
+ghost use lib.Dec.{eqb, leb, ltb};
+ghost use lib.ListN.{length};
 ghost use Rattle.cells.specs.Extents.{Sized};
 ghost use Rattle.cells.specs.Grid.{cells};
 ghost use Rattle.cutting.specs.Cutting.{mostBlocks};
@@ -304,27 +305,17 @@ pub fn map_fits(block: Block, length: usize) -> bool
     length == w * h * d
 }
 
-// The entry of a table, 0 past its end.
-pub fn at(table: &[u32], i: usize) -> u32
-    ensures { λ r. ⌜ r ≡ getD (now (table .entry)) i 0 ⌝ }
-{
-    if i < table.len() {
-        return table[i];
-    }
-    0
-}
-
 // What the block table tells of block b.
 pub fn entry_of(table: &[u32], b: u32) -> Entry
     ensures { λ r. ⌜ r ≡ entryOf (now (table .entry)) b ⌝ }
 {
     let i = NUMBERS_PER_BLOCK * b as usize;
     Entry {
-        faces: at(table, i),
-        curves: at(table, i + 1),
-        points: at(table, i + 2),
-        face_from: at(table, i + 3),
-        curve_from: at(table, i + 4),
+        faces: read_or_zero(table, i),
+        curves: read_or_zero(table, i + 1),
+        points: read_or_zero(table, i + 2),
+        face_from: read_or_zero(table, i + 3),
+        curve_from: read_or_zero(table, i + 4),
     }
 }
 
@@ -382,15 +373,21 @@ pub fn links_stand(face_links: &[u32], curve_links: &[u32], entry: Entry) -> boo
     sound_ways(curve_links, entry.curve_from, entry.curves)
 }
 
+// Whether a closed table of so many components has one of this number.
+pub fn has_number(number: u32, most: u32) -> bool
+    ensures { λ r. ⌜ r ≡ (ltb 0 number && leb number most) ⌝ }
+{
+    if number == 0 {
+        return false;
+    }
+    number <= most
+}
+
 // Whether the final number at a place is one of the closed table's: 1 to the numbered count.
 pub fn number_stands(numbers: &[u32], most: u32, place: usize) -> bool
     ensures { λ r. ⌜ r ≡ numberStandsIn (now (numbers .entry)) most place ⌝ }
 {
-    let n = at(numbers, place);
-    if n == 0 {
-        return false;
-    }
-    n <= most
+    has_number(read_or_zero(numbers, place), most)
 }
 
 // ---- the judge of a call that brings a block's map

@@ -6,10 +6,10 @@ use joiner::TICKS_PER_BLOCK;
 use judge::CallName;
 use judge::Entry;
 use judge::Lengths;
-use judge::at;
 use judge::entry_of;
 use judge::judge;
 use judge::links_stand;
+use lists::read_or_zero;
 use refusals::STRAY_LABEL;
 use stages::is_ticked;
 use union_find::all_sound;
@@ -58,7 +58,7 @@ fn last_crossing(ticks: &[u32], b: u32, blocks: usize) -> bool
 fn face_in(rows: &[u32], i: usize, faces: u32) -> bool
     ensures { λ r. ⌜ r ≡ leb (getD (now (rows .entry)) i 0) faces ⌝ }
 {
-    at(rows, i) <= faces
+    read_or_zero(rows, i) <= faces
 }
 
 // Whether the first n entries of the rows are such places.

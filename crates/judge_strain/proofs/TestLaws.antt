@@ -8,7 +8,7 @@ use native.Mathlib.Omega.{arith}
 use lib.Dec.{eqb, leb, ltb}
 use lib.ListN.{getD, length}
 use lib.Ieee.{Float}
-use borrow.Author.Tests.{eqb-true, eq-eqb, ne-eqb, leb-true, ltb-true, not-true, not-false}
+use borrow.Author.Tests.{eqb-true, eq-eqb, ne-eqb, not-true, not-false}
 use Rattle.lists.proofs.Cases.{and-first, and-second}
 use Rattle.cells.specs.Box.{Triple, triple, volume}
 use Rattle.cells.specs.Extents.{Sized, offSize}
@@ -16,14 +16,14 @@ use Rattle.cells.specs.Grid.{cells}
 use Rattle.cutting.specs.Cutting.{Cutting, blocks, blockExtents, goodCut, mostBlocks, FewBlocks}
 use Rattle.joiner.specs.Job.{Face, Closed, tray, lengthsFit, Tables, State, sameStage, countOf, fromOf, numberTrays, numbersPerBlock}
 use Rattle.joiner.specs.Declines.{talliesFit, mapStands, numberStands}
-use Rattle.joiner.proofs.Passed.{fits-at, numbered-fits}
+use Rattle.joiner.proofs.Passed.{fits-at}
 use Rattle.blocks.specs.Blocks.{Tells, sizeOf, anyExtents}
 use Rattle.blocks.specs.declared.Block.{Block}
 use Rattle.job.specs.declared.Job.{Job}
 use Rattle.job.specs.Jobs.{anyCuts, jobOf, toldOf, totalLengths, stateOf}
 use Rattle.judge.specs.declared.Entry.{Entry}
 use Rattle.judge.specs.Judge.{reachedOf, entryOf, mapStandsIn, numberStandsIn, firstRefusal, openedOf}
-use Rattle.judge.proofs.JudgeLaws.{or-first, or-then, reached-passed, FirstTests, few-of, count-few, block-sized, stands-is}
+use Rattle.judge.proofs.JudgeLaws.{or-first, or-then, reached-passed, FirstTests, few-of, count-few, block-sized, stands-is, number-of}
 use Rattle.totals.specs.Totals.{Holds, bothStand, readingsFit}
 use Rattle.totals.proofs.TotalLaws.{fewer-held}
 use Rattle.pass_strain.specs.Summing.{Whole}
@@ -35,6 +35,7 @@ use Rattle.job.proofs.JobLaws.{fits-append}
 use Rattle.stages.specs.Ticks.{tickedIn}
 use Rattle.strain_calls.specs.Calls.{strain, listsFit}
 use Rattle.strain_calls.specs.Declines.{hasCome, lentFor, totalStands, faceStands, facesStand, strainDeclines, strainRefusal}
+use Rattle.strain_calls.proofs.HeldLaws.{face-held}
 
 -- ---- the lengths
 
@@ -83,10 +84,10 @@ module _ (numbers : List ℕ) (most : ℕ) (sums : List Float) (counts : List �
 
     -- what `both_stand` requires
     pub face-some : 0 < n
-    face-some = ltb-true 0 n (and-first (ltb 0 n) (leb n most) is-number)
+    face-some = number-of n most is-number .0
 
-    pub face-held : Holds sums counts most → Holds sums counts n
-    face-held = fewer-held sums counts n most (leb-true n most (and-second (ltb 0 n) (leb n most) is-number))
+    pub face-long : Holds sums counts most → Holds sums counts n
+    face-long = fewer-held sums counts n most (number-of n most is-number .1)
 
     pub face-both : (size : ℕ) (r : Bool) → r ≡ bothStand size sums counts n → r ≡ faceIn numbers most size sums counts x
     unfolding faceIn
@@ -102,9 +103,7 @@ module _ (j : Job) (e : Triple) (d : Entry) (numbers : List ℕ) (sums : List Fl
 
   -- what `faces_stand` requires
   pub stand-held : not t ≡ false → Holds sums counts (j .«face_entries») → Holds sums counts (j .«numbered_faces»)
-  stand-held q H =
-      let fit : talliesFit (jobOf j [] [] []) ≡ true = sym (h [] [] []) ∙ not-false t q in
-      fewer-held sums counts (j .«numbered_faces») (j .«face_entries») (numbered-fits (jobOf j [] [] []) fit Face) H
+  stand-held q = face-held (jobOf j [] [] []) sums counts (j .«numbered_faces») (sym (h [] [] []) ∙ not-false t q) (omega arith)
 
   module _ (q : not t ≡ false) (u : Bool) (i : u ≡ mapStandsIn e d (j .«face_entries») (j .«curve_entries») m) where
     pub stand-map : not u ≡ true → Stands false

@@ -10,12 +10,12 @@ use job::row_tray;
 use job::tallies_fit;
 use job::total_trays;
 use judge::Entry;
-use judge::at;
 use judge::entry_of;
 use judge::map_fits;
 use judge::map_stands;
 use judge::number_stands;
 use judge::reached;
+use lists::read_or_zero;
 use refusals::BAD_READING;
 use refusals::STRAY_LABEL;
 use refusals::WRONG_TRAY;
@@ -94,7 +94,7 @@ fn face_stands(
     if !number_stands(numbers, most, place) {
         return false;
     }
-    both_stand(cells, sums, counts, at(numbers, place))
+    both_stand(cells, sums, counts, read_or_zero(numbers, place))
 }
 
 // .. of each of the block's faces.

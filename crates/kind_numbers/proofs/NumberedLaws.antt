@@ -7,11 +7,10 @@ use native.Mathlib.Nat.{le-refl, mul-le-mul, mul-le-mul-right}
 use native.Mathlib.Omega.{arith}
 use lib.ListN.{getD, length, take}
 use Rattle.lists.specs.Lists.{tabulate, overlay}
-use Rattle.lists.proofs.Overlay.{length-overlay}
+use Rattle.lists.proofs.Overlay.{length-overlay, overlay-front}
 use Rattle.joiner.specs.Job.{Kind, Face, Curve, width, Tables, State}
 use Rattle.joiner.specs.Entries.{classOf, headOf, rowFinal, NumberedKind}
 use Rattle.joiner.proofs.Crossings.{heads-most}
-use Rattle.theory_model.proofs.Numbers.{overlay-front}
 use Rattle.ranking.specs.Ranking.{anyKind, Ranked}
 use Rattle.closed_tables.specs.Closings.{positionAt, entryAt, curveRow}
 use Rattle.closed_tables.proofs.ClosedLaws.{closed-firsts-front, closed-copied, closed-curves, closed-front}

@@ -1,7 +1,7 @@
 -- The ways of the labeller's functions, over plain lists and numbers.
 -- Assumes nothing.
 use mathlib.Core.Path.{_≡_, refl, sym, ap, _∙_}
-use mathlib.Core.Bool.{Bool, true, false, cond, _&&_}
+use mathlib.Core.Bool.{false, cond, _&&_}
 use mathlib.Core.List.{List, [], _∷_}
 use Prim.Native.Nat.{ℕ}
 use native.Mathlib.Omega.{arith}
@@ -30,14 +30,6 @@ pub refusal-is : (e : Triple) (codes : List ℕ) (n m : ℕ)
     → refusalOf e codes n m ≡ cond (offSize 64 e) 1 (cond (wrongTray e (length codes) n m) 6 (cond (blank codes) 7 0))
 unfolding refusalOf givenBy first table number standsIn declines
 refusal-is e codes n m = refl
-
--- t is the value of the code's test, b the test of the definition
-module _ {A : Type 0} (t b : Bool) (r x y : A) where
-  pub cond-here : t ≡ b → t ≡ true → r ≡ x → r ≡ cond b x y
-  cond-here e p q = rw (sym e ∙ p) q
-
-  pub cond-next : t ≡ b → t ≡ false → r ≡ y → r ≡ cond b x y
-  cond-next e p q = rw (sym e ∙ p) q
 
 -- what is right where nothing is refused
 pub ready-of : (e : Triple) (codes : List ℕ) (n m : ℕ) → refusalOf e codes n m ≡ 0 → Ready e (length codes) n m

@@ -2,7 +2,7 @@
 -- Assumes nothing.
 use mathlib.Core.Path.{_≡_, refl, subst}
 use mathlib.Core.Logic.{_⊎_, inl, inr}
-use mathlib.Core.List.{List, [], _∷_, List·Memᴰ, List·Memᴰ·head, List·Memᴰ·not-nil, List·Memᴰ·cases-cons}
+use mathlib.Core.List.{List, [], _∷_, List·Memᴰ, List·Memᴰ·not-nil, List·Memᴰ·cases-cons}
 use Prim.Native.Nat.{ℕ, suc, _≤_, _<_}
 use native.Mathlib.Omega.{arith}
 use lib.Dec.{eqb}
@@ -10,6 +10,7 @@ use lib.ListN.{getD}
 use borrow.Author.Tests.{eqb-true, eq-eqb}
 use Rattle.lists.specs.Lists.{consecutive}
 use Rattle.lists.proofs.Lists.{keep-in, keep-out, consecutive-in, consecutive-out, Ascends, ascends-consecutive, ascends-keep, ascends-le}
+use Rattle.lists.proofs.Tests.{first-in}
 use Rattle.cells.specs.Box.{Triple}
 use Rattle.cells.specs.Grid.{cells, order}
 use Rattle.labels.specs.Components.{ofOrder, component, firstCell}
@@ -24,11 +25,6 @@ of-order-out e j {p} m =
     let r = keep-out (λ q. eqb (order e q) j) (consecutive 0 (cells e)) m in
     let b = consecutive-out 0 (cells e) (r .0) in
     (omega arith, eqb-true (order e p) j (r .1))
-
--- the first entry of a list that has one
-first-mem : (l : List ℕ) {x : ℕ} → List·Memᴰ x l → List·Memᴰ (getD l 0 0) l
-first-mem [] m = absurd (List·Memᴰ·not-nil m)
-first-mem (y ∷ l) m = List·Memᴰ·head refl
 
 pub component-in : (e : Triple) (m : List ℕ) {p : ℕ} → p < cells e → List·Memᴰ p (component e m (order e p) (getD m p 0))
 unfolding component
@@ -49,7 +45,7 @@ component-out e m j n {p} h =
 
 first-belongs : (e : Triple) (m : List ℕ) {p : ℕ} → p < cells e → Belongs e m (order e p) (getD m p 0) (firstCell e m (order e p) (getD m p 0))
 unfolding firstCell
-first-belongs e m {p} h = component-out e m (order e p) (getD m p 0) (first-mem (component e m (order e p) (getD m p 0)) (component-in e m h))
+first-belongs e m {p} h = component-out e m (order e p) (getD m p 0) (first-in (component e m (order e p) (getD m p 0)) (component-in e m h))
 
 -- no entry of an ascending list is less than its first
 pub ascends-first : (b : ℕ) (l : List ℕ) {x : ℕ} → Ascends b l → List·Memᴰ x l → getD l 0 0 ≤ x

@@ -177,7 +177,7 @@ pub joined-path : (e : Triple) (m : List ℕ) (j : ℕ) {p q : ℕ} → order e 
 joined-path e m j o here = stay
 joined-path e m j {p} o (step k a s t) = via (meet-path e m j o k a s) (joined-path e m j (sym (meet-order e k) ∙ o) t)
 
-joined-then : (e : Triple) (m : List ℕ) {p q r : ℕ} → Joined e m p q → Joined e m q r → Joined e m p r
+pub joined-then : (e : Triple) (m : List ℕ) {p q r : ℕ} → Joined e m p q → Joined e m q r → Joined e m p r
 joined-then e m here k = k
 joined-then e m (step h a s t) k = step h a s (joined-then e m t k)
 

@@ -1,6 +1,6 @@
 -- The cells that the two blocks of a seam share are those of its layer.
 -- Assumes nothing.
-use mathlib.Core.Bool.{Bool, _||_, cond, true, true≢false}
+use mathlib.Core.Bool.{Bool, cond, true}
 use mathlib.Core.List.{List, List·Memᴰ, List·Memᴰ·append-cases, List·Memᴰ·cases-cons, List·Memᴰ·head, List·Memᴰ·not-nil, List·Memᴰ·tail, Memᴰ·append-left, Memᴰ·append-right, Memᴰ·map, Memᴰ·of-map, [], _∷_, map}
 use mathlib.Core.Logic.{_⊎_, inl, inr}
 use mathlib.Core.Path.{_∙_, _≡_, ap, ap₂, refl, subst, sym}
@@ -14,8 +14,8 @@ use Rattle.cells.specs.Grid.{cells, sides}
 use Rattle.cutting.specs.Cutting.{Cutting, blockExtents, blockSides, blocks, cuts, embed, goodCut, highEnd, interval, intervals, lowEnd, origin, seam}
 use Rattle.joiner.specs.Stages.{seamAxis, shared}
 use Rattle.layers.specs.Layers.{across, axisOf, cellPair, columnsOf, firstAcross, lastAt, layerPairs, pairsIn, rowPairs, rowsOf}
-use Rattle.lists.proofs.Cases.{by-test, or-left, or-right}
 use Rattle.lists.proofs.Lists.{consecutive-in, consecutive-out}
+use Rattle.lists.proofs.Tests.{some-same}
 use Rattle.cells.proofs.BoxLaws.{Inside, index-inside, index-place, place-index, place-inside, same-triple}
 use Rattle.cells.proofs.GridLaws.{side-on}
 use Rattle.cutting.proofs.CutLaws.{block-sides-on, cut-on, embed-at, extent-on, interval-is, its-interval, origin-on, shiftInto, shift-inside, shift-on}
@@ -64,27 +64,6 @@ module _ (e f : Triple) (a : Axis) where
   layer-out m =
       let r = pairs-out e f a (rowsOf (sides e) a) (consecutive 0 (rowsOf (sides e) a)) (λ v i. omega (arith, consecutive-out 0 (rowsOf (sides e) a) i)) m in
       record { u = r .0; v = r .1; column = r .2; row = r .3; is = r .4 }
-
--- two lists with the same members pass the same tests
-some-true : {A : Type 0} (f : A → Bool) (l : List A) {d : A} → List·Memᴰ d l → f d ≡ true → someOf f l ≡ true
-some-true f [] m t = absurd (List·Memᴰ·not-nil m)
-some-true {A} f (x ∷ l) {d} m t = go (List·Memᴰ·cases-cons m) (λ k. some-true f l k t)
-  where
-    go : (d ≡ x) ⊎ List·Memᴰ d l → (List·Memᴰ d l → someOf f l ≡ true) → (f x || someOf f l) ≡ true
-    go (inl e) ih = or-left (f x) (someOf f l) (ap f (sym e) ∙ t)
-    go (inr k) ih = or-right (f x) (someOf f l) (ih k)
-
-some-where : {A : Type 0} (f : A → Bool) (l : List A) → someOf f l ≡ true → (d : A) × List·Memᴰ d l × (f d ≡ true)
-some-where f [] t = absurd (true≢false (sym t))
-some-where f (x ∷ l) t =
-    by-test (f x) (λ q. (x, List·Memᴰ·head refl, q))
-    (λ q. let r = some-where f l (rw q at t) in (r .0, List·Memᴰ·tail (r .1), r .2))
-
-some-same : {A : Type 0} (f : A → Bool) (l m : List A) → ((d : A) → List·Memᴰ d l → List·Memᴰ d m) → ((d : A) → List·Memᴰ d m → List·Memᴰ d l) → someOf f l ≡ someOf f m
-some-same f l m g h =
-    by-test (someOf f l)
-    (λ t. let r = some-where f l t in t ∙ sym (some-true f m (g (r .0) (r .1)) (r .2)))
-    (λ t. by-test (someOf f m) (λ u. let r = some-where f m u in absurd (true≢false (sym (some-true f l (h (r .0) (r .1)) (r .2)) ∙ t))) (λ u. t ∙ sym u))
 
 -- ---- the two blocks of a seam
 
@@ -178,7 +157,7 @@ module _ (k : Cutting) (good : goodCut k ≡ true) (b c : ℕ) (a : Axis) (F : F
 
 -- ---- places across an axis
 
-inside-last : (a : Axis) (s : Triple) (u v : ℕ) → 0 < coord s a → u < columnsOf s a → v < rowsOf s a → Inside s (across a (coord s a - 1) u v)
+pub inside-last : (a : Axis) (s : Triple) (u v : ℕ) → 0 < coord s a → u < columnsOf s a → v < rowsOf s a → Inside s (across a (coord s a - 1) u v)
 inside-last X s u v h hu hv = elim [ X ↦ omega arith | Y ↦ hu | Z ↦ hv ]
 inside-last Y s u v h hu hv = elim [ X ↦ hu | Y ↦ omega arith | Z ↦ hv ]
 inside-last Z s u v h hu hv = elim [ X ↦ hu | Y ↦ hv | Z ↦ omega arith ]

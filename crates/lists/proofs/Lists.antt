@@ -9,7 +9,7 @@ use native.Mathlib.Nat.{le-refl, suc-add, add-suc, add-zero, zero-add}
 use native.Mathlib.Numerals.{add-one}
 use native.Mathlib.Omega.{arith}
 use lib.Dec.{eqb}
-use lib.ListN.{length, getD, set, drop, length-replicate, length-map, drop-of-length-le, List·getD-append, List·getD-map}
+use lib.ListN.{length, getD, set, drop, length-replicate, length-map, drop-of-length-le, List·getD-append, List·getD-map, List·getD-eq-default}
 use lib.Seq.{set-at, drop-cons, getD-append-add, getD-drop}
 use borrow.Author.Tests.{eqb-true, eqb-false}
 use Rattle.lists.specs.Lists.{consecutive, tabulate, keep, zeros}
@@ -175,6 +175,13 @@ getD-in [] k h = absurd (omega arith)
 getD-in (x ∷ l) zero h = List·Memᴰ·head refl
 getD-in (x ∷ l) (suc k) h = List·Memᴰ·tail (getD-in l k (omega arith))
 
+pub pair-same : {a b c d : ℕ} → a ≡ c → b ≡ d → a ∷ b ∷ [] ≡ c ∷ d ∷ []
+pair-same p q = rw (p, q)
+
+-- past the end
+pub past : (l : List ℕ) (i : ℕ) → length l ≤ i → 0 ≡ getD l i 0
+past l i h = sym (List·getD-eq-default l 0 {n = i} h)
+
 -- what is left from i - 1 on, where a loop has come down to i
 pub drop-down : (a : List ℕ) (i : ℕ) → 0 < i → i ≤ length a → drop (i - 1) a ≡ getD a (i - 1) 0 ∷ drop i a
 drop-down a i p q =
@@ -212,3 +219,10 @@ ascends-le b (y ∷ l) {x} s m = go (List·Memᴰ·cases-cons m) (λ k. ascends-
     go : (x ≡ y) ⊎ List·Memᴰ x l → (List·Memᴰ x l → suc y ≤ x) → b ≤ x
     go (inl e) ih = omega (arith, s .0)
     go (inr k) ih = omega (arith, s .0, ih k)
+
+-- entries by place
+pub ascends-at : (b : ℕ) (l : List ℕ) → Ascends b l → (i j : ℕ) → i < j → j < length l → getD l i 0 < getD l j 0
+ascends-at b [] a i j h k = absurd (omega arith)
+ascends-at b (x ∷ l) a i zero h k = absurd (omega arith)
+ascends-at b (x ∷ l) a zero (suc j) h k = ascends-le (suc x) l (a .1) (getD-in l j (omega arith))
+ascends-at b (x ∷ l) a (suc i) (suc j) h k = ascends-at (suc x) l (a .1) i j (omega arith) (omega arith)

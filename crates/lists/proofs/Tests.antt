@@ -3,15 +3,15 @@
 use mathlib.Core.Path.{_≡_, refl, sym, ap, _∙_}
 use mathlib.Core.Bool.{Bool, true, false, not, _&&_, _||_, true≢false}
 use mathlib.Core.Logic.{_⊎_, inl, inr}
-use mathlib.Core.List.{List, [], _∷_, List·Memᴰ, List·Memᴰ·head, List·Memᴰ·tail, List·Memᴰ·not-nil, List·Memᴰ·cases-cons}
-use Prim.Native.Nat.{ℕ, _+_, _≤_, _<_}
+use mathlib.Core.List.{List, [], _∷_, _++_, List·Memᴰ, List·Memᴰ·head, List·Memᴰ·tail, List·Memᴰ·not-nil, List·Memᴰ·cases-cons}
+use Prim.Native.Nat.{ℕ, suc, _+_, _-_, _≤_, _<_}
 use native.Mathlib.Omega.{arith}
 use lib.Dec.{eqb}
 use lib.ListN.{getD}
 use borrow.Author.Tests.{eqb-true, eqb-false, eq-eqb, not-true, not-false}
 use Rattle.lists.specs.Lists.{consecutive, keep, allOf, someOf, isIn}
 use Rattle.lists.proofs.Lists.{consecutive-in, consecutive-out}
-use Rattle.lists.proofs.Cases.{by-test, and-first, and-second, and-both, neither}
+use Rattle.lists.proofs.Cases.{by-test, and-first, and-second, and-both, neither, or-left, or-right}
 
 module _ {A : Type 0} where
   pub all-in : (f : A → Bool) (l : List A) → ((x : A) → List·Memᴰ x l → f x ≡ true) → allOf f l ≡ true
@@ -37,6 +37,61 @@ module _ {A : Type 0} where
       go : (d ≡ x) ⊎ List·Memᴰ d l → (List·Memᴰ d l → f d ≡ false) → f d ≡ false
       go (inl q) ih = ap f q ∙ neither (f x) (someOf f l) e .0
       go (inr k) ih = ih k
+
+  pub none-some : (f : A → Bool) (l : List A) → ((x : A) → List·Memᴰ x l → f x ≡ false) → someOf f l ≡ false
+  none-some f [] h = refl
+  none-some f (x ∷ l) h = rw (h x (List·Memᴰ·head refl)) (none-some f l (λ y m. h y (List·Memᴰ·tail m)))
+
+  pub none-all : (f : A → Bool) (l : List A) → allOf (λ x. not (f x)) l ≡ not (someOf f l)
+  none-all f [] = refl
+  none-all f (x ∷ l) = by-test (f x) (λ t. rw t) (λ t. rw t (none-all f l))
+
+  some-true : (f : A → Bool) (l : List A) {d : A} → List·Memᴰ d l → f d ≡ true → someOf f l ≡ true
+  some-true f [] m t = absurd (List·Memᴰ·not-nil m)
+  some-true f (x ∷ l) {d} m t = go (List·Memᴰ·cases-cons m) (λ k. some-true f l k t)
+    where
+      go : (d ≡ x) ⊎ List·Memᴰ d l → (List·Memᴰ d l → someOf f l ≡ true) → (f x || someOf f l) ≡ true
+      go (inl e) ih = or-left (f x) (someOf f l) (ap f (sym e) ∙ t)
+      go (inr k) ih = or-right (f x) (someOf f l) (ih k)
+
+  some-where : (f : A → Bool) (l : List A) → someOf f l ≡ true → (d : A) × List·Memᴰ d l × (f d ≡ true)
+  some-where f [] t = absurd (true≢false (sym t))
+  some-where f (x ∷ l) t =
+      by-test (f x) (λ q. (x, List·Memᴰ·head refl, q))
+      (λ q. let r = some-where f l (rw q at t) in (r .0, List·Memᴰ·tail (r .1), r .2))
+
+  -- two lists with the same members pass the same tests
+  pub some-same : (f : A → Bool) (l m : List A) → ((d : A) → List·Memᴰ d l → List·Memᴰ d m) → ((d : A) → List·Memᴰ d m → List·Memᴰ d l) → someOf f l ≡ someOf f m
+  some-same f l m g h =
+      by-test (someOf f l)
+      (λ t. let r = some-where f l t in t ∙ sym (some-true f m (g (r .0) (r .1)) (r .2)))
+      (λ t. by-test (someOf f m) (λ u. let r = some-where f m u in absurd (true≢false (sym (some-true f l (h (r .0) (r .1)) (r .2)) ∙ t))) (λ u. t ∙ sym u))
+
+  pub some-append : (f : A → Bool) (l k : List A) → someOf f (l ++ k) ≡ (someOf f l || someOf f k)
+  some-append f [] k = refl
+  some-append f (x ∷ l) k = by-test (f x) (λ t. rw t) (λ t. rw t (some-append f l k))
+
+  -- a loop over a list: b is what the whole list answers, and k what is left of it
+  module _ (f : A → Bool) {b : Bool} {k : List A} (e : b ≡ someOf f k) where
+    pub some-here : {m : List A} {x : A} → k ≡ x ∷ m → f x ≡ true → true ≡ b
+    some-here s t = sym (e ∙ rw (s, t))
+
+    pub some-next : {m : List A} {x : A} → k ≡ x ∷ m → f x ≡ false → b ≡ someOf f m
+    some-next s t = e ∙ rw (s, t)
+
+    pub some-end : k ≡ [] → false ≡ b
+    some-end s = sym (e ∙ rw s)
+
+  -- .. and where the next entries are those of a list
+  module _ (f : A → Bool) {b : Bool} {k : List A} (l m : List A) (e : b ≡ someOf f k) (s : k ≡ l ++ m) where
+    some-split : b ≡ (someOf f l || someOf f m)
+    some-split = e ∙ rw s (some-append f l m)
+
+    pub some-part : true ≡ someOf f l → true ≡ b
+    some-part t = sym (some-split ∙ rw (sym t))
+
+    pub some-rest : false ≡ someOf f l → b ≡ someOf f m
+    some-rest t = some-split ∙ rw (sym t)
 
   pub keep-all : (f : A → Bool) (l : List A) → ((y : A) → List·Memᴰ y l → f y ≡ true) → keep f l ≡ l
   keep-all f [] h = refl
@@ -78,6 +133,28 @@ implied false u e f = absurd (true≢false (sym f))
 pub implies : (s u : Bool) → (s ≡ true → u ≡ true) → (not s || u) ≡ true
 implies true u h = h refl
 implies false u h = refl
+
+-- ---- loops that ask the same of k numbers from x on
+
+-- The test goes on where x passes, it fails where x does not, and it passes where all from x on do, or none is left.
+module _ (f : ℕ → Bool) (x k : ℕ) where
+  pub test-same : (y j : ℕ) → x ≡ y → k ≡ j → allOf f (consecutive x k) ≡ allOf f (consecutive y j)
+  test-same y j e d = rw (e, d)
+
+  pub test-passed : (y j : ℕ) → k ≡ suc j → y ≡ suc x → f x ≡ true → allOf f (consecutive y j) ≡ allOf f (consecutive x k)
+  unfolding consecutive
+  test-passed y j e d t = rw (e, d, t)
+
+  pub test-failed : 0 < k → f x ≡ false → false ≡ allOf f (consecutive x k)
+  unfolding consecutive
+  test-failed h t = let e : k ≡ suc (k - 1) = omega arith in rw (e, t)
+
+  pub test-rest : ((y : ℕ) → x ≤ y → f y ≡ true) → true ≡ allOf f (consecutive x k)
+  test-rest h = sym (all-in f (consecutive x k) (λ y m. h y (consecutive-out x k m .0)))
+
+  pub test-none : k ≡ 0 → true ≡ allOf f (consecutive x k)
+  unfolding consecutive
+  test-none e = rw e
 
 -- ---- loops that ask the same of each of the first places
 

@@ -4,9 +4,8 @@ use step_cross::crossing;
 ghost use mathlib.Core.List.{[]};
 ghost use Rattle.joiner.specs.Calls.{cross, answer};
 ghost use Rattle.joiner.specs.Entries.{CallStep};
-ghost use Rattle.job.specs.Jobs.{stateOf};
+ghost use Rattle.job.specs.Jobs.{stateOf, anyTables};
 ghost use Rattle.job.specs.Lent.{crossLent};
-ghost use Rattle.exports.specs.Exports.{anyTables};
 
 impl Joining {
     // Joins the curves of a block at its point cells; the last one numbers faces and curves.

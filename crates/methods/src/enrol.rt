@@ -4,9 +4,8 @@ use step_enrol::enrol;
 ghost use mathlib.Core.List.{[]};
 ghost use Rattle.joiner.specs.Calls.{enrol, answer};
 ghost use Rattle.joiner.specs.Entries.{CallStep};
-ghost use Rattle.job.specs.Jobs.{stateOf};
+ghost use Rattle.job.specs.Jobs.{stateOf, anyTables};
 ghost use Rattle.job.specs.Lent.{enrolLent};
-ghost use Rattle.exports.specs.Exports.{anyTables};
 
 impl Joining {
     // Enrols a block with its map.

@@ -5,9 +5,8 @@ ghost use mathlib.Core.List.{[]};
 ghost use Rattle.cells.specs.Box.{triple};
 ghost use Rattle.joiner.specs.Calls.{look, answer};
 ghost use Rattle.joiner.specs.Entries.{CallStep};
-ghost use Rattle.job.specs.Jobs.{stateOf};
+ghost use Rattle.job.specs.Jobs.{stateOf, anyTables};
 ghost use Rattle.job.specs.Lent.{lookLent};
-ghost use Rattle.exports.specs.Exports.{anyTables};
 
 impl Joining {
     // The number of a cell of a closed job.

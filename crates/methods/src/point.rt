@@ -4,9 +4,8 @@ use step_point::point;
 ghost use mathlib.Core.List.{[]};
 ghost use Rattle.joiner.specs.Calls.{point, answer};
 ghost use Rattle.joiner.specs.Entries.{CallStep};
-ghost use Rattle.job.specs.Jobs.{stateOf};
+ghost use Rattle.job.specs.Jobs.{stateOf, anyTables};
 ghost use Rattle.job.specs.Lent.{pointLent};
-ghost use Rattle.exports.specs.Exports.{anyTables};
 
 impl Joining {
     // Finds the points of a block; the last one numbers them and closes the job.

@@ -3,9 +3,8 @@ use reading_row::Kind;
 use reading_row::row;
 ghost use Rattle.joiner.specs.Calls.{reading, answer};
 ghost use Rattle.joiner.specs.Entries.{CallStep};
-ghost use Rattle.job.specs.Jobs.{stateOf, anyCuts};
+ghost use Rattle.job.specs.Jobs.{stateOf, anyCuts, anyTables};
 ghost use Rattle.job.specs.Lent.{rowLent};
-ghost use Rattle.exports.specs.Exports.{anyTables};
 ghost use Rattle.reading_row.specs.Inner.{kindOf};
 
 impl Joining {

@@ -4,9 +4,8 @@ use step_seam::seam;
 ghost use mathlib.Core.List.{[]};
 ghost use Rattle.joiner.specs.Calls.{join, answer};
 ghost use Rattle.joiner.specs.Entries.{CallStep};
-ghost use Rattle.job.specs.Jobs.{stateOf};
+ghost use Rattle.job.specs.Jobs.{stateOf, anyTables};
 ghost use Rattle.job.specs.Lent.{seamLent};
-ghost use Rattle.exports.specs.Exports.{anyTables};
 
 impl Joining {
     // Joins two blocks at their seam.

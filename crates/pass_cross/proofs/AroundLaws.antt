@@ -12,14 +12,14 @@ use Rattle.lists.proofs.Cases.{by-test}
 use Rattle.union_find.specs.Links.{root}
 use Rattle.cells.specs.Box.{Triple}
 use Rattle.cells.specs.Grid.{cells, order, upperNeighbours}
-use Rattle.cells.specs.Row.{padTo}
+use Rattle.cells.specs.Row.{padTo, numbersAt}
 use Rattle.cells.proofs.GridLaws.{upper-neighbour}
 use Rattle.labels.specs.Components.{largest}
 use Rattle.labels.proofs.CountLaws.{largest-bound}
 use Rattle.lines.specs.Lines.{odds, around}
 use Rattle.lines.proofs.LineLaws.{up-around, flank-at, strided-two, strided-three, Reads, reads}
 use Rattle.pass_cross.specs.Crossings.{Room}
-use Rattle.pass_cross.specs.Inner.{Read, numbersAt, stridesOf, rowsAlong, cellRow, cellRows, padRows, Readable, Near, Beside, Meeting}
+use Rattle.pass_cross.specs.Inner.{Read, stridesOf, rowsAlong, cellRow, cellRows, padRows, Readable, Near, Beside, Meeting}
 use Rattle.pass_cross.proofs.ReadLaws.{kept-roots, kept-then}
 
 -- The number of an upper neighbour has a place.
@@ -99,12 +99,12 @@ module _ (e : Triple) (m : List ℕ) (n t a w b : ℕ) (M : Meeting e m n t a w 
   -- The numbers in six places.
   module _ (us vs : List ℕ) (x : us ≡ getD m (t - a) 0 ∷ getD m (t + a) 0 ∷ []) (y : vs ≡ getD m (t - b) 0 ∷ getD m (t + b) 0 ∷ []) where
     pub numbers-two : n ≡ 2 → getD us 0 0 ∷ getD us 1 0 ∷ getD vs 0 0 ∷ getD vs 1 0 ∷ 0 ∷ 0 ∷ [] ≡ padTo 6 (numbersAt m (upperNeighbours e t))
-    unfolding numbersAt around
+    unfolding around
     numbers-two k = rw (up-around e t, two-odd k, x, y)
 
     pub numbers-three : (ws : List ℕ) → ¬ (n ≡ 2) → ws ≡ getD m (t - w) 0 ∷ getD m (t + w) 0 ∷ []
         → getD us 0 0 ∷ getD us 1 0 ∷ getD ws 0 0 ∷ getD ws 1 0 ∷ getD vs 0 0 ∷ getD vs 1 0 ∷ [] ≡ padTo 6 (numbersAt m (upperNeighbours e t))
-    unfolding numbersAt around
+    unfolding around
     numbers-three ws k z = rw (up-around e t, three-odd k, x, y, z)
 
   -- The rows along each axis can be read.

@@ -10,13 +10,13 @@ use Rattle.union_find.specs.Links.{root, Rooted}
 use Rattle.union_find.proofs.LinkLaws.{Left, left-all, left-fewer, left-none, rooted-refl}
 use Rattle.cells.specs.Box.{Triple, Y, Z, stride}
 use Rattle.cells.specs.Grid.{sides, cells, order, upperNeighbours}
-use Rattle.cells.specs.Row.{padTo}
+use Rattle.cells.specs.Row.{padTo, numbersAt}
 use Rattle.cells.proofs.GridLaws.{length-up}
 use Rattle.lines.specs.Lines.{lineCount, StridedAt}
 use Rattle.lines.specs.declared.StridedLine.{StridedLine}
 use Rattle.lines.proofs.WalkLaws.{Walking, walk-inside, walk-order, walk-strided}
 use Rattle.pass_cross.specs.Crossings.{crossAt, Room, Trays, Crossed}
-use Rattle.pass_cross.specs.Inner.{Read, numbersAt, cellRows, padRows, countActive, edgesAmong, CellTrays}
+use Rattle.pass_cross.specs.Inner.{Read, cellRows, padRows, countActive, edgesAmong, CellTrays}
 use Rattle.pass_cross.proofs.ReadLaws.{kept-roots, kept-then}
 use Rattle.pass_cross.proofs.AroundLaws.{number-in}
 use Rattle.pass_cross.proofs.EdgeLaws.{few-idle, among-cells}
@@ -26,7 +26,6 @@ use Rattle.pass_cross.proofs.EdgeLaws.{few-idle, among-cells}
 -- the numbers in six places, 0 among them, have places
 pad-in : (m : List ℕ) (from size n : ℕ) (us : List ℕ) → from ≤ size → ((q : ℕ) → List·Memᴰ q us → from + getD m q 0 ≤ size) → (k : ℕ)
     → from + getD (padTo n (numbersAt m us)) k 0 ≤ size
-unfolding numbersAt
 pad-in m from size zero us h w k = omega arith
 pad-in m from size (suc n) [] h w zero = omega arith
 pad-in m from size (suc n) [] h w (suc k) = pad-in m from size n [] h w k

@@ -15,11 +15,11 @@ use Rattle.closure.specs.Joined.{Edge, edge, joins}
 use Rattle.union_find.specs.Links.{root, united, Rooted}
 use Rattle.union_find.proofs.LinkLaws.{Left, left-all, left-fewer, left-united, left-none}
 use Rattle.cells.specs.Box.{Triple}
-use Rattle.cells.specs.Row.{sameRow, padTo}
+use Rattle.cells.specs.Row.{sameRow, padTo, numbersAt}
 use Rattle.labels.specs.Number.{pairs}
 use Rattle.pass_cross.specs.Crossings.{placeOf, edgeIf, crossPair}
 use Rattle.pass_cross.proofs.FlatLaws.{flat-append}
-use Rattle.pass_cross.specs.Inner.{numbersAt, activeRow, cellRow, cellRows, padRows, countActive, edgesTo, edgesAmong}
+use Rattle.pass_cross.specs.Inner.{activeRow, cellRow, cellRows, padRows, countActive, edgesTo, edgesAmong}
 
 -- ---- two numbers
 
@@ -115,7 +115,7 @@ module _ (e : Triple) (m : List ℕ) (f : ℕ → ℕ) (start from : ℕ) where
 
   to-cells : (n p : ℕ) (us : List ℕ) → length us ≤ n
       → edgesTo from (getD m p 0) (cellRow e m f start p) (padTo n (numbersAt m us)) (padRows n (cellRows e m f start us)) ≡ flatMap (crossPair e m f start from) (map (edge p) us)
-  unfolding edgesTo numbersAt cellRows flatMap
+  unfolding edgesTo cellRows flatMap
   to-cells n p [] h = to-idle from (getD m p 0) (cellRow e m f start p) (padTo n []) (padRows n []) (pad-idle n)
   to-cells zero p (q ∷ us) h = absurd (omega arith)
   to-cells (suc n) p (q ∷ us) h = rw (if-cells p q, to-cells n p us (omega arith))
@@ -123,7 +123,7 @@ module _ (e : Triple) (m : List ℕ) (f : ℕ → ℕ) (start from : ℕ) where
   -- Numbers and rows in six places have the edges between the cells.
   pub among-cells : (n : ℕ) (us : List ℕ) → length us ≤ n
       → edgesAmong from (padTo n (numbersAt m us)) (padRows n (cellRows e m f start us)) ≡ flatMap (crossPair e m f start from) (pairs us)
-  unfolding edgesAmong numbersAt cellRows flatMap pairs
+  unfolding edgesAmong cellRows flatMap pairs
   among-cells n [] h = few-idle from (padTo n []) (padRows n []) (omega (arith, pad-idle n))
   among-cells zero (p ∷ us) h = absurd (omega arith)
   among-cells (suc n) (p ∷ us) h = rw (to-cells n p us (omega arith), among-cells n us (omega arith)) (sym (flat-append (crossPair e m f start from) (map (edge p) us) (pairs us)))

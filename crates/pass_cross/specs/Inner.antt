@@ -20,10 +20,6 @@ pub record Read {A : Type 0} (above above′ : List ℕ) (x v : A) : Type 0 wher
   pub is : x ≡ v
   pub kept : Rooted above above′ (root above)
 
--- The numbers at the cells qs.
-unfoldable pub numbersAt : List ℕ → List ℕ → List ℕ
-numbersAt m qs = map (λ q. getD m q 0) qs
-
 -- The strides of the odd axes of a curve cell, or of a face cell.
 unfoldable pub stridesOf : Bool → ℕ → ℕ → List ℕ
 stridesOf curve a b = cond curve (a ∷ b ∷ []) (a ∷ [])

@@ -4,15 +4,14 @@ use mathlib.Core.Path.{_≡_, refl, sym, ap, ap₂, _∙_}
 use mathlib.Core.Bool.{true, cond}
 use mathlib.Core.Logic.{_≢_}
 use mathlib.Core.List.{List, [], _∷_, _++_, List·Memᴰ, List·Memᴰ·head, List·Memᴰ·tail}
-use Prim.Native.Nat.{ℕ, zero, suc, _+_, _-_, _*_, _%_, _≤_, _<_}
+use Prim.Native.Nat.{ℕ, suc, _+_, _-_, _*_, _%_, _≤_, _<_}
 use native.Mathlib.Omega.{arith}
 use lib.Dec.{eqb}
 use lib.ListN.{getD, length, set}
-use lib.Seq.{set-set, set-comm}
 use borrow.Author.Tests.{eqb-true, eqb-false, eq-eqb, ne-eqb}
 use Rattle.lists.specs.Lists.{keep, overlay}
 use Rattle.lists.proofs.Cases.{by-test, picked}
-use Rattle.lists.proofs.Overlay.{overlay-same, overlay-at}
+use Rattle.lists.proofs.Overlay.{overlay-same, overlay-at, overlay-again}
 use Rattle.cells.specs.Box.{Triple, coord, each, index, place}
 use Rattle.cells.specs.Extents.{Sized}
 use Rattle.cells.specs.Grid.{sides, cells, order}
@@ -34,21 +33,6 @@ use Rattle.pass_survey.specs.Surveys.{onLine}
 use Rattle.pass_survey.proofs.SurveyLaws.{fromLine, from-first, from-next, from-last}
 use Rattle.pass_enrol.specs.Enrolment.{Lies, Along, positionIn, firstIn, keyIn, keyPut, keyed, Firsts}
 use Rattle.pass_enrol.proofs.PlaceLaws.{position-line, position-high}
-
--- ---- overlays
-
--- a place written again
-overlay-again : (xs : List ℕ) (from : ℕ) (f : ℕ → ℕ) (v n k : ℕ) → k < n → set (overlay xs from f n) (from + k) v ≡ overlay xs from (λ i. cond (eqb i k) v (f i)) n
-unfolding overlay
-overlay-again xs from f v zero k h = absurd (omega arith)
-overlay-again xs from f v (suc n) k h =
-    by-test (eqb n k)
-    (λ t.
-    let e : n ≡ k = eqb-true n k t in
-    rw (t, ← e) (set-set (overlay xs from f n) (from + n) (f n) v ∙ ap (λ (l : List ℕ). set l (from + n) v) (overlay-same xs from f (λ i. cond (eqb i n) v (f i)) n (λ i l. let d : i ≢ n = λ q. omega arith in rw (ne-eqb i n d)))))
-    (λ t.
-    let d : n ≢ k = eqb-false n k t in
-    rw t (set-comm (overlay xs from f n) (from + n) (from + k) (f n) v (λ q. d (omega arith)) ∙ ap (λ (l : List ℕ). set l (from + n) (f n)) (overlay-again xs from f v n k (omega arith))))
 
 -- ---- the keys of a list of cells
 

@@ -1,14 +1,14 @@
 -- The rows that stand at the first cells, found by their positions.
 -- Assumes nothing.
-use mathlib.Core.Path.{_≡_, refl, sym, ap, ap₂, _∙_}
+use mathlib.Core.Path.{_≡_, refl, sym, ap, _∙_}
 use mathlib.Core.Bool.{true, _&&_}
 use mathlib.Core.Logic.{_≢_, _⊎_, inl, inr}
-use mathlib.Core.List.{List, [], _∷_, List·Memᴰ, List·Memᴰ·head}
-use Prim.Native.Nat.{ℕ, zero, suc, _+_, _-_, _*_, _/_, _%_, _≤_, _<_}
-use native.Mathlib.Nat.{zero-mod, zero-div, add-zero, add-suc, mul-le-mul-left}
+use mathlib.Core.List.{List, [], _∷_, map, List·Memᴰ, List·Memᴰ·head}
+use Prim.Native.Nat.{ℕ, suc, _+_, _-_, _*_, _/_, _%_, _≤_, _<_}
+use native.Mathlib.Nat.{zero-mod, zero-div}
 use native.Mathlib.Omega.{arith}
 use lib.Dec.{eqb, leb, ltb}
-use lib.ListN.{getD, set}
+use lib.ListN.{getD, List·getD-map}
 use borrow.Author.Tests.{eqb-true, eq-eqb, ne-eqb, le-leb, lt-ltb}
 use Rattle.lists.specs.Lists.{overlay}
 use Rattle.lists.proofs.Cases.{by-test, and-both}
@@ -24,7 +24,6 @@ use Rattle.labels.proofs.ComponentLaws.{Belongs, component-out}
 use Rattle.cutting.specs.Cutting.{Cutting}
 use Rattle.joiner.specs.Job.{Face, Curve, width}
 use Rattle.joiner.specs.Entries.{shifted, enrolledRow}
-use Rattle.joiner.proofs.Enrolling.{row-split}
 use Rattle.joiner.proofs.RowBounds.{component-row-most}
 use Rattle.blocks.specs.Blocks.{originOf, sizeOf, Tells, inOn, hasIn, localIn, shiftIn, embedIn}
 use Rattle.blocks.specs.declared.Block.{Block}
@@ -161,41 +160,10 @@ module _ {v : Triple} {r : Block} (L : Lies v r) (m : List ℕ) (j n : ℕ) (bel
     pub row-fits : (shift : ℕ) → (shift ≡ 0) ⊎ (shift + largest (sizeOf r) m (suc j) < 4294967296) → (x : List ℕ) → x ≡ rowFor v r m q → (i : ℕ) → (shift ≡ 0) ⊎ (shift + getD x i 0 < 4294967296)
     row-fits shift o x e i = rw (number-row x e) (shift-less shift (getD (componentRow (sizeOf r) m j n) i 0) (largest (sizeOf r) m (suc j)) (component-row-most (sizeOf r) m j n i) o)
 
--- ---- rows written one after the other
-
-overlay-more : (xs : List ℕ) (a n : ℕ) (g : ℕ → ℕ) (k : ℕ) → overlay (overlay xs a g n) (a + n) (λ i. g (n + i)) k ≡ overlay xs a g (n + k)
-unfolding overlay
-overlay-more xs a n g zero = rw (add-zero n)
-overlay-more xs a n g (suc k) =
-    let s : a + n + k ≡ a + (n + k) = omega arith in
-    rw (add-suc n k, s) (ap (λ (l : List ℕ). set l (a + (n + k)) (g (n + k))) (overlay-more xs a n g k))
-
-pub rows-none : (xs : List ℕ) (w from : ℕ) (f : ℕ → ℕ) → xs ≡ overlay xs (w * from) f (w * 0)
-unfolding overlay
-rows-none xs w from f = let z : w * 0 ≡ 0 = omega arith in rw z
-
-pub rows-next : (xs : List ℕ) (w from : ℕ) (f : ℕ → ℕ → ℕ) (n : ℕ) (h : ℕ → ℕ) (ys zs : List ℕ) → ys ≡ overlay xs (w * from) (λ i. f (i / w) (i % w)) (w * n) → zs ≡ overlay ys (w * (from + n)) h w
-    → ((i : ℕ) → h i ≡ f n i) → zs ≡ overlay xs (w * from) (λ i. f (i / w) (i % w)) (w * (n + 1))
-rows-next xs w from f n h ys zs e i same =
-    let g : ℕ → ℕ = λ i. f (i / w) (i % w) in
-    let s : w * (from + n) ≡ w * from + w * n = omega arith in
-    let t : w * n + w ≡ w * (n + 1) = omega arith in
-    i ∙ ap₂ (λ (l : List ℕ) (a : ℕ). overlay l a h w) e s
-    ∙ overlay-same (overlay xs (w * from) g (w * n)) (w * from + w * n) h (λ i. g (w * n + i)) w
-    (λ k l. let q = row-split w n k l in same k ∙ sym (ap₂ f (q .0) (q .1)))
-    ∙ overlay-more xs (w * from) (w * n) g w ∙ ap (overlay xs (w * from) g) t
-
-pub rows-all : (xs : List ℕ) (w from : ℕ) (f : ℕ → ℕ) (i n : ℕ) (ys : List ℕ) → i ≤ n → n ≤ i → ys ≡ overlay xs (w * from) f (w * i) → ys ≡ overlay xs (w * from) f (w * n)
-rows-all xs w from f i n ys h k e = let s : i ≡ n = omega arith in e ∙ ap (λ (x : ℕ). overlay xs (w * from) f (w * x)) s
-
--- the row of number i + 1 has room
-pub row-room : (w from count i : ℕ) → i < count → w * (from + i) + w ≤ w * (from + count)
-row-room w from count i h = let s : w * (from + i + 1) ≤ w * (from + count) = mul-le-mul-left w (omega arith) in omega arith
-
 -- place i of the row of number n + 1
-pub row-entry : (e : Triple) (shift : ℕ) (m : List ℕ) (j n : ℕ) (x : List ℕ) → x ≡ componentRow e m j (suc n) → (i : ℕ) → shiftBy shift (getD x i 0) ≡ rowIn e shift m j (suc n) i
-unfolding rowIn
-row-entry e shift m j n x q i = rw q
+pub row-entry : (e : Triple) (shift : ℕ) (m : List ℕ) (j n : ℕ) (x y : List ℕ) → x ≡ componentRow e m j (suc n) → y ≡ map (shiftBy shift) x → (i : ℕ) → getD y i 0 ≡ rowIn e shift m j (suc n) i
+unfolding rowIn shiftBy
+row-entry e shift m j n x y q s i = ap (λ (l : List ℕ). getD l i 0) s ∙ List·getD-map (shiftBy shift) x i 0 ∙ ap (λ (l : List ℕ). shiftBy shift (getD l i 0)) q
 
 -- ---- the joiner's rows
 

@@ -5,10 +5,13 @@ use blocks::local;
 use joiner::KEY_BASE;
 use lines::Line;
 use lines::line_with;
+use lists::write_front;
+use lists::write_value;
 use rows::row_at;
 ghost use mathlib.Core.Path.{_≡_};
 ghost use mathlib.Core.Bool.{true};
 ghost use mathlib.Core.Logic.{_≢_, _⊎_};
+ghost use mathlib.Core.List.{map};
 ghost use Prim.Native.Nat.{ℕ, suc, _+_, _-_, _*_, _/_, _%_, _≤_, _<_};
 ghost use lib.ListN.{length, getD};
 ghost use Rattle.lists.specs.Lists.{overlay};
@@ -23,18 +26,6 @@ ghost use Rattle.pass_survey.specs.Surveys.{onLine};
 ghost use Rattle.pass_enrol.specs.Enrolment.{Lies, Along, positionIn, keyIn, shiftBy, rowIn, keyPut, keyed, rowFor, Firsts};
 
 // ---- keys
-
-// Writes one key at each of the places.
-fn clear_keys(keys: &mut [u64], from: usize, count: usize, key: u64)
-    requires { ⌜ from + count ≤ length (now keys) ⌝ }
-    ensures { λ _. ⌜ now (keys .exit) ≡ overlay (now (keys .entry)) from (λ i. key) count ⌝ }
-{
-    let mut i: usize = 0;
-    while i < count {
-        keys[from + i] = key;
-        i += 1;
-    }
-}
 
 // A position in the volume and a block in one number.
 fn key_of(position: u64, b: usize) -> u64
@@ -158,7 +149,7 @@ pub fn store_keys(
     requires { ⌜ Lies (triple nx ny nz) block × (length (now map) ≡ cells (sizeOf block)) × (b < mostBlocks) × (j ≤ 2) × (count ≡ largest (sizeOf block) (now map) j) × (from + count ≤ length (now keys)) ⌝ }
     ensures { λ _. ⌜ now (keys .exit) ≡ overlay (now (keys .entry)) from (λ i. keyIn (triple nx ny nz) block b (now (map .entry)) j (suc i)) count ⌝ }
 {
-    clear_keys(keys, from, count, b as u64);
+    write_value(keys, from, count, b as u64);
     let lines = (2 * block.ny - 1) * (2 * block.nz - 1);
     let mut l = lines;
     while l > 0 {
@@ -202,16 +193,19 @@ fn shifted(shift: u32, x: u32) -> u32
     shift + x
 }
 
-// Writes the front of a row.
-fn put_row(rows: &mut [u32], at: usize, width: usize, row: [u32; 6], shift: u32)
-    requires { ⌜ (at + width ≤ length (now rows)) × (width ≤ 6) × ((i : ℕ) → (shift ≡ 0) ⊎ (shift + getD row i 0 < 4294967296)) ⌝ }
-    ensures { λ _. ⌜ now (rows .exit) ≡ overlay (now (rows .entry)) at (λ i. shiftBy shift (getD row i 0)) width ⌝ }
+// .. and a row.
+fn shifted_row(shift: u32, row: [u32; 6]) -> [u32; 6]
+    requires { ⌜ ((i : ℕ) → (shift ≡ 0) ⊎ (shift + getD row i 0 < 4294967296)) ⌝ }
+    ensures { λ r. ⌜ r ≡ map (shiftBy shift) row ⌝ }
 {
-    let mut i: usize = 0;
-    while i < width {
-        rows[at + i] = shifted(shift, row[i]);
-        i += 1;
-    }
+    [
+        shifted(shift, row[0]),
+        shifted(shift, row[1]),
+        shifted(shift, row[2]),
+        shifted(shift, row[3]),
+        shifted(shift, row[4]),
+        shifted(shift, row[5]),
+    ]
 }
 
 // Writes the rows of the numbers of order j, whose keys stand from place `from` on. A number's first cell is found by its key. Not an entry.
@@ -236,7 +230,8 @@ pub fn store_rows(
     let mut i: usize = 0;
     while i < count {
         let row = row_for(map, nx, ny, nz, block, keys[from + i] / KEY_BASE);
-        put_row(rows, width * (from + i), width, row, shift);
+        let stored = shifted_row(shift, row);
+        write_front(rows, width * (from + i), &stored, width);
         i += 1;
     }
 }

@@ -27,10 +27,6 @@ module _ (k : Cutting) (t : Tables) (b : ℕ) (m : List ℕ) {e : Triple} {numbe
   unfolding foundCells foundAmong foundRow finalIn pointCells finalRow finalOf node
   found-cells = rw (size, ← curves, ← place-is)
 
-  -- what `count_points` answers
-  pub found-count : (r : ℕ) → r ≡ length (foundCells e numbers from m) → r ≡ length (pointCells k t b m)
-  found-count r i = i ∙ ap length found-cells
-
   -- what `store_points` requires of its tables, of x keys and y row entries
   pub found-room : (at x y : ℕ) → at + length (pointCells k t b m) ≤ x → 6 * (at + length (pointCells k t b m)) ≤ y → Room (length (foundCells e numbers from m)) at x y
   found-room at x y h g = rw found-cells (record { on-keys = h; on-rows = g })

@@ -6,14 +6,14 @@ use mathlib.Core.List.{List, [], _∷_, _++_, map-map}
 use Prim.Native.Nat.{ℕ, _+_, _-_, _*_, _≤_, _<_}
 use native.Mathlib.Omega.{arith}
 use lib.Dec.{eqb}
-use lib.ListN.{getD, length, length-append, List·getD-eq-default}
+use lib.ListN.{getD, length, length-append}
 use borrow.Author.Tests.{eq-eqb, ne-eqb}
 use Rattle.lists.specs.Lists.{consecutive, tabulate}
 use Rattle.lists.proofs.Lists.{keep-append, length-keep, length-consecutive}
 use Rattle.cells.specs.Box.{Triple, X, Y, Z, stride}
 use Rattle.cells.specs.Extents.{Sized}
 use Rattle.cells.specs.Grid.{sides, cells, order, upperNeighbours}
-use Rattle.cells.specs.Row.{rowOf, occupied}
+use Rattle.cells.specs.Row.{rowOf, occupied, numbersAt}
 use Rattle.cells.proofs.ExtentLaws.{cells-high}
 use Rattle.cells.proofs.GridLaws.{odd-lt}
 use Rattle.labels.specs.Components.{ofOrder}
@@ -21,7 +21,7 @@ use Rattle.lines.specs.Lines.{strideIf, odds, around, lineCount}
 use Rattle.lines.proofs.LineLaws.{up-around, odds-are, Reads, reads}
 use Rattle.pass_survey.specs.Surveys.{onLine}
 use Rattle.pass_survey.proofs.SurveyLaws.{fromLine, from-first, from-next, from-last}
-use Rattle.pass_point.specs.Findings.{finalIn, foundRow, foundAmong, foundCells, numbersAt, finalsIn}
+use Rattle.pass_point.specs.Findings.{finalIn, foundRow, foundAmong, foundCells, finalsIn}
 
 -- ---- final numbers
 
@@ -31,12 +31,9 @@ module _ (numbers : List ℕ) (from n : ℕ) where
   unfolding finalIn
   final-none z = rw (eq-eqb n 0 z)
 
-  pub final-some : n ≢ 0 → getD numbers (from + (n - 1)) 0 ≡ finalIn numbers from n
+  pub final-some : (r : ℕ) → n ≢ 0 → r ≡ getD numbers (from + (n - 1)) 0 → r ≡ finalIn numbers from n
   unfolding finalIn
-  final-some z = rw (ne-eqb n 0 z)
-
-  pub final-past : n ≢ 0 → length numbers ≤ from + (n - 1) → 0 ≡ finalIn numbers from n
-  final-past z h = sym (List·getD-eq-default numbers 0 h) ∙ final-some z
+  final-some r z e = rw (ne-eqb n 0 z) e
 
 -- the row of six zeros
 pub final-zeros : (numbers : List ℕ) (from : ℕ) → 0 ∷ 0 ∷ 0 ∷ 0 ∷ 0 ∷ 0 ∷ [] ≡ rowOf (finalsIn numbers from (0 ∷ 0 ∷ 0 ∷ 0 ∷ 0 ∷ 0 ∷ []))
@@ -58,7 +55,7 @@ module _ (e : Triple) (p : ℕ) (level : order e p ≡ 0) where
 
   module _ (m : List ℕ) where
     pub point-around : getD m (p - 1) 0 ∷ getD m (p + 1) 0 ∷ getD m (p - wide) 0 ∷ getD m (p + wide) 0 ∷ getD m (p - layer) 0 ∷ getD m (p + layer) 0 ∷ [] ≡ numbersAt m (upperNeighbours e p)
-    unfolding numbersAt around
+    unfolding around
     point-around = rw (up-around e p, point-odds)
 
     module _ (size : length m ≡ cells e) (h : p < cells e) where
@@ -73,7 +70,7 @@ module _ (e : Triple) (p : ℕ) (level : order e p ≡ 0) where
 
 -- the row of a cell, where a holds the numbers of its upper neighbours
 pub row-of-around : (e : Triple) (numbers : List ℕ) (from : ℕ) (m : List ℕ) (p : ℕ) (a row : List ℕ) → a ≡ numbersAt m (upperNeighbours e p) → row ≡ rowOf (finalsIn numbers from a) → row ≡ foundRow e numbers from m p
-unfolding foundRow finalsIn numbersAt
+unfolding foundRow finalsIn
 row-of-around e numbers from m p a row i k = k ∙ rw i (ap rowOf (map-map (finalIn numbers from) (λ q. getD m q 0) (upperNeighbours e p)))
 
 -- ---- the points among the cells of a list

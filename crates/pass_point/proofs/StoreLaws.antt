@@ -8,14 +8,13 @@ use native.Mathlib.Nat.{add-zero}
 use native.Mathlib.Omega.{arith}
 use lib.ListN.{getD, length, set}
 use Rattle.lists.specs.Lists.{overlay}
-use Rattle.lists.proofs.Overlay.{length-overlay, overlay-same}
+use Rattle.lists.proofs.Overlay.{length-overlay, overlay-same, rows-none, rows-next}
 use Rattle.cells.specs.Box.{Triple}
 use Rattle.joiner.specs.Job.{keyOf, keyBase}
 use Rattle.blocks.specs.Blocks.{sizeOf}
 use Rattle.blocks.specs.declared.Block.{Block}
 use Rattle.pass_survey.proofs.SurveyLaws.{fromLine}
 use Rattle.pass_enrol.specs.Enrolment.{positionIn}
-use Rattle.pass_enrol.proofs.RowLaws.{rows-none, rows-next}
 use Rattle.pass_point.specs.Findings.{foundRow, foundAmong, foundCells, rowEntry, keyAt, written, Stored, Room}
 use Rattle.pass_point.proofs.PointLaws.{found-append, found-none, found-length, cell-none, cell-one, found-all}
 
@@ -45,7 +44,7 @@ module _ (w : ℕ) (f : ℕ → ℕ → ℕ) where
       let here : p ≡ getD g n 0 = same 0 ∙ ap (λ (i : ℕ). getD g i 0) (add-zero n) in
       let later : (i : ℕ) → getD ps i 0 ≡ getD g (n + 1 + i) 0 = λ i. same (suc i) ∙ ap (λ (j : ℕ). getD g j 0) (omega arith) in
       ap (λ (k : ℕ). written w f ps k (overlay ys (w * (at + n)) (f p) w)) s
-      ∙ written-from g ps at (n + 1) xs (overlay ys (w * (at + n)) (f p) w) later (rows-next xs w at (λ j i. f (getD g j 0) i) n (f p) ys _ e refl (λ i. ap (λ (q : ℕ). f q i) here))
+      ∙ written-from g ps at (n + 1) xs (overlay ys (w * (at + n)) (f p) w) later (rows-next xs w at (λ j i. f (getD g j 0) i) n (f p) ys _ e refl (λ i _. ap (λ (q : ℕ). f q i) here))
       ∙ ap (λ (k : ℕ). overlay xs (w * at) (λ i. f (getD g (i / w) 0) (i % w)) (w * k)) t
 
   pub written-overlay : (ps : List ℕ) (at : ℕ) (xs : List ℕ) → written w f ps at xs ≡ overlay xs (w * at) (λ i. f (getD ps (i / w) 0) (i % w)) (w * length ps)

@@ -36,10 +36,7 @@ foundCells e numbers from m = foundAmong e numbers from m (ofOrder e 0)
 
 -- ---- what the inner functions leave and answer
 
--- The numbers at the cells of a list, and the final ones of a list.
-unfoldable pub numbersAt : List ℕ → List ℕ → List ℕ
-numbersAt m ps = map (λ p. getD m p 0) ps
-
+-- The final numbers of a list.
 unfoldable pub finalsIn : List ℕ → ℕ → List ℕ → List ℕ
 finalsIn numbers from xs = map (finalIn numbers from) xs
 

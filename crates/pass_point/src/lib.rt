@@ -5,24 +5,26 @@ use joiner::KEY_BASE;
 use lines::Line;
 use lines::line_at;
 use lines::line_with;
+use lists::read_or_zero;
+use lists::write_front;
 use rows::row_of_six;
 use rows::same_row;
 ghost use mathlib.Core.Path.{_≡_};
 ghost use mathlib.Core.List.{[], _∷_};
-ghost use Prim.Native.Nat.{_+_, _*_, _/_, _%_, _≤_, _<_};
+ghost use Prim.Native.Nat.{_+_, _*_, _/_, _%_, _<_};
 ghost use lib.ListN.{length, getD};
 ghost use Rattle.lists.specs.Lists.{overlay};
 ghost use Rattle.cells.specs.Box.{triple};
 ghost use Rattle.cells.specs.Extents.{Sized};
 ghost use Rattle.cells.specs.Grid.{cells, upperNeighbours};
-ghost use Rattle.cells.specs.Row.{rowOf};
+ghost use Rattle.cells.specs.Row.{rowOf, numbersAt};
 ghost use Rattle.lines.specs.Lines.{lineCount};
 ghost use Rattle.cutting.specs.Cutting.{mostBlocks};
 ghost use Rattle.joiner.specs.Job.{keyOf};
 ghost use Rattle.blocks.specs.Blocks.{sizeOf};
 ghost use Rattle.pass_survey.specs.Surveys.{onLine};
 ghost use Rattle.pass_enrol.specs.Enrolment.{Lies, Along, positionIn};
-ghost use Rattle.pass_point.specs.Findings.{finalIn, foundRow, foundAmong, foundCells, numbersAt, finalsIn, PointCell, Stored, Room};
+ghost use Rattle.pass_point.specs.Findings.{finalIn, foundRow, foundAmong, foundCells, finalsIn, PointCell, Stored, Room};
 
 // ---- the row of a point cell
 
@@ -34,7 +36,7 @@ pub fn final_number(numbers: &[u32], from: u32, n: u32) -> u32
         return 0;
     }
     let i = (from as usize) + ((n - 1) as usize);
-    if i < numbers.len() { numbers[i] } else { 0 }
+    read_or_zero(numbers, i)
 }
 
 // The final numbers of six.
@@ -155,18 +157,6 @@ pub fn count_points(map: &[u32], nx: usize, ny: usize, nz: usize, numbers: &[u32
 
 // ---- storing
 
-// Writes a row.
-fn put_row(rows: &mut [u32], at: usize, row: [u32; 6])
-    requires { ⌜ at + 6 ≤ length (now rows) ⌝ }
-    ensures { λ _. ⌜ now (rows .exit) ≡ overlay (now (rows .entry)) at (λ i. getD row i 0) 6 ⌝ }
-{
-    let mut i: usize = 0;
-    while i < 6 {
-        rows[at + i] = row[i];
-        i += 1;
-    }
-}
-
 // Stores a point cell, which stands at a position of the volume, if it is a point, and answers the next place.
 fn store_cell(
     keys: &mut [u64],
@@ -191,7 +181,7 @@ fn store_cell(
         return at;
     }
     keys[at] = position * KEY_BASE + (b as u64);
-    put_row(rows, 6 * at, row);
+    write_front(rows, 6 * at, &row, 6);
     at + 1
 }
 

@@ -1,6 +1,6 @@
 -- What a walk of the layers finds is what the joiner's definitions say of a seam: the layers differ, and which components become one.
 -- Assumes nothing.
-use mathlib.Core.Bool.{Bool, true, false, _&&_, true≢false}
+use mathlib.Core.Bool.{true, false, _&&_, true≢false}
 use mathlib.Core.List.{List, List·Memᴰ, List·Memᴰ·append-cases, List·Memᴰ·cases-cons, List·Memᴰ·eq-of-singleton, List·Memᴰ·head, List·Memᴰ·not-nil, List·Memᴰ·tail, Memᴰ·append-left, Memᴰ·append-right, [], _∷_, _++_}
 use mathlib.Core.Logic.{_↔_, _≢_, _⊎_, inl, inr}
 use mathlib.Core.Path.{_≡_, ap, refl, subst, sym, _∙_}
@@ -12,7 +12,7 @@ use lib.ListN.{getD}
 use Rattle.lists.specs.Lists.{consecutive, someOf}
 use Rattle.lists.proofs.Cases.{and-first, and-second, by-test}
 use Rattle.lists.proofs.Lists.{consecutive-in, consecutive-out}
-use Rattle.lists.proofs.Tests.{some-none}
+use Rattle.lists.proofs.Tests.{some-none, none-some}
 use Rattle.closure.specs.Joined.{Edge, edge, joins}
 use Rattle.closure.proofs.Classes.{joins-edge, joins-mono, joins-sound}
 use Rattle.union_find.specs.Links.{root, Rooted}
@@ -28,7 +28,7 @@ use Rattle.joiner.specs.Calls.{differs, join, layersDiffer}
 use Rattle.joiner.specs.Entries.{AtSeam, Merged, Together, same, joined, back, via}
 use Rattle.joiner.proofs.Shared.{Shares, shared-in, shared-out}
 use Rattle.layers.specs.Layers.{across, axisOf, cellPair, columnsOf, firstAcross, lastAt, layerPairs, rowsOf}
-use Rattle.layers.proofs.LayerLaws.{Follows, layer-differs, layer-in, layer-out, layer-shares, shares-layer, seam-follows}
+use Rattle.layers.proofs.LayerLaws.{Follows, layer-differs, layer-in, layer-out, layer-shares, shares-layer, seam-follows, inside-last}
 use Rattle.pass_seam.specs.Walks.{LayerOf, cellOf, cellsDiffer, differAt, edgesAlong, hasPlace, joinAt, layerEdges, layersDifferTo, numberAt, rowDiffersTo, rowEdges}
 use Rattle.pass_seam.specs.declared.Layer.{Layer}
 use Rattle.pass_seam.proofs.WalkLaws.{has-low, spoilt}
@@ -63,21 +63,12 @@ order-across e X t u v i h = rw (odd-at e (across X t u v) i X, odd-at e (across
 order-across e Y t u v i h = rw (odd-at e (across Y t u v) i X, odd-at e (across Y t u v) i Y, odd-at e (across Y t u v) i Z) (omega arith)
 order-across e Z t u v i h = rw (odd-at e (across Z t u v) i X, odd-at e (across Z t u v) i Y, odd-at e (across Z t u v) i Z) (omega arith)
 
-last-inside : (a : Axis) (s : Triple) (u v : ℕ) → 0 < coord s a → u < columnsOf s a → v < rowsOf s a → Inside s (across a (coord s a - 1) u v)
-last-inside X s u v h hu hv = elim [ X ↦ omega arith | Y ↦ hu | Z ↦ hv ]
-last-inside Y s u v h hu hv = elim [ X ↦ hu | Y ↦ omega arith | Z ↦ hv ]
-last-inside Z s u v h hu hv = elim [ X ↦ hu | Y ↦ hv | Z ↦ omega arith ]
-
 module _ (e : Triple) (a : Axis) (some : 0 < coord e a) (u v : ℕ) (hu : u < columnsOf (sides e) a) (hv : v < rowsOf (sides e) a) where
   pub order-last : order e (lastAt e a u v) ≡ 3 - (u % 2 + v % 2)
   unfolding lastAt
-  order-last = order-across e a (coord (sides e) a - 1) u v (last-inside a (sides e) u v (omega (arith, side-on e a)) hu hv) (omega (arith, side-on e a))
+  order-last = order-across e a (coord (sides e) a - 1) u v (inside-last a (sides e) u v (omega (arith, side-on e a)) hu hv) (omega (arith, side-on e a))
 
 -- ---- the comparison
-
-none-some : {A : Type 0} (f : A → Bool) (l : List A) → ((d : A) → List·Memᴰ d l → f d ≡ false) → someOf f l ≡ false
-none-some f [] h = refl
-none-some f (x ∷ l) h = rw (h x (List·Memᴰ·head refl)) (none-some f l (λ d i. h d (List·Memᴰ·tail i)))
 
 module _ (m : List ℕ) (l : Layer) (n : List ℕ) (r : Layer) where
   row-same : (v columns : ℕ) → ((u : ℕ) → u < columns → differAt m l n r u v ≡ false) → rowDiffersTo m l n r v columns ≡ false

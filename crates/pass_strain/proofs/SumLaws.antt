@@ -28,7 +28,7 @@ use Rattle.pass_point.specs.Findings.{finalIn}
 use Rattle.pass_survey.specs.Surveys.{onLine}
 use Rattle.pass_survey.proofs.SurveyLaws.{fromLine}
 use Rattle.strains.specs.declared.Reading.{Reading}
-use Rattle.totals.specs.Totals.{Taken, slotOf, after, sumAdded, sumsWith, countAdded, countsWith, readingAt}
+use Rattle.totals.specs.Totals.{Taken, slotOf, after, sumsWith, countsWith, readingAt}
 use Rattle.lowest.specs.Lowest.{startsBy}
 use Rattle.strain_calls.specs.Adding.{gathered, voxelTaken, faceTaken}
 use Rattle.pass_strain.specs.Summing.{Brought, brought, faceAt, ownFace, cellTaken, blockTaken, Whole, Lies, Beside, sideOf, Sided, sideTaken, OwnFace, Skips}
@@ -70,22 +70,14 @@ on-side n low high u x =
     by-test (eqb u 0) (λ z. rw z refl)
     (λ z. by-test (eqb u low) (λ t. rw (z, t) refl) (λ t. by-test (eqb u high) (λ w. rw (z, t, w) refl) (λ w. rw (z, t, w) refl)))
 
-module _ (n side : ℕ) (x : Reading) where
-  pub side-sums : (sums now : List Float) (y : Reading) → side ≢ 2 → y ≡ x → now ≡ sumAdded sums (2 * (n - 1) + side) y → now ≡ sumsWith sums (sideTaken n side x)
-  unfolding sumsWith after sideTaken slotOf
-  side-sums sums now y h f g = rw (ne-eqb side 2 h, ← f) g
+module _ {A : Type 0} (step : A → Taken → A) (n side : ℕ) (x : Reading) where
+  pub side-after : (xs now : A) (y : Reading) → side ≢ 2 → y ≡ x → now ≡ step xs (record { slot = 2 * (n - 1) + side; reading = y }) → now ≡ after step xs (sideTaken n side x)
+  unfolding after sideTaken slotOf
+  side-after xs now y h f g = rw (ne-eqb side 2 h, ← f) g
 
-  pub side-counts : (counts now : List ℕ) (y : Reading) → side ≢ 2 → y ≡ x → now ≡ countAdded counts (2 * (n - 1) + side) y → now ≡ countsWith counts (sideTaken n side x)
-  unfolding countsWith after sideTaken slotOf
-  side-counts counts now y h f g = rw (ne-eqb side 2 h, ← f) g
-
-  pub neither-sums : (sums : List Float) → side ≡ 2 → sums ≡ sumsWith sums (sideTaken n side x)
-  unfolding sumsWith after sideTaken
-  neither-sums sums h = rw (eq-eqb side 2 h) refl
-
-  pub neither-counts : (counts : List ℕ) → side ≡ 2 → counts ≡ countsWith counts (sideTaken n side x)
-  unfolding countsWith after sideTaken
-  neither-counts counts h = rw (eq-eqb side 2 h) refl
+  pub neither-after : (xs : A) → side ≡ 2 → xs ≡ after step xs (sideTaken n side x)
+  unfolding after sideTaken
+  neither-after xs h = rw (eq-eqb side 2 h) refl
 
 -- ---- the sides of the two voxels of a face cell, by the first two numbers of its row
 
@@ -183,13 +175,8 @@ module _ (e : Triple) (m : List ℕ) (values : List Float) (kinds : List ℕ) (n
         rw (row-is, up-around e p, B .axis, ← B .below, ← B .above, part-is (p - a) (r .below) v (S .below), part-is (p + a) (r .above) (v + d) (S .above))
         (ap (λ (l : List Taken). part (r .below) v ++ l) (append-nil (part (r .above) (v + d))))
 
-    pub face-sums : (sums one two : List Float) → one ≡ sumsWith sums (part (r .below) v) → two ≡ sumsWith one (part (r .above) (v + d)) → two ≡ sumsWith sums (faceTaken e m values kinds n p)
-    unfolding sumsWith
-    face-sums sums one two g h = h ∙ rw (g, taken-face) (sym (after-append _ sums (part (r .below) v) (part (r .above) (v + d))))
-
-    pub face-counts : (counts one two : List ℕ) → one ≡ countsWith counts (part (r .below) v) → two ≡ countsWith one (part (r .above) (v + d)) → two ≡ countsWith counts (faceTaken e m values kinds n p)
-    unfolding countsWith
-    face-counts counts one two g h = h ∙ rw (g, taken-face) (sym (after-append _ counts (part (r .below) v) (part (r .above) (v + d))))
+    pub face-after : {A : Type 0} (step : A → Taken → A) (xs one two : A) → one ≡ after step xs (part (r .below) v) → two ≡ after step one (part (r .above) (v + d)) → two ≡ after step xs (faceTaken e m values kinds n p)
+    face-after step xs one two g h = h ∙ rw (g, taken-face) (sym (after-append step xs (part (r .below) v) (part (r .above) (v + d))))
 
 -- ---- the face that a cell shows
 
@@ -213,19 +200,13 @@ module _ (e s : Triple) (m numbers : List ℕ) (from : ℕ) (values : List Float
   unfolding cellTaken
   cell-face z = rw (own-is, ne-eqb r 0 z)
 
-  pub away-sums : (sums : List Float) → r ≡ 0 → sums ≡ sumsWith sums (cellTaken e s (brought m numbers from values kinds) p)
-  unfolding sumsWith after
-  away-sums sums z = rw (cell-none z) refl
+  module _ {A : Type 0} (step : A → Taken → A) where
+    pub away-after : (xs : A) → r ≡ 0 → xs ≡ after step xs (cellTaken e s (brought m numbers from values kinds) p)
+    unfolding after
+    away-after xs z = rw (cell-none z) refl
 
-  pub away-counts : (counts : List ℕ) → r ≡ 0 → counts ≡ countsWith counts (cellTaken e s (brought m numbers from values kinds) p)
-  unfolding countsWith after
-  away-counts counts z = rw (cell-none z) refl
-
-  pub own-sums : (sums now : List Float) → r ≢ 0 → now ≡ sumsWith sums (faceTaken e m values kinds r p) → now ≡ sumsWith sums (cellTaken e s (brought m numbers from values kinds) p)
-  own-sums sums now z f = rw (cell-face z) f
-
-  pub own-counts : (counts now : List ℕ) → r ≢ 0 → now ≡ countsWith counts (faceTaken e m values kinds r p) → now ≡ countsWith counts (cellTaken e s (brought m numbers from values kinds) p)
-  own-counts counts now z f = rw (cell-face z) f
+    pub own-after : (xs now : A) → r ≢ 0 → now ≡ after step xs (faceTaken e m values kinds r p) → now ≡ after step xs (cellTaken e s (brought m numbers from values kinds) p)
+    own-after xs now z f = rw (cell-face z) f
 
 -- A cell that shows no face of the block shows none of the volume.
 module _ (e s : Triple) (m numbers : List ℕ) (from : ℕ) (values : List Float) (kinds : List ℕ) (p : ℕ) (z : getD m p 0 ≡ 0) where
@@ -241,13 +222,9 @@ module _ (e s : Triple) (m numbers : List ℕ) (from : ℕ) (values : List Float
   unfolding cellTaken
   blank-none = rw owns-none refl
 
-  pub blank-sums : (sums : List Float) → sums ≡ sumsWith sums (cellTaken e s (brought m numbers from values kinds) p)
-  unfolding sumsWith after
-  blank-sums sums = rw blank-none refl
-
-  pub blank-counts : (counts : List ℕ) → counts ≡ countsWith counts (cellTaken e s (brought m numbers from values kinds) p)
-  unfolding countsWith after
-  blank-counts counts = rw blank-none refl
+  pub blank-after : {A : Type 0} (step : A → Taken → A) (xs : A) → xs ≡ after step xs (cellTaken e s (brought m numbers from values kinds) p)
+  unfolding after
+  blank-after step xs = rw blank-none refl
 
 -- ---- one line
 
@@ -348,13 +325,14 @@ module _ (e s : Triple) (m numbers : List ℕ) (from : ℕ) (values : List Float
   here x = Going e s (brought m numbers from values kinds) l r sums₀ counts₀ x sums counts
 
   skip-many : (n x : ℕ) → r .start ≤ x → x % 2 ≡ r .start % 2 → ((i : ℕ) → i < n → (x + 2 * i < r .width) × (getD m (r .base + (x + 2 * i)) 0 ≡ 0)) → here x → here (x + 2 * n)
+  unfolding sumsWith countsWith
   skip-many zero x a b f G = subst here (omega arith) G
   skip-many (suc n) x a b f G =
       let q = skip-many n x a b (λ i h. f i (omega (arith, h))) G in
       let w = f n (omega arith) in
       subst here (omega arith)
       (going-more e s (brought m numbers from values kinds) l r L sums₀ counts₀ (x + 2 * n) sums counts q sums counts (w .0) (omega arith) (omega arith)
-      (blank-sums e s m numbers from values kinds (r .base + (x + 2 * n)) (w .1) sums) (blank-counts e s m numbers from values kinds (r .base + (x + 2 * n)) (w .1) counts))
+      (blank-after e s m numbers from values kinds (r .base + (x + 2 * n)) (w .1) _ sums) (blank-after e s m numbers from values kinds (r .base + (x + 2 * n)) (w .1) _ counts))
 
   pub going-skip : (x y : ℕ) → r .start ≤ x → x % 2 ≡ r .start % 2 → Skips m (r .base) (r .width) x y → here x → here y
   going-skip x y a b K G = subst here (sym (K .is)) (skip-many (K .many) x a b (K .blank) G)

@@ -9,9 +9,10 @@ use native.Mathlib.Omega.{arith}
 use lib.Dec.{eqb}
 use lib.ListN.{getD}
 use borrow.Author.Tests.{eq-eqb, ne-eqb}
+use Rattle.lists.proofs.Tests.{none-all}
 use Rattle.cells.specs.Box.{Triple}
 use Rattle.cells.specs.Grid.{order}
-use Rattle.labels.specs.Components.{ofOrder, largest}
+use Rattle.labels.specs.Components.{ofOrder, largest, blankVoxel}
 use Rattle.lines.specs.Lines.{lineCount}
 use Rattle.lines.proofs.WalkLaws.{onwards, lines-first, lines-next, lines-last}
 use Rattle.joiner.specs.Declines.{filled}
@@ -102,8 +103,8 @@ module _ (e : Triple) (m : List ℕ) where
   most-all j = rw (from-first e j) (omega arith)
 
   pub looked-none : Looked e m 0 (record { filled = true; faces = 0; curves = 0; points = 0 })
-  unfolding full filled
-  looked-none = record { voxels = rw (from-first e 3); faces = most-all 2; curves = most-all 1; points = most-all 0 }
+  unfolding full filled blankVoxel
+  looked-none = record { voxels = rw (from-first e 3) (none-all (λ p. eqb (getD m p 0) 0) (ofOrder e 3)); faces = most-all 2; curves = most-all 1; points = most-all 0 }
 
   module _ (l : ℕ) (h : l < lineCount e) where
     most-line : (j k : ℕ) → max (max k (most m (onLine e j l))) (most m (fromLine e j (l + 1))) ≡ max k (most m (fromLine e j l))

@@ -14,10 +14,10 @@ use lib.Seq.{getD-set-same, getD-set-other}
 use borrow.Author.Tests.{eq-eqb, ne-eqb, eqb-true, eqb-false, lt-ltb, le-ltb}
 use Rattle.lists.specs.Lists.{overlay}
 use Rattle.lists.proofs.Cases.{by-test, picked}
+use Rattle.lists.proofs.Overlay.{written-long, written-read}
 use Rattle.union_find.specs.Links.{parent, root}
 use Rattle.union_find.proofs.LinkLaws.{root-low, root-idem, root-own, root-up, parent-low}
 use Rattle.ranking.specs.Ranking.{Classes, Firsts, entered, firstOf}
-use Rattle.ranking.proofs.Places.{written-long, written-read}
 
 -- ---- classes
 

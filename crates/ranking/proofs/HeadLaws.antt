@@ -13,7 +13,7 @@ use lib.ListN.{getD, length}
 use borrow.Author.Tests.{eq-eqb, eqb-true, eqb-false, le-leb, lt-leb, leb-true, leb-false, ltb-true, ltb-false}
 use Rattle.lists.specs.Lists.{consecutive, keep}
 use Rattle.lists.proofs.Cases.{by-test, picked, and-first, and-second}
-use Rattle.lists.proofs.Lists.{Ascends, ascends-consecutive, ascends-keep, consecutive-in, consecutive-out, getD-in, keep-in, keep-out}
+use Rattle.lists.proofs.Lists.{Ascends, ascends-at, ascends-consecutive, ascends-keep, consecutive-in, consecutive-out, getD-in, keep-in, keep-out}
 use Rattle.lists.proofs.Tests.{all-in, all-out, first-in, implied, implies, keep-same}
 use Rattle.closure.proofs.Numbers.{count-same, keep-count}
 use Rattle.union_find.specs.Links.{root}
@@ -25,18 +25,9 @@ use Rattle.joiner.specs.Job.{Kind, Face, Curve, Point, Tables}
 use Rattle.joiner.specs.Entries.{notAfter, classOf, isOne, leads, heads, rank, headOf}
 use Rattle.ranking.specs.Ranking.{firstOf, firstsOf}
 use Rattle.ranking.proofs.FirstLaws.{first-below}
-use Rattle.ranking.proofs.Places.{place-in, ascends-at}
+use Rattle.ranking.proofs.Places.{place-in}
 
 -- ---- classes
-
--- The classes of each kind, for `anyKind`.
-pub class-face : (t : Tables) (x : ℕ) → classOf t Face x ≡ root (t .links Face) x
-unfolding classOf
-class-face t x = refl
-
-pub class-curve : (t : Tables) (x : ℕ) → classOf t Curve x ≡ root (t .links Curve) x
-unfolding classOf
-class-curve t x = refl
 
 -- Points have no links.
 pub class-point : (t : Tables) (x : ℕ) → classOf t Point x ≡ root [] x
@@ -249,22 +240,6 @@ module _ (t : Tables) (κ : Kind) (n : ℕ) where
       let s = place-in hs (q .0) in
       let z : suc (rankIn e h (s .0)) ≡ suc i = sym (rank-at (getD (keep p hs) 0 0) (s .0) (s .1) (ap (classOf t κ) (s .2))) ∙ eqb-true _ _ (q .1) in
       (s .0, s .1, omega arith, sym (s .2))
-
-  -- The first one of each number is among the n.
-  pub head-below : (i : ℕ) → i < length (heads t κ n) → headOf t κ n (suc i) < n
-  head-below i hi = let r = head-of i hi in omega (arith, r .3, head-at (r .0) (r .1) .below)
-
-  -- It has that number.
-  pub head-rank : (i : ℕ) → i < length (heads t κ n) → rank t κ n (headOf t κ n (suc i)) ≡ suc i
-  head-rank i hi =
-      let r = head-of i hi in
-      rank-at (headOf t κ n (suc i)) (r .0) (r .1) (ap (classOf t κ) (sym (r .3))) ∙ ap suc (r .2)
-
-  -- Every number is from 1 to the number of the first ones.
-  pub rank-bound : (x : ℕ) → x < n → (0 < rank t κ n x) × (rank t κ n x ≤ length (heads t κ n))
-  rank-bound x hx =
-      let k = head-for x hx in
-      let r = rank-at x (k .0) (k .1) (k .2) in (omega arith, omega (arith, rank-low e h (k .0) (k .1)))
 
   -- ---- the first ones, sorted
 

@@ -9,7 +9,7 @@ use lib.ListN.{getD, length, take, drop, length-append, length-drop}
 use lib.Seq.{getD-append-add, getD-drop, length-take-le}
 use Rattle.lists.specs.Lists.{consecutive, overlay}
 use Rattle.lists.proofs.Lists.{consecutive-out, getD-in, keep-out}
-use Rattle.lists.proofs.Overlay.{overlay-same}
+use Rattle.lists.proofs.Overlay.{overlay-same, written-long, written-read, written-behind, written-again}
 use Rattle.lists.proofs.Tests.{keep-same}
 use Rattle.union_find.specs.Links.{root}
 use Rattle.union_find.proofs.LinkLaws.{root-low, root-idem}
@@ -17,7 +17,7 @@ use Rattle.sorting.specs.Sorting.{keyAt, stable, Listed, StandsByRank}
 use Rattle.joiner.specs.Job.{Kind, Face, Tables}
 use Rattle.joiner.specs.Entries.{classOf, heads, rank, headOf}
 use Rattle.ranking.specs.Ranking.{Different, Firsts, Found, Ordered, Placed, Ranked, Standing, firstOf, firstsOf, part, standing, stands}
-use Rattle.ranking.proofs.Places.{written-long, written-read, written-behind, written-again, length-part, part-at, part-written, part-lent, part-back}
+use Rattle.ranking.proofs.Places.{length-part, part-at, part-written, part-lent, part-back}
 use Rattle.ranking.proofs.HeadLaws.{head-read, heads-found, rank-read, sorted-apart, sorted-below}
 use Rattle.ranking.proofs.FirstLaws.{first-ext}
 use Rattle.ranking.proofs.StandingLaws.{standing-long, standing-most}

@@ -9,10 +9,8 @@ use lib.Dec.{eqb}
 use lib.ListN.{getD, length, set, length-set}
 use lib.Seq.{getD-set-same, getD-set-other}
 use borrow.Author.Tests.{eqb-true, eqb-false}
-use Rattle.lists.specs.Lists.{overlay}
 use Rattle.lists.proofs.Cases.{by-test}
 use Rattle.ranking.specs.Ranking.{Classes, Different, Placed}
-use Rattle.ranking.proofs.Places.{written-next, written-behind}
 
 -- ---- the numbers of the classes
 
@@ -60,12 +58,3 @@ module _ {cs spare spare′ : List ℕ} {n i h : ℕ} (C : Classes cs n) (D : Di
 
 pub placed-end : {cs spare spare′ : List ℕ} {n i h : ℕ} → i ≤ h → h ≤ i → Placing cs spare spare′ n i → Placed cs spare spare′ n h
 placed-end {i = i} {h = h} a b P = let e : h ≡ i = omega arith in rw e (P .done)
-
--- ---- the numbers of the places
-
-module _ (ns xs ys : List ℕ) (x : ℕ) (e : ys ≡ overlay xs 0 (λ y. getD ns (getD xs y 0) 0) x) where
-  pub unread : getD ys x 0 ≡ getD xs x 0
-  unread = written-behind xs (λ y. getD ns (getD xs y 0) 0) x ys e x (omega arith)
-
-  pub renumber-next : set ys x (getD ns (getD ys x 0) 0) ≡ overlay xs 0 (λ y. getD ns (getD xs y 0) 0) (x + 1)
-  renumber-next = written-next xs (λ y. getD ns (getD xs y 0) 0) x (getD ns (getD ys x 0) 0) ys e (ap (λ (c : ℕ). getD ns c 0) unread)

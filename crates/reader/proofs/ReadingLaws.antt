@@ -13,8 +13,9 @@ use lib.ListN.{length, set}
 use lib.Seq.{take-all, take-suc-set}
 use borrow.Author.Tests.{eqb-true, eq-eqb, ne-eqb, leb-true, le-leb, lt-leb, not-false}
 use Rattle.lists.proofs.Cases.{neither}
-use Rattle.lists.specs.Lists.{consecutive, tabulate}
+use Rattle.lists.specs.Lists.{consecutive, tabulate, someOf}
 use Rattle.lists.proofs.Lists.{tabulate-snoc}
+use Rattle.lists.proofs.Tests.{some-append, some-end}
 use Rattle.closure.specs.Numbered.{countBelow}
 use Rattle.refusals.specs.Refusals.{off-size, wrong-tray, bad-record, number, table, first, givenBy, listedNumbers, standsIn}
 use Rattle.refusals.proofs.RefusalLaws.{given-none}
@@ -25,7 +26,7 @@ use Rattle.cells.proofs.ExtentLaws.{cells-high}
 use Rattle.extents.proofs.SizeLaws.{sized-at}
 use Rattle.labels.specs.Components.{ofOrder}
 use Rattle.records.specs.Fields.{fieldAt}
-use Rattle.records.specs.Record.{extentsOf, originOf, bitAt, standing, bitmapLength, numberOf, decodeRecord, some, lengthOf, damaged}
+use Rattle.records.specs.Record.{extentsOf, originOf, bitAt, standing, bitmapLength, numberOf, decodeRecord, lengthOf, damaged}
 use Rattle.records.proofs.BitLaws.{standing-more}
 use Rattle.records.proofs.ReadLaws.{standing-mono}
 use Rattle.reader.specs.declared.Head.{Head}
@@ -102,9 +103,9 @@ module _ (e : Triple) (r : List ℕ) where
     damaged-length d = rw (ne-eqb _ _ (rw (j, i) at d))
 
     pub damaged-rest : length r ≡ 12 + bitmapLength n + 4 * k → damaged e r
-        ≡ (some (λ c. eqb (bitAt r c) 1) (consecutive n (8 * bitmapLength n - n)) ||
-        (some (λ c. eqb (bitAt r c) 0) (ofOrder e 3) ||
-        some (λ c. eqb (fieldAt r (12 + bitmapLength n + 4 * c) 4) 0) (consecutive 0 k)))
+        ≡ (someOf (λ c. eqb (bitAt r c) 1) (consecutive n (8 * bitmapLength n - n)) ||
+        (someOf (λ c. eqb (bitAt r c) 0) (ofOrder e 3) ||
+        someOf (λ c. eqb (fieldAt r (12 + bitmapLength n + 4 * c) 4) 0) (consecutive 0 k)))
     unfolding damaged lengthOf
     damaged-rest d = rw (j, i, eq-eqb _ _ (rw (j, i) at d))
 

@@ -8,14 +8,14 @@ ghost use mathlib.Core.Path.{_≡_};
 ghost use Prim.Native.Nat.{_+_, _*_, _-_, _/_, _≤_, _<_};
 ghost use lib.Dec.{eqb};
 ghost use lib.ListN.{length};
-ghost use Rattle.lists.specs.Lists.{consecutive, keep};
+ghost use Rattle.lists.specs.Lists.{consecutive, keep, someOf};
 ghost use Rattle.cells.specs.Box.{triple};
 ghost use Rattle.cells.specs.Extents.{Sized};
 ghost use Rattle.cells.specs.Grid.{cells, order};
 ghost use Rattle.labels.specs.Components.{ofOrder};
 ghost use Rattle.lines.specs.Lines.{lineCount};
 ghost use Rattle.records.specs.Fields.{fieldAt};
-ghost use Rattle.records.specs.Record.{extentsOf, originOf, bitAt, standing, some, bitmapLength, lengthOf, decodeRecord, damaged};
+ghost use Rattle.records.specs.Record.{extentsOf, originOf, bitAt, standing, bitmapLength, lengthOf, decodeRecord, damaged};
 ghost use Rattle.reader.specs.Parts.{Mapped, ReadTo, bitCount, numberAt};
 ghost use Rattle.reader.specs.Reading.{refusalOf, outcome, headOf, reading};
 
@@ -103,7 +103,7 @@ fn standing_bits(bytes: &[u8], n: usize) -> usize
 // Whether a bit past the cells stands.
 fn spare_set(bytes: &[u8], n: usize) -> bool
     requires { ⌜ Mapped (now bytes) n ⌝ }
-    ensures { λ r. ⌜ r ≡ some (λ c. eqb (bitAt (now (bytes .entry)) c) 1) (consecutive n (8 * bitmapLength n - n)) ⌝ }
+    ensures { λ r. ⌜ r ≡ someOf (λ c. eqb (bitAt (now (bytes .entry)) c) 1) (consecutive n (8 * bitmapLength n - n)) ⌝ }
 {
     let end = 8 * ((n + 7) / 8);
     let mut c = n;
@@ -119,7 +119,7 @@ fn spare_set(bytes: &[u8], n: usize) -> bool
 // Whether the bit of a voxel on line l is clear.
 fn line_clear(bytes: &[u8], nx: usize, ny: usize, nz: usize, l: usize) -> bool
     requires { ⌜ Sized 64 (triple nx ny nz) × Mapped (now bytes) (cells (triple nx ny nz)) × (l < lineCount (triple nx ny nz)) ⌝ }
-    ensures { λ r. ⌜ r ≡ some (λ c. eqb (bitAt (now (bytes .entry)) c) 0) (keep (λ p. eqb (order (triple nx ny nz) p) 3) (consecutive (l * (2 * nx - 1)) (2 * nx - 1))) ⌝ }
+    ensures { λ r. ⌜ r ≡ someOf (λ c. eqb (bitAt (now (bytes .entry)) c) 0) (keep (λ p. eqb (order (triple nx ny nz) p) 3) (consecutive (l * (2 * nx - 1)) (2 * nx - 1))) ⌝ }
 {
     let line = line_at(nx, ny, nz, 0, l);
     let mut x = line.start;
@@ -135,7 +135,7 @@ fn line_clear(bytes: &[u8], nx: usize, ny: usize, nz: usize, l: usize) -> bool
 // Whether the bit of a voxel is clear.
 fn voxel_clear(bytes: &[u8], nx: usize, ny: usize, nz: usize) -> bool
     requires { ⌜ Sized 64 (triple nx ny nz) × Mapped (now bytes) (cells (triple nx ny nz)) ⌝ }
-    ensures { λ r. ⌜ r ≡ some (λ c. eqb (bitAt (now (bytes .entry)) c) 0) (ofOrder (triple nx ny nz) 3) ⌝ }
+    ensures { λ r. ⌜ r ≡ someOf (λ c. eqb (bitAt (now (bytes .entry)) c) 0) (ofOrder (triple nx ny nz) 3) ⌝ }
 {
     let lines = (2 * ny - 1) * (2 * nz - 1);
     let mut l: usize = 0;
@@ -151,7 +151,7 @@ fn voxel_clear(bytes: &[u8], nx: usize, ny: usize, nz: usize) -> bool
 // Whether one of the numbers listed from place at on is 0.
 fn zero_listed(bytes: &[u8], at: usize, count: usize) -> bool
     requires { ⌜ at + 4 * count ≤ length (now bytes) ⌝ }
-    ensures { λ r. ⌜ r ≡ some (λ k. eqb (fieldAt (now (bytes .entry)) (at + 4 * k) 4) 0) (consecutive 0 count) ⌝ }
+    ensures { λ r. ⌜ r ≡ someOf (λ k. eqb (fieldAt (now (bytes .entry)) (at + 4 * k) 4) 0) (consecutive 0 count) ⌝ }
 {
     let mut k: usize = 0;
     while k < count {

@@ -12,12 +12,13 @@ use judge::CallName;
 use judge::Entry;
 use judge::KindLengths;
 use judge::Lengths;
-use judge::at;
 use judge::entry_of;
 use judge::fits;
 use judge::judge_map;
 use judge::number_stands;
 use judge::opened;
+use lists::read_or_zero;
+use lists::read_or_zero_u64;
 use pass_point::final_number;
 use refusals::NO_SUCH_PLACE;
 use refusals::STRAY_LABEL;
@@ -26,7 +27,6 @@ ghost use mathlib.Core.Bool.{_&&_};
 ghost use mathlib.Core.List.{[]};
 ghost use Prim.Native.Nat.{_+_, _^_, _<_};
 ghost use lib.Dec.{ltb};
-ghost use lib.ListN.{getD};
 ghost use Rattle.cells.specs.Box.{triple, index};
 ghost use Rattle.cells.specs.Grid.{sides};
 ghost use Rattle.cutting.specs.Cutting.{blocks};
@@ -115,16 +115,6 @@ fn refusal(
 
 // ---- a point by its position
 
-// The entry of a table of positions, 0 past its end.
-fn position_at(table: &[u64], i: usize) -> u64
-    ensures { λ r. ⌜ r ≡ getD (now (table .entry)) i 0 ⌝ }
-{
-    if i < table.len() {
-        return table[i];
-    }
-    0
-}
-
 // Some places of a table, from one on.
 struct Span {
     from: u32,
@@ -138,7 +128,7 @@ fn halved(table: &[u64], s: Span, v: u64) -> Span
 {
     let half = s.size / 2;
     let middle = s.from + half;
-    if position_at(table, middle as usize) < v {
+    if read_or_zero_u64(table, middle as usize) < v {
         return Span {
             from: middle + 1,
             size: s.size - half - 1,
@@ -172,7 +162,7 @@ fn point_number(table: &[u64], count: u32, v: u64) -> u32
     if count <= i {
         return 0;
     }
-    if position_at(table, i as usize) != v {
+    if read_or_zero_u64(table, i as usize) != v {
         return 0;
     }
     i + 1
@@ -291,7 +281,7 @@ fn look_up(
     let block = block_at(cx, cy, cz, b as usize);
     let p = local(block, x as u64, y as u64, z as u64);
     let d = entry_of(table, b);
-    let n = at(m, p);
+    let n = read_or_zero(m, p);
     if !number_handed(job, d, face_numbers, curve_numbers, n, x, y, z) {
         return Found {
             refusal: STRAY_LABEL,

@@ -8,8 +8,8 @@ use native.Mathlib.Nat.{mul-le-mul-left, mul-suc}
 use native.Mathlib.Omega.{arith}
 use lib.Dec.{leb, ltb}
 use lib.ListN.{length, take, drop}
-use borrow.Author.Tests.{leb-true, ltb-true, lt-ltb, le-ltb}
-use Rattle.lists.proofs.Cases.{and-first, and-second}
+use borrow.Author.Tests.{leb-true, ltb-true}
+use Rattle.lists.proofs.Cases.{and-first, and-second, cond-not-here, cond-not-next}
 use Rattle.refusals.specs.Refusals.{number, table, first, givenBy, standsIn}
 use Rattle.joiner.specs.Job.{Face, Curve, Point, State, width, listedTrays}
 use Rattle.joiner.specs.Job as joiner
@@ -19,7 +19,6 @@ use Rattle.joiner.specs.Entries.{CallStep, rowTaken}
 use Rattle.joiner.proofs.Passed.{Passed, passed, fits-at, numbered-fits}
 use Rattle.job.specs.declared.Job.{Job}
 use Rattle.job.specs.Jobs.{jobOf, stateOf, anyCuts}
-use Rattle.job.proofs.JobLaws.{cond-not-here, cond-not-next}
 use Rattle.judge.specs.Judge.{lengthsOf}
 use Rattle.judge.proofs.JudgeLaws.{lent-is, late-none, step-refused, step-accepted}
 use Rattle.reading_row.specs.declared.Kind.{Kind}
@@ -27,12 +26,9 @@ use Rattle.reading_row.specs.Inner.{kindOf, lent, numberedOf, refusalOf,
 
 -- ---- the ways of the functions
 
-module _ (n most : ℕ) where
-  pub number-some : 0 < n → (t : ℕ) → t ≡ most → leb n t ≡ (ltb 0 n && leb n most)
-  number-some h t e = rw (e, lt-ltb 0 n h)
-
-  pub number-none : n ≤ 0 → false ≡ (ltb 0 n && leb n most)
-  number-none h = rw (le-ltb 0 n h)
+-- the rung of 4
+pub number-told : (n most r : ℕ) (t : Bool) → r ≡ most → t ≡ (ltb 0 n && leb n r) → t ≡ (ltb 0 n && leb n most)
+number-told n most r t e h = rw (← e) h
 
 -- the last rung: 8
 module _ (j : Job) (t : Bool) (e : anyCuts (λ cx cy cz. t ≡ talliesFit (jobOf j cx cy cz))) where

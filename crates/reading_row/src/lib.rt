@@ -7,6 +7,7 @@ use job::tallies_fit;
 use judge::CallName;
 use judge::KindLengths;
 use judge::Lengths;
+use judge::has_number;
 use judge::lent_fits;
 use refusals::NO_SUCH_PLACE;
 use refusals::OFF_SIZE;
@@ -14,9 +15,7 @@ use refusals::STRAY_LABEL;
 use refusals::WRONG_STAGE;
 use refusals::WRONG_TRAY;
 ghost use mathlib.Core.Path.{_≡_};
-ghost use mathlib.Core.Bool.{_&&_};
 ghost use Prim.Native.Nat.{_-_, _*_, _≤_, _<_};
-ghost use lib.Dec.{leb, ltb};
 ghost use lib.ListN.{length, take, drop};
 ghost use Rattle.joiner.specs.Calls.{reading, answer};
 ghost use Rattle.joiner.specs.Entries.{CallStep};
@@ -41,16 +40,6 @@ fn numbered(job: Job, kind: Kind) -> u32
     }
 }
 
-// Whether a kind has a component of this number.
-fn has_number(job: Job, kind: Kind, number: u32) -> bool
-    ensures { λ r. ⌜ r ≡ (ltb 0 number && leb number (numberedOf job kind)) ⌝ }
-{
-    if 0 < number {
-        return number <= numbered(job, kind);
-    }
-    false
-}
-
 // The number of the refusal, the lowest that applies, and 0 for none.
 fn refuse(job: Job, kind: Kind, number: u32, lengths: Lengths) -> u32
     ensures { λ r. ⌜ r ≡ refusalOf job kind number lengths ⌝ }
@@ -62,7 +51,7 @@ fn refuse(job: Job, kind: Kind, number: u32, lengths: Lengths) -> u32
     if !same_stage(now, Stage::Closed) {
         return WRONG_STAGE;
     }
-    if !has_number(job, kind, number) {
+    if !has_number(number, numbered(job, kind)) {
         return NO_SUCH_PLACE;
     }
     if !lent_fits(CallName::Row, 0, job, lengths) {

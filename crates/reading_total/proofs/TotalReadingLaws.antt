@@ -8,7 +8,7 @@ use native.Mathlib.Omega.{arith}
 use lib.Dec.{leb, ltb}
 use lib.ListN.{length}
 use lib.Ieee.{Float}
-use borrow.Author.Tests.{leb-true, ltb-true, lt-ltb, le-ltb, not-true, not-false}
+use borrow.Author.Tests.{not-true, not-false}
 use Rattle.lists.specs.Lists.{consecutive, allOf}
 use Rattle.lists.proofs.Cases.{and-first, and-second}
 use Rattle.refusals.specs.Refusals.{number, table, first, givenBy, standsIn}
@@ -19,51 +19,23 @@ use Rattle.cutting.specs.Cutting.{Cutting, blocks, goodCut, FewBlocks}
 use Rattle.joiner.specs.Job.{Face, Closed, Tables, State, sameStage, lengthsFit}
 use Rattle.joiner.specs.Job as joiner
 use Rattle.joiner.specs.Declines.{talliesFit}
-use Rattle.joiner.proofs.Passed.{fits-at, numbered-fits}
 use Rattle.blocks.specs.Blocks.{anyExtents}
 use Rattle.job.specs.declared.Job.{Job}
 use Rattle.job.specs.Jobs.{anyCuts, jobOf, stateOf, totalLengths}
 use Rattle.stages.specs.Ticks.{tickedIn}
 use Rattle.judge.specs.Judge.{firstRefusal, openedOf}
-use Rattle.judge.proofs.JudgeLaws.{or-first, or-then, or-none, opened-passed, few-of}
+use Rattle.judge.proofs.JudgeLaws.{or-first, or-then, or-none, opened-passed, few-of, number-of}
 use Rattle.totals.specs.Totals.{Holds, bothStand, totalsOf}
-use Rattle.totals.proofs.TotalLaws.{fewer-held}
 use Rattle.totals.specs.declared.Side.{Side}
 use Rattle.totals.specs.declared.Totals.{Totals}
 use Rattle.strain_calls.specs.Tables.{TotalTables, totalTables, totalTrays}
 use Rattle.strain_calls.specs.Calls.{total, strainAnswer, noSide, noTotals, allCome}
 use Rattle.strain_calls.specs.Declines.{hasCome, totalStands, strainDeclines, strainRefusal}
 use Rattle.strain_calls.specs.Entries.{StrainStep}
+use Rattle.strain_calls.proofs.HeldLaws.{trays-held, face-held}
 use Rattle.reading_total.specs.Inner.{standIn, refusalOf}
 
--- ---- the lengths of the tables
-
--- tables of the stated lengths are long enough for so many faces
-trays-held : (count faces came : ℕ) (sums : List Float) (counts : List ℕ) → lengthsFit (totalLengths count faces came (length sums) (length counts)) ≡ true → Holds sums counts faces
-trays-held count faces came sums counts h =
-    let lent = totalLengths count faces came (length sums) (length counts) in
-    let sums-are : length sums ≡ 2 * faces = fits-at lent 1 h in
-    let counts-are : length counts ≡ 6 * faces = fits-at lent 2 h in
-    record { sums-long = omega (arith, sums-are); counts-long = omega (arith, counts-are) }
-
--- .. and for a face of the closed table, where the tallies fit
-face-held : (j : joiner.Job) (sums : List Float) (counts : List ℕ) (n : ℕ) → talliesFit j ≡ true → n ≤ j .numbered Face → Holds sums counts (j .told .entries Face) → Holds sums counts n
-face-held j sums counts n t h H =
-    let most : j .numbered Face ≤ j .told .entries Face = numbered-fits j t Face in
-    fewer-held sums counts n (j .told .entries Face) (omega (arith, h, most)) H
-
--- a number that a closed table has
-number-is : (n most : ℕ) → (ltb 0 n && leb n most) ≡ true → (0 < n) × (n ≤ most)
-number-is n most h = (ltb-true 0 n (and-first (ltb 0 n) (leb n most) h), leb-true n most (and-second (ltb 0 n) (leb n most) h))
-
 -- ---- the ways of the functions
-
-module _ (n most : ℕ) where
-  pub number-some : 0 < n → leb n most ≡ (ltb 0 n && leb n most)
-  number-some h = rw (lt-ltb 0 n h)
-
-  pub number-none : n ≤ 0 → false ≡ (ltb 0 n && leb n most)
-  number-none h = rw (le-ltb 0 n h)
 
 module _ (j : Job) (sums : List Float) (counts : List ℕ) (n : ℕ) (t : Bool) (e : anyCuts (λ cx cy cz. t ≡ talliesFit (jobOf j cx cy cz))) where
   pub stand-none : not t ≡ true → anyCuts (λ cx cy cz. false ≡ standIn (jobOf j cx cy cz) sums counts n)
@@ -85,7 +57,7 @@ pub refuse-ready : (j : Job) (cx cy cz : List ℕ) (number′ : ℕ) → number�
     → (count came : ℕ) (sums : List Float) (counts : List ℕ) (t6 : Bool) → t6 ≡ lengthsFit (totalLengths count (j .«face_entries») came (length sums) (length counts))
     → not t6 ≡ false → Sized 1024 (triple (j .nx) (j .ny) (j .nz)) × (0 < n) × (n ≤ j .«numbered_faces») × Holds sums counts (j .«face_entries»)
 refuse-ready j cx cy cz number′ e q n t4 e4 p4 count came sums counts t6 e6 p6 =
-    let is = number-is n (j .«numbered_faces») (sym e4 ∙ not-false t4 p4) in
+    let is = number-of n (j .«numbered_faces») (sym e4 ∙ not-false t4 p4) in
     (opened-passed (jobOf j cx cy cz) Closed (sym e ∙ q) .sized, is .0, is .1, trays-held count (j .«face_entries») came sums counts (sym e6 ∙ not-false t6 p6))
 
 -- the rungs of `refuse`
@@ -195,7 +167,7 @@ module _ (j : joiner.Job) (w : TotalTables) (n number′ : ℕ) (e : number′ �
   pub ready-stands : (most : ℕ) → most ≡ cells (j .told .cutting .extents) → (0 < n) × Holds (w .sums) (w .counts) n × (bothStand most (w .sums) (w .counts) n ≡ true)
   unfolding standIn totalTrays
   ready-stands most s =
-      let is = number-is n (j .numbered Face) (rungs .1) in
+      let is = number-of n (j .numbered Face) (rungs .1) in
       let stands = bothStand (cells (j .told .cutting .extents)) (w .sums) (w .counts) n in
       let held = trays-held (blocks (j .told .cutting)) (j .told .entries Face) (length (w .came)) (w .sums) (w .counts) (rungs .2) in (
         is .0,

@@ -5,6 +5,7 @@ use job::Job;
 use job::Stage;
 use job::tallies_fit;
 use job::total_trays;
+use judge::has_number;
 use judge::opened;
 use refusals::NO_SUCH_PLACE;
 use refusals::STRAY_LABEL;
@@ -16,9 +17,7 @@ use totals::Totals;
 use totals::both_stand;
 use totals::totals_of;
 ghost use mathlib.Core.Path.{_≡_};
-ghost use mathlib.Core.Bool.{_&&_};
 ghost use Prim.Native.Nat.{_≤_, _<_};
-ghost use lib.Dec.{leb, ltb};
 ghost use Rattle.lists.specs.Lists.{consecutive, allOf};
 ghost use Rattle.cells.specs.Box.{triple};
 ghost use Rattle.cells.specs.Extents.{Sized};
@@ -51,16 +50,6 @@ fn all_came(came: &[u32], count: usize) -> bool
         i += 1;
     }
     true
-}
-
-// Whether a closed table of so many faces has one of this number.
-fn has_number(number: u32, most: u32) -> bool
-    ensures { λ r. ⌜ r ≡ (ltb 0 number && leb number most) ⌝ }
-{
-    if 0 < number {
-        return number <= most;
-    }
-    false
 }
 
 // Whether the tallies fit, and the total of a face stands.

@@ -1,9 +1,8 @@
--- The laws of fields, of bits and of their count, and of a test over a list.
+-- The laws of fields, and of bits and their count.
 -- Assumes nothing.
-use mathlib.Core.Path.{_≡_, refl, sym, ap, _∙_}
-use mathlib.Core.Bool.{Bool, true, false, _||_}
+use mathlib.Core.Path.{_≡_, refl, ap, _∙_}
 use mathlib.Core.Logic.{_≢_}
-use mathlib.Core.List.{List, [], _∷_, _++_}
+use mathlib.Core.List.{List}
 use Prim.Native.Nat.{ℕ, suc, _+_, _*_, _/_, _%_, _^_, _≤_, _<_}
 use native.Mathlib.Numerals.{add-one}
 use native.Mathlib.Omega.{arith}
@@ -15,7 +14,7 @@ use Rattle.lists.proofs.Cases.{by-test}
 use Rattle.closure.proofs.Numbers.{count-hit, count-miss, count-bound}
 use Rattle.records.specs.Fields.{value, fieldAt}
 use Rattle.records.proofs.ReadLaws.{bit-at-lt, bit-at-byte}
-use Rattle.records.specs.Record.{bitAt, standing, some}
+use Rattle.records.specs.Record.{bitAt, standing}
 
 -- ---- fields
 
@@ -67,36 +66,3 @@ module _ (r : List ℕ) where
       let z : 8 * i ≡ 8 * i + 0 = omega arith in
       rw (e, w)
       (omega (arith, ap (standing r) z, byte-more i 0 (omega arith), byte-more i 1 (omega arith), byte-more i 2 (omega arith), byte-more i 3 (omega arith), byte-more i 4 (omega arith), byte-more i 5 (omega arith), byte-more i 6 (omega arith), byte-more i 7 (omega arith)))
-
--- ---- a test over a list
-
-module _ (f : ℕ → Bool) where
-  pub some-append : (l k : List ℕ) → some f (l ++ k) ≡ (some f l || some f k)
-  unfolding some
-  some-append [] k = refl
-  some-append (x ∷ l) k = by-test (f x) (λ t. rw t) (λ t. rw t (some-append l k))
-
-  -- A loop over a list: b is what the whole list answers, and k what is left of it, which begins with x.
-  module _ {b : Bool} {k m : List ℕ} {x : ℕ} (e : b ≡ some f k) (s : k ≡ x ∷ m) where
-    pub some-here : f x ≡ true → true ≡ b
-    unfolding some
-    some-here t = sym (e ∙ rw (s, t))
-
-    pub some-next : f x ≡ false → b ≡ some f m
-    unfolding some
-    some-next t = e ∙ rw (s, t)
-
-  -- The next entries of the list.
-  module _ {b : Bool} {k : List ℕ} (l m : List ℕ) (e : b ≡ some f k) (s : k ≡ l ++ m) where
-    some-split : b ≡ (some f l || some f m)
-    some-split = e ∙ rw s (some-append l m)
-
-    pub some-part : true ≡ some f l → true ≡ b
-    some-part t = sym (some-split ∙ rw (sym t))
-
-    pub some-rest : false ≡ some f l → b ≡ some f m
-    some-rest t = some-split ∙ rw (sym t)
-
-  pub some-none : {b : Bool} {k : List ℕ} → b ≡ some f k → k ≡ [] → false ≡ b
-  unfolding some
-  some-none e s = sym (e ∙ rw s)

@@ -1,37 +1,23 @@
 -- What a record that is not damaged has.
 -- Assumes nothing.
-use mathlib.Core.Path.{_≡_, refl, ap, _∙_}
+use mathlib.Core.Path.{_≡_}
 use mathlib.Core.Bool.{Bool, false, not, _||_}
-use mathlib.Core.Logic.{_⊎_, inl, inr}
-use mathlib.Core.List.{List, [], _∷_, List·Memᴰ, List·Memᴰ·head, List·Memᴰ·tail, List·Memᴰ·not-nil, List·Memᴰ·cases-cons}
+use mathlib.Core.List.{List, List·Memᴰ}
 use Prim.Native.Nat.{ℕ, _+_, _-_, _*_, _≤_, _<_}
 use native.Mathlib.Omega.{arith}
 use lib.Dec.{eqb}
 use lib.ListN.{length}
 use borrow.Author.Tests.{eqb-true, eqb-false, eq-eqb, ne-eqb, not-false}
-use Rattle.lists.specs.Lists.{consecutive}
+use Rattle.lists.specs.Lists.{consecutive, someOf}
 use Rattle.lists.proofs.Lists.{consecutive-in, consecutive-out}
 use Rattle.cells.specs.Box.{Triple}
 use Rattle.cells.specs.Grid.{cells}
 use Rattle.labels.specs.Components.{ofOrder}
 use Rattle.lists.proofs.Cases.{neither}
+use Rattle.lists.proofs.Tests.{some-none, none-some}
 use Rattle.records.specs.Fields.{fieldAt}
-use Rattle.records.specs.Record.{bitmapLength, bitAt, standing, some, lengthOf, damaged}
+use Rattle.records.specs.Record.{bitmapLength, bitAt, standing, lengthOf, damaged}
 use Rattle.records.proofs.ReadLaws.{bit-at-lt}
-
-pub some-none : (f : ℕ → Bool) (l : List ℕ) → ((p : ℕ) → List·Memᴰ p l → f p ≡ false) → some f l ≡ false
-unfolding some
-some-none f [] h = refl
-some-none f (y ∷ l) h = rw (h y (List·Memᴰ·head refl)) (some-none f l (λ p k. h p (List·Memᴰ·tail k)))
-
-pub none-some : (f : ℕ → Bool) (l : List ℕ) → some f l ≡ false → {p : ℕ} → List·Memᴰ p l → f p ≡ false
-unfolding some
-none-some f [] e k = absurd (List·Memᴰ·not-nil k)
-none-some f (y ∷ l) e {p} k = go (List·Memᴰ·cases-cons k) (λ j. none-some f l (neither (f y) (some f l) e .1) j)
-  where
-    go : (p ≡ y) ⊎ List·Memᴰ p l → (List·Memᴰ p l → f p ≡ false) → f p ≡ false
-    go (inl q) ih = ap f q ∙ neither (f y) (some f l) e .0
-    go (inr j) ih = ih j
 
 -- The four parts of refusal 11, each the other way round.
 pub record Whole (e : Triple) (r : List ℕ) : Type 0 where
@@ -45,14 +31,14 @@ unfolding damaged
 whole-damaged e r w =
     rw (eq-eqb (length r) (lengthOf (cells e) r) (w .sized), s, v) n
   where
-    s : some (λ c. eqb (bitAt r c) 1) (consecutive (cells e) (8 * bitmapLength (cells e) - cells e)) ≡ false
-    s = some-none _ _ (λ c k. let b = consecutive-out (cells e) (8 * bitmapLength (cells e) - cells e) k in rw (w .spared c (b .0) (omega arith)))
+    s : someOf (λ c. eqb (bitAt r c) 1) (consecutive (cells e) (8 * bitmapLength (cells e) - cells e)) ≡ false
+    s = none-some _ _ (λ c k. let b = consecutive-out (cells e) (8 * bitmapLength (cells e) - cells e) k in rw (w .spared c (b .0) (omega arith)))
 
-    v : some (λ c. eqb (bitAt r c) 0) (ofOrder e 3) ≡ false
-    v = some-none _ _ (λ c k. rw (w .voxels c k))
+    v : someOf (λ c. eqb (bitAt r c) 0) (ofOrder e 3) ≡ false
+    v = none-some _ _ (λ c k. rw (w .voxels c k))
 
-    n : some (λ k. eqb (fieldAt r (12 + bitmapLength (cells e) + 4 * k) 4) 0) (consecutive 0 (standing r (cells e))) ≡ false
-    n = some-none _ _ (λ k h. let b = consecutive-out 0 (standing r (cells e)) h in ne-eqb (fieldAt r (12 + bitmapLength (cells e) + 4 * k) 4) 0 (w .nonzero k (omega arith)))
+    n : someOf (λ k. eqb (fieldAt r (12 + bitmapLength (cells e) + 4 * k) 4) 0) (consecutive 0 (standing r (cells e))) ≡ false
+    n = none-some _ _ (λ k h. let b = consecutive-out 0 (standing r (cells e)) h in ne-eqb (fieldAt r (12 + bitmapLength (cells e) + 4 * k) 4) 0 (w .nonzero k (omega arith)))
 
 pub damaged-whole : (e : Triple) (r : List ℕ) → damaged e r ≡ false → Whole e r
 unfolding damaged
@@ -63,15 +49,15 @@ damaged-whole e r d =
     let empty : ℕ → Bool = λ k. eqb (fieldAt r (12 + bitmapLength n + 4 * k) 4) 0 in
     let sp : List ℕ = consecutive n (8 * bitmapLength n - n) in
     let st : List ℕ = consecutive 0 (standing r n) in
-    let d₁ : (some spare sp || (some clear (ofOrder e 3) || some empty st)) ≡ false = neither (not (eqb (length r) (lengthOf n r))) _ d .1 in
-    let d₂ : (some clear (ofOrder e 3) || some empty st) ≡ false = neither (some spare sp) _ d₁ .1 in
+    let d₁ : (someOf spare sp || (someOf clear (ofOrder e 3) || someOf empty st)) ≡ false = neither (not (eqb (length r) (lengthOf n r))) _ d .1 in
+    let d₂ : (someOf clear (ofOrder e 3) || someOf empty st) ≡ false = neither (someOf spare sp) _ d₁ .1 in
     record {
       sized = eqb-true (length r) (lengthOf n r) (not-false (eqb (length r) (lengthOf n r)) (neither (not (eqb (length r) (lengthOf n r))) _ d .0));
       spared = λ c h b.
-          let f : bitAt r c ≡ 1 → ⊥ = eqb-false (bitAt r c) 1 (none-some spare sp (neither (some spare sp) _ d₁ .0) (consecutive-in n (8 * bitmapLength n - n) h (omega arith))) in
+          let f : bitAt r c ≡ 1 → ⊥ = eqb-false (bitAt r c) 1 (some-none spare sp (neither (someOf spare sp) _ d₁ .0) (consecutive-in n (8 * bitmapLength n - n) h (omega arith))) in
           omega (arith, bit-at-lt r c);
       voxels = λ c k.
-          let f : bitAt r c ≡ 0 → ⊥ = eqb-false (bitAt r c) 0 (none-some clear (ofOrder e 3) (neither (some clear (ofOrder e 3)) _ d₂ .0) k) in
+          let f : bitAt r c ≡ 0 → ⊥ = eqb-false (bitAt r c) 0 (some-none clear (ofOrder e 3) (neither (someOf clear (ofOrder e 3)) _ d₂ .0) k) in
           omega (arith, bit-at-lt r c);
-      nonzero = λ k h. eqb-false (fieldAt r (12 + bitmapLength n + 4 * k) 4) 0 (none-some empty st (neither (some clear (ofOrder e 3)) _ d₂ .1) (consecutive-in 0 (standing r n) (omega arith) (omega arith)));
+      nonzero = λ k h. eqb-false (fieldAt r (12 + bitmapLength n + 4 * k) 4) 0 (some-none empty st (neither (someOf clear (ofOrder e 3)) _ d₂ .1) (consecutive-in 0 (standing r n) (omega arith) (omega arith)));
     }

@@ -2,18 +2,18 @@
 -- Assumes nothing.
 use mathlib.Core.Path.{_≡_, refl, sym, ap, _∙_}
 use mathlib.Core.List.{List, [], _∷_, _++_}
-use Prim.Native.Nat.{ℕ, zero, suc, _+_, _*_, _≤_, _<_}
+use Prim.Native.Nat.{ℕ, suc, _+_, _*_, _≤_, _<_}
 use native.Mathlib.Numerals.{add-one}
 use native.Mathlib.Omega.{arith}
 use lib.Dec.{eqb}
 use lib.ListN.{length, drop, set, length-append}
 use lib.Seq.{sets, sets-eq, length-sets}
 use borrow.Author.Tests.{ne-eqb}
+use Rattle.records.proofs.MapLaws.{length-bitmap}
 use Rattle.lists.proofs.Cases.{by-test}
-use Rattle.lists.proofs.Lists.{length-tabulate}
 use Rattle.cells.specs.Box.{Triple}
 use Rattle.records.specs.Fields.{bytes, laid}
-use Rattle.records.specs.Record.{headBytes, bit, mapByte, bitmapLength, bitmap, listed, encodeRecord}
+use Rattle.records.specs.Record.{headBytes, bit, bitmapLength, bitmap, listed, encodeRecord}
 
 -- ---- bytes laid
 
@@ -71,22 +71,13 @@ laid-front bs t = let z : 0 + length bs ≡ length bs = omega arith in rw z
 
 -- ---- the pieces of a record
 
-pub length-bytes : (n x : ℕ) → length (bytes n x) ≡ n
-unfolding bytes
-length-bytes zero x = refl
-length-bytes (suc n) x = ap suc (length-bytes n _)
-
 pub length-head : (e o : Triple) → length (headBytes e o) ≡ 12
 unfolding headBytes bytes
 length-head e o = refl
 
-pub length-bitmap : (m : List ℕ) → length (bitmap m) ≡ bitmapLength (length m)
-unfolding bitmap
-length-bitmap m = length-tabulate (bitmapLength (length m)) (mapByte m)
-
-pub length-encode : (e o : Triple) (m : List ℕ) → length (encodeRecord e o m) ≡ 12 + bitmapLength (length m) + length (listed m)
+pub encode-length : (e o : Triple) (m : List ℕ) → length (encodeRecord e o m) ≡ 12 + bitmapLength (length m) + length (listed m)
 unfolding encodeRecord
-length-encode e o m = rw (length-append, length-append, length-head e o, length-bitmap m)
+encode-length e o m = rw (length-append, length-append, length-head e o, length-bitmap m)
 
 -- A number that is 0 is not listed, and another takes four bytes.
 pub listed-zero : (v : ℕ) → v ≡ 0 → listed (v ∷ []) ≡ []

@@ -10,24 +10,22 @@ use lib.ListN.{length, getD, take, drop, length-append, length-take, length-drop
 use lib.Seq.{getD-append-add, getD-take, getD-drop, take-length, take-all, take-add, drop-drop, drop-at, ext-getD}
 use borrow.Author.Tests.{eqb-true, eqb-false, ne-eqb, ltb-true, ltb-false}
 use Rattle.lists.proofs.Cases.{by-test}
+use Rattle.lists.proofs.Tests.{some-none, none-some}
 use Rattle.closure.specs.Numbered.{countBelow}
 use Rattle.closure.proofs.Numbers.{count-same, Nth, nth-passes}
 use Rattle.cells.specs.Box.{Triple, Axis, coord, triple, X, Y, Z}
 use Rattle.cells.specs.Grid.{cells}
-use Rattle.labels.specs.Components.{ofOrder}
+use Rattle.labels.specs.Components.{ofOrder, blankVoxel}
 use Rattle.labels.proofs.ComponentLaws.{of-order-out}
 use Rattle.records.specs.Fields.{bytes, fieldAt}
-use Rattle.records.specs.Record.{headBytes, bit, mapByte, bitmapLength, bitmap, listed, encodeRecord, extentsOf, originOf, bitAt, standing, numberOf, decodeRecord, blankVoxel, lengthOf, damaged}
+use Rattle.records.specs.Record.{headBytes, bit, mapByte, bitmapLength, bitmap, listed, encodeRecord, extentsOf, originOf, bitAt, standing, numberOf, decodeRecord, lengthOf, damaged}
 use Rattle.records.proofs.FieldLaws.{EntriesBelow, below-nil, below-append, below-bytes, value-two, value-four, bytes-field, byte-bits}
 use Rattle.records.proofs.ReadLaws.{by-bit, number-off, number-on, standing-off, standing-on, standing-mono, length-decode, decode-at, bit-at-byte}
-use Rattle.records.proofs.DamageLaws.{some-none, none-some, Whole, whole-damaged, damaged-whole}
+use Rattle.records.proofs.DamageLaws.{Whole, whole-damaged, damaged-whole}
 use Rattle.records.proofs.MapLaws.{by-zero, bit-zero, bit-one, map-byte-bit, map-byte-lt, length-bitmap, bitmap-at, below-bitmap, listed-suc, listed-zero, listed-one, below-listed, listed-split, shown, listed-place}
+use Rattle.records.proofs.LaidLaws.{length-head, encode-length}
 
 -- ---- what was written reads back
-
-length-head : (e o : Triple) → length (headBytes e o) ≡ 12
-unfolding headBytes bytes
-length-head e o = refl
 
 -- Numbers in two bytes each.
 twos : List ℕ → List ℕ
@@ -74,15 +72,11 @@ module _ (e o : Triple) (m : List ℕ) where
   unfolding standing
   encode-standing c h = count-same (λ d. eqb (bitAt (encodeRecord e o m) d) 1) (shown m) c (λ d l. rw (encode-bits d (omega arith)))
 
-  pub encode-length : length (encodeRecord e o m) ≡ 12 + bitmapLength (length m) + length (listed m)
-  unfolding encodeRecord
-  encode-length = rw (length-append, length-append, length-head, length-bitmap)
-
   pub encode-length-of : length (encodeRecord e o m) ≡ lengthOf (length m) (encodeRecord e o m)
   unfolding lengthOf
   encode-length-of =
       let l : length (listed m) ≡ 4 * countBelow (shown m) (length m) = rw (take-length m) at (listed-place m (length m) (omega arith)) in
-      omega (arith, encode-length, encode-standing (length m) (omega arith))
+      omega (arith, encode-length e o m, encode-standing (length m) (omega arith))
 
   -- the place of the number of cell c, where it is listed
   pub encode-place : (c : ℕ) → c < length m → (getD m c 0 ≡ 0 → ⊥) → getD m c 0 < 4294967296
@@ -129,7 +123,7 @@ module _ (e o : Triple) (m : List ℕ) where
         spared = λ c h l. encode-spare c (omega arith) (rw s l);
         voxels = λ c k.
             let l = of-order-out e 3 k in
-            encode-bits c (omega arith) ∙ bit-one (getD m c 0) (eqb-false (getD m c 0) 0 (none-some (λ p. eqb (getD m p 0) 0) (ofOrder e 3) v k));
+            encode-bits c (omega arith) ∙ bit-one (getD m c 0) (eqb-false (getD m c 0) 0 (some-none (λ p. eqb (getD m p 0) 0) (ofOrder e 3) v k));
         nonzero = rw (← s) (encode-nonzero b);
       }
 
@@ -221,7 +215,7 @@ unfolding blankVoxel
 decode-voxels r d =
     let e : Triple = extentsOf r in
     let w : Whole e r = damaged-whole e r d in
-    some-none (λ p. eqb (getD (decodeRecord (cells e) r) p 0) 0) (ofOrder e 3)
+    none-some (λ p. eqb (getD (decodeRecord (cells e) r) p 0) 0) (ofOrder e 3)
     (λ p k. let l = of-order-out e 3 k in rw (decode-at (cells e) r p (l .0)) (ne-eqb (numberOf (cells e) r p) 0 (number-listed e r w p (l .0) (w .voxels p k))))
 
 -- ---- two accepted records are told apart by extents, origin and map

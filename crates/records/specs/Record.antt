@@ -1,11 +1,11 @@
 -- The block record (document 01, "Block record").
 -- Assumes nothing.
-use mathlib.Core.Bool.{Bool, false, cond, not, _||_}
+use mathlib.Core.Bool.{Bool, cond, not, _||_}
 use mathlib.Core.List.{List, [], _∷_, _++_, map}
 use Prim.Native.Nat.{ℕ, _+_, _-_, _*_, _/_, _%_, _^_}
 use lib.Dec.{eqb}
 use lib.ListN.{length, getD, take, drop}
-use Rattle.lists.specs.Lists.{consecutive, tabulate}
+use Rattle.lists.specs.Lists.{consecutive, tabulate, someOf}
 use Rattle.closure.specs.Numbered.{countBelow}
 use Rattle.cells.specs.Box.{Triple, triple}
 use Rattle.cells.specs.Grid.{cells}
@@ -67,15 +67,6 @@ decodeRecord n r = tabulate n (numberOf n r)
 
 -- ---- the cases of the refusals
 
--- Some entry of a list passes a test.
-unfoldable pub some : (ℕ → Bool) → List ℕ → Bool
-some f [] = false
-some f (x ∷ xs) = f x || some f xs
-
--- Refusal 8: "a map has 0 at a voxel".
-unfoldable pub blankVoxel : Triple → List ℕ → Bool
-blankVoxel e m = some (λ p. eqb (getD m p 0) 0) (ofOrder e 3)
-
 -- "The length is 12 + ceil(cells/8) + 4 × (standing bits)."
 unfoldable pub lengthOf : ℕ → List ℕ → ℕ
 lengthOf n r = 12 + bitmapLength n + 4 * standing r n
@@ -84,6 +75,6 @@ lengthOf n r = 12 + bitmapLength n + 4 * standing r n
 unfoldable pub damaged : Triple → List ℕ → Bool
 damaged e r =
     not (eqb (length r) (lengthOf (cells e) r)) ||
-    (some (λ c. eqb (bitAt r c) 1) (consecutive (cells e) (8 * bitmapLength (cells e) - cells e)) ||
-    (some (λ c. eqb (bitAt r c) 0) (ofOrder e 3) ||
-    some (λ k. eqb (fieldAt r (12 + bitmapLength (cells e) + 4 * k) 4) 0) (consecutive 0 (standing r (cells e)))))
+    (someOf (λ c. eqb (bitAt r c) 1) (consecutive (cells e) (8 * bitmapLength (cells e) - cells e)) ||
+    (someOf (λ c. eqb (bitAt r c) 0) (ofOrder e 3) ||
+    someOf (λ k. eqb (fieldAt r (12 + bitmapLength (cells e) + 4 * k) 4) 0) (consecutive 0 (standing r (cells e)))))

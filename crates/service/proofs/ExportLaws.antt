@@ -30,13 +30,13 @@ use Rattle.joiner.specs.Calls.{Call, reading, answer}
 use Rattle.joiner.specs.Entries.{CallStep}
 use Rattle.job.specs.declared.Job.{Job}
 use Rattle.job.specs.declared.Stage.{Stage}
-use Rattle.job.specs.Jobs.{anyCuts, jobOf, stateOf}
+use Rattle.job.specs.Jobs.{anyCuts, jobOf, stateOf, anyTables}
 use Rattle.job.specs.Lent.{rowLent}
 use Rattle.job_numbers.specs.Numbers.{jobIn, keptNumbers}
 use Rattle.totals.specs.declared.Totals.{Totals}
 use Rattle.strain_calls.specs.Tables.{TotalTables}
 use Rattle.strain_calls.specs.Entries.{StrainPromise, TotalPromise}
-use Rattle.exports.specs.Exports.{ExportedStep, ExportedLookup, ExportedStrain, ExportedTotal, RowExported, anyTables, sixOf}
+use Rattle.exports.specs.Exports.{ExportedStep, ExportedLookup, ExportedStrain, ExportedTotal, RowExported, sixOf}
 
 pub label-exported : (r : Labelled) (m w c c′ : List ℕ) (o : Outcome) → outcome r m w ≡ o → c′ ≡ storedCounts (r .refusal) (r .faces) (r .curves) (r .points) c
     → exported (r .refusal) m w c′ ≡ export o c

@@ -4,8 +4,8 @@ use job::Job;
 use job::Stage;
 use job_numbers::job_in;
 use job_numbers::keep;
-use judge::at;
 use labeller::label;
+use lists::read_or_zero;
 use maxima::most_components;
 use methods::Joining;
 use reader::read_record;
@@ -15,7 +15,7 @@ ghost use mathlib.Core.Path.{_≡_};
 ghost use Rattle.joiner.specs.Job.{Face, Curve, Point};
 ghost use Rattle.joiner.specs.Calls.{enrol, join, cross, point, look};
 ghost use Rattle.job.specs.declared.Stage.{Stage};
-ghost use Rattle.job.specs.Jobs.{toldBy, tablesOf};
+ghost use Rattle.job.specs.Jobs.{toldBy, tablesOf, anyTables};
 ghost use Rattle.job.specs.Lent.{crossLent, enrolLent, lookLent, pointLent, seamLent};
 ghost use Rattle.strain_calls.specs.Tables.{totalTables};
 ghost use Rattle.cells.specs.Box.{triple};
@@ -25,7 +25,7 @@ ghost use Rattle.reader.specs.Reading.{reading};
 ghost use Rattle.maxima.specs.Maxima.{mostComponents};
 ghost use Rattle.service.specs.Exports.{exported, export, exportedMost, exportMost, exportedWriting, exportWriting, exportedReading, exportReading};
 ghost use Rattle.job_numbers.specs.Numbers.{jobIn};
-ghost use Rattle.exports.specs.Exports.{anyTables, ExportedOpening, ExportedStep, ExportedLookup, ExportedStrain, ExportedTotal, RowExported, sixOf};
+ghost use Rattle.exports.specs.Exports.{ExportedOpening, ExportedStep, ExportedLookup, ExportedStrain, ExportedTotal, RowExported, sixOf};
 ghost use Rattle.reading_row.specs.Inner.{kindOf};
 
 // Labels a block; answers the refusal, 0 for none, and stores how many faces, curves and points there are.
@@ -518,12 +518,12 @@ fn six(part: &[u32]) -> [u32; 6]
     ensures { λ r. ⌜ r ≡ sixOf (now (part .entry)) ⌝ }
 {
     [
-        at(part, 0),
-        at(part, 1),
-        at(part, 2),
-        at(part, 3),
-        at(part, 4),
-        at(part, 5),
+        read_or_zero(part, 0),
+        read_or_zero(part, 1),
+        read_or_zero(part, 2),
+        read_or_zero(part, 3),
+        read_or_zero(part, 4),
+        read_or_zero(part, 5),
     ]
 }
 

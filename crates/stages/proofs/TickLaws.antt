@@ -1,6 +1,6 @@
 -- A stage is finished exactly when the walk over its blocks says so.
 -- Assumes nothing.
-use mathlib.Core.Bool.{Bool, _&&_, false, true, true≢false}
+use mathlib.Core.Bool.{Bool, _&&_, false, true}
 use mathlib.Core.List.{List, List·Memᴰ, List·Memᴰ·head, List·Memᴰ·not-nil, Memᴰ·map, Memᴰ·of-map, [], _∷_, map}
 use mathlib.Core.Logic.{_≢_}
 use mathlib.Core.Path.{_∙_, _≡_, ap, ap₂, refl, sym}
@@ -18,7 +18,7 @@ use Rattle.joiner.specs.Job.{Crossing, Enrol, Points, Seam, column, ticksPerBlo
 use Rattle.joiner.specs.Stages.{crossingStep, enrolStep, finished, pointStep, products, seamAxis, seamStep, seams, stepsOf}
 use Rattle.layers.specs.Layers.{axisOf}
 use Rattle.stages.specs.Ticks.{axisNumber, hasNext, seamTicked, seamsTicked, seamsTickedTo, tickedTo}
-use Rattle.lists.proofs.Cases.{and-both, and-first, and-second, by-test}
+use Rattle.lists.proofs.Cases.{and-both, and-first, and-second, by-test, same-test}
 use Rattle.lists.proofs.Lists.{consecutive-in, consecutive-out, keep-in, keep-out}
 use Rattle.lists.proofs.Tests.{all-in, all-out, implied, implies}
 use Rattle.cells.proofs.BoxLaws.{Inside, place-inside, raised}
@@ -29,10 +29,6 @@ use Rattle.joiner.proofs.Progress.{some-block}
 use Rattle.joiner.proofs.SeamSteps.{axis-bound, seam-in}
 use Rattle.joiner.proofs.Shared.{products-in, seam-listed}
 use Rattle.layers.proofs.LayerLaws.{Follows, seam-follows, stepOn}
-
-same-truth : (s t : Bool) → (s ≡ true → t ≡ true) → (t ≡ true → s ≡ true) → s ≡ t
-same-truth true t f g = sym (f refl)
-same-truth false t f g = by-test t (λ e. absurd (true≢false (sym (g e)))) (λ e. sym e)
 
 -- ---- one step for each block
 
@@ -52,7 +48,7 @@ ticked-all f column (suc n) h = and-both (tickedTo f column n) (f (ticksPerBlock
 -- the steps of all blocks in one column
 column-ticked : (f : ℕ → Bool) (g : ℕ → ℕ) (column n : ℕ) → ((b : ℕ) → g b ≡ ticksPerBlock * b + column) → allOf f (map g (consecutive 0 n)) ≡ tickedTo f column n
 column-ticked f g column n e =
-    same-truth _ _
+    same-test _ _
     (λ t. ticked-all f column n (λ b h. ap f (sym (e b)) ∙ all-out f (map g (consecutive 0 n)) t (Memᴰ·map g (consecutive-in 0 n (omega arith) (omega (arith, h))))))
     (λ t. all-in f (map g (consecutive 0 n)) (λ i m. let r = Memᴰ·of-map g (consecutive 0 n) m in ap f (sym (r .2) ∙ e (r .0)) ∙ ticked-at f column n t (r .0) (omega (arith, consecutive-out 0 n (r .1)))))
 
@@ -170,7 +166,7 @@ axes-out k f b e Z = and-second (seamTicked k f b Y) (seamTicked k f b Z) (and-s
 
 pub seam-finished : (k : Cutting) (f : ℕ → Bool) → finished k f Seam ≡ seamsTickedTo k f (blocks k)
 unfolding finished stepsOf
-seam-finished k f = same-truth _ _ there back
+seam-finished k f = same-test _ _ there back
   where
     there : allOf f (map (seamStep k) (seams k)) ≡ true → seamsTickedTo k f (blocks k) ≡ true
     there t =

@@ -1,6 +1,6 @@
 -- The ways of the functions that open a job, over plain lists and numbers.
 -- Assumes nothing.
-use mathlib.Core.Path.{_≡_, refl, sym, ap, _∙_}
+use mathlib.Core.Path.{_≡_, refl, sym, _∙_}
 use mathlib.Core.Bool.{Bool, false, not, _&&_}
 use mathlib.Core.List.{List, map}
 use Prim.Native.Nat.{ℕ, _≤_}
@@ -13,14 +13,12 @@ use Rattle.cutting.specs.Cutting.{Cutting, blocks, goodCut, mostBlocks, FewBloc
 use Rattle.joiner.specs.Job.{Kind, Told, Tables, lengthsFit}
 use Rattle.joiner.specs.Entries.{allTrays}
 use Rattle.strains.specs.Units.{plusZero}
-use Rattle.blocks.proofs.BlockLaws.{good-few}
-use Rattle.blocks.proofs.CodeLaws.{blocks-are}
 use Rattle.job.specs.declared.Job.{Job}
 use Rattle.job.specs.Jobs.{toldBy, toldOf, freshJob, stateOf, NoJob}
 use Rattle.job.proofs.JobLaws.{fresh-of}
 use Rattle.judge.specs.declared.Lengths.{Lengths}
 use Rattle.judge.specs.Judge.{lengthsOf}
-use Rattle.judge.proofs.JudgeLaws.{all-is}
+use Rattle.judge.proofs.JudgeLaws.{all-is, few-of, count-few}
 use Rattle.strain_calls.specs.Tables.{TotalTables, totalTables, totalTrays, zeroed}
 use Rattle.strain_calls.specs.Declines.{openingDeclines, openingRefusal}
 use Rattle.strain_calls.specs.Entries.{TotalsOpening}
@@ -44,10 +42,10 @@ module _ (o : Told) (t : Tables) (w : TotalTables) where
 -- what `block_count` and `tables_fit` require
 module _ (k : Cutting) (s : Bool) (f : s ≡ goodCut k) (q : not s ≡ false) where
   pub few : FewBlocks (k .cx) (k .cy) (k .cz)
-  few = good-few k (sym f ∙ not-false s q)
+  few = few-of k (sym f ∙ not-false s q)
 
   pub few-blocks : (b : ℕ) → b ≡ blocks k → b ≤ mostBlocks
-  few-blocks b e = rw (e, blocks-are k) few
+  few-blocks = count-few k (sym f ∙ not-false s q)
 
 -- what `tables_fit` answers, told the number of blocks
 pub fitting-of : (k : Cutting) (n : Kind → ℕ) (z : Lengths) (came sums counts : ℕ) (u : Bool) (b : ℕ) → b ≡ blocks k → u ≡ tablesFit b n z came sums counts

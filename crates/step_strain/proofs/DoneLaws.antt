@@ -1,7 +1,7 @@
 -- What an accepted readings' step has passed, and that what it leaves is what the definition asks for.
 -- Assumes nothing.
 use mathlib.Core.Path.{_≡_, refl, sym, _∙_, ap}
-use mathlib.Core.Bool.{Bool, true, false, not, cond}
+use mathlib.Core.Bool.{Bool, true}
 use mathlib.Core.List.{List}
 use Prim.Native.Nat.{ℕ, _<_}
 use native.Mathlib.Omega.{arith}
@@ -15,7 +15,7 @@ use Rattle.job.specs.declared.Job.{Job}
 use Rattle.job.specs.Jobs.{jobOf, toldOf, stateOf}
 use Rattle.judge.specs.declared.Entry.{Entry}
 use Rattle.judge.specs.Judge.{reachedOf, entryOf}
-use Rattle.judge.proofs.JudgeLaws.{reached-passed, FirstTests, or-none}
+use Rattle.judge.proofs.JudgeLaws.{reached-passed, FirstTests, or-none, six-passed}
 use Rattle.totals.specs.Totals.{sumsWith, countsWith}
 use Rattle.lowest.specs.Lowest.{starts, startOf}
 use Rattle.lowest.specs.declared.Start.{Start}
@@ -54,10 +54,6 @@ module _ (j : Job) (cx cy cz came : List ℕ) (sums : List Float) (counts : List
   stored-is good hb = rw (block-adds k good b hb t m values kinds, from-is)
 
 -- ---- the entry
-
-six-passed : (a : Bool) (x : ℕ) → _≡_ {A = ℕ} (cond (not a) 6 x) 0 → a ≡ true
-six-passed true x h = refl
-six-passed false x h = absurd (omega arith)
 
 module _ (j : Job) (cx cy cz lent-blocks lent-numbers came : List ℕ) (sums : List Float) (counts : List ℕ) (b : ℕ) (m : List ℕ) (values : List Float) (kinds : List ℕ) (n : ℕ)
     (e : n ≡ refusalOf (jobOf j cx cy cz) lent-blocks lent-numbers (totalTables came sums counts) b m values kinds) where

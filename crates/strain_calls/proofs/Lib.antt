@@ -1,3 +1,4 @@
 -- The laws of the definitions in specs/.
 pub mod OpeningLaws
 pub mod ListedLaws
+pub mod HeldLaws

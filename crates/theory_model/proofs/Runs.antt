@@ -26,7 +26,7 @@ pub model-measured : (o : Told) (lent : Tables) (own : ℕ → List ℕ) (cs : L
     → ((b : ℕ) → b < blocks (o .cutting) → Labelling (blockExtents (o .cutting) b) (own b)) → Fair own (written (openedState o lent) cs)
     → Measured own (begun o) (written (openedState o lent) cs)
 model-measured o lent own cs e lab fair =
-    statement3 o lent (openedState o lent) own (written (openedState o lent) cs) (model-opens o lent .opened e) lab (model-run (openedState o lent) cs) fair
+    statement3 o lent (openedState o lent) own (written (openedState o lent) cs) (model-opens o lent .1 e) lab (model-run (openedState o lent) cs) fair
 
 -- ---- lists that bring the blocks' maps
 

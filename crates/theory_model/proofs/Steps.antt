@@ -12,18 +12,18 @@ use borrow.Author.Tests.{eqb-false, eqb-true}
 use Rattle.lists.specs.Lists.{overlay}
 use Rattle.cells.specs.Grid.{order}
 use Rattle.cutting.specs.Cutting.{Cutting, blockExtents, blocks}
-use Rattle.joiner.specs.Job.{Kind, Face, Curve, Point, orderOf, Stage, Points, Closed, sameStage, stageNumber, Told, Tables, State, ticked, blockTrays, linkTrays, foundTrays, numberTrays, firstTrays, listedTrays, kindTrays, firstAt}
+use Rattle.joiner.specs.Job.{Kind, Face, Curve, Point, orderOf, Stage, Points, Closed, sameStage, Told, Tables, State, ticked, blockTrays, linkTrays, foundTrays, numberTrays, firstTrays, listedTrays, kindTrays, firstAt}
 use Rattle.joiner.specs.Stages.{nextAfter}
 use Rattle.joiner.specs.Calls.{Call, enrol, join, cross, point, look, reading}
 use Rattle.joiner.specs.Declines.{adds, mapStands, refusal, lentTo}
-use Rattle.joiner.specs.Entries.{AtCrossing, AtSeam, CrossingDone, Done, EnrolDone, Merged, NumberedKind, Opening, PointDone, SeamDone, CallStep, openRefusal, nothing, heads, leads, isOne, classOf, notAfter, rank, headOf, rowAt, rowFinal, finalFace}
+use Rattle.joiner.specs.Entries.{AtCrossing, AtSeam, CrossingDone, Done, EnrolDone, Merged, NumberedKind, Opened, Unopened, PointDone, SeamDone, CallStep, openRefusal, nothing, heads, leads, isOne, classOf, notAfter, rank, headOf, rowAt, rowFinal, finalFace}
 use Rattle.lists.proofs.Cases.{and-first, and-second, by-test, picked}
 use Rattle.cells.proofs.GridLaws.{upper-neighbour}
 use Rattle.union_find.proofs.LinkLaws.{rooted-refl}
 use Rattle.labels.proofs.ComponentLaws.{of-order-out}
 use Rattle.cutting.proofs.CutLaws.{embed-order}
 use Rattle.joiner.proofs.Shared.{seam-listed, shared-out}
-use Rattle.joiner.proofs.Passed.{stage-same, Passed, Standing, curves-stand, faces-stand, passed, fits-at, node-in, points-room, tally-fits}
+use Rattle.joiner.proofs.Passed.{Passed, Standing, curves-stand, faces-stand, passed, fits-at, node-in, points-room, tally-fits, is-stage, not-stage}
 use Rattle.joiner.proofs.Kept.{found-kept, numbers-kept}
 use Rattle.theory_model.specs.Model.{after, answerOf, cleared, crossEdges, crossLast, crossTables, crossed, enrolTables, freshJob, acceptedAnswer, instead, acceptedState, moved, numberKind, openedState, pointLast, pointTables, pointed, relinked, seamEdges, seamTables}
 use Rattle.theory_model.proofs.Merging.{relinked-merged}
@@ -89,17 +89,6 @@ module _ (s : State) (b c : ℕ) (m n : List ℕ) (F : Passed s (join b c m n)) 
         found = λ κ. found-kept refl;
         numbers = λ κ. numbers-kept refl refl;
       }
-
--- ---- the last of a stage
-
--- a test of stages
-is-stage : (s t : Stage) → sameStage s t ≡ true → s ≡ t
-unfolding sameStage
-is-stage s t e = stage-same s t (eqb-true _ _ e)
-
-not-stage : (s t : Stage) → sameStage s t ≡ false → s ≢ t
-unfolding sameStage
-not-stage s t e q = eqb-false (stageNumber s) (stageNumber t) e (ap stageNumber q)
 
 -- ---- crossing
 
@@ -274,27 +263,23 @@ model-step s c =
     (λ t. rw t (record { told = refl; declined = λ _. (refl, refl); accepted = λ e. absurd (eqb-false (refusal s c) 0 t e) }))
 
 -- .. and every opening.
-pub model-opens : (o : Told) (lent : Tables) → Opening o lent (openRefusal o lent) (openedState o lent)
+pub model-opens : (o : Told) (lent : Tables) → (openRefusal o lent ≢ 0 → Unopened o lent (openedState o lent)) × (openRefusal o lent ≡ 0 → Opened o lent (openedState o lent))
 unfolding openedState freshJob cleared nothing
 model-opens o lent =
     by-test (eqb (openRefusal o lent) 0)
     (λ t.
     let e : openRefusal o lent ≡ 0 = eqb-true (openRefusal o lent) 0 t in
-    rw t
-    (record {
-      told = refl;
-      declined = λ n. absurd (n e);
-      opened = λ _. record {
+    rw t (
+      λ n. absurd (n e),
+      λ _. record {
         accepted = e;
         told = refl;
         fresh = record { stage = refl; sofar = λ κ. refl; numbered = λ κ. refl };
         tables = record { ticks = refl; blocks = refl; links = λ κ. refl; keys = λ κ. refl; rows = λ κ. refl; numbers = λ κ. refl; firsts = λ κ. refl; listed = λ κ. refl };
-      };
-    }))
+      },
+    ))
     (λ t.
-    rw t
-    (record {
-      told = refl;
-      declined = λ _. record { extents = refl; entries = λ κ. refl; fresh = record { stage = refl; sofar = λ κ. refl; numbered = λ κ. refl }; tables = refl };
-      opened = λ e. absurd (eqb-false (openRefusal o lent) 0 t e);
-    }))
+    rw t (
+      λ _. record { extents = refl; entries = λ κ. refl; fresh = record { stage = refl; sofar = λ κ. refl; numbered = λ κ. refl }; tables = refl },
+      λ e. absurd (eqb-false (openRefusal o lent) 0 t e),
+    ))

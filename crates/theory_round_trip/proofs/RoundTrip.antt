@@ -9,16 +9,18 @@ use lib.Dec.{eqb, leb, ltb}
 use lib.ListN.{length, take, drop}
 use lib.Seq.{take-at}
 use borrow.Author.Tests.{eqb-true, eq-eqb, le-leb, le-ltb, leb-true, ltb-false, not-false}
+use Rattle.labels.specs.Components.{blankVoxel}
 use Rattle.lists.proofs.Cases.{by-test, neither}
 use Rattle.refusals.specs.Refusals.{off-size, wrong-tray, stray-label, bad-record, number, table, first, givenBy, standsIn}
 use Rattle.refusals.proofs.RefusalLaws.{given-none}
 use Rattle.cells.specs.Box.{Triple, Axis, coord}
 use Rattle.cells.specs.Extents.{offPlace}
 use Rattle.cells.specs.Grid.{cells}
-use Rattle.records.specs.Record.{encodeRecord, extentsOf, originOf, decodeRecord, damaged, blankVoxel}
+use Rattle.records.specs.Record.{encodeRecord, extentsOf, originOf, decodeRecord, damaged}
 use Rattle.records.proofs.FieldLaws.{EntriesBelow}
 use Rattle.records.proofs.ReadLaws.{length-decode}
-use Rattle.records.proofs.RoundTrip.{encode-extents, encode-origin, encode-length, decode-encoded, encode-whole, encode-decode, decode-voxels}
+use Rattle.records.proofs.RoundTrip.{encode-extents, encode-origin, decode-encoded, encode-whole, encode-decode, decode-voxels}
+use Rattle.records.proofs.LaidLaws.{encode-length}
 use Rattle.writer.specs.declared.Written.{Written}
 use Rattle.writer.specs.Writing as w
 use Rattle.reader.specs.declared.Head.{Head}

@@ -1,9 +1,9 @@
 -- A closed job shows the faces of the uncut volume, so its totals are those of the uncut faces.
 -- Assumes nothing.
-use mathlib.Core.Path.{_≡_, refl, sym, ap, ap₂, _∙_, subst}
+use mathlib.Core.Path.{_≡_, refl, sym, ap, _∙_, subst}
 use mathlib.Core.Bool.{true, false, not, true≢false}
 use mathlib.Core.Logic.{_≢_}
-use mathlib.Core.List.{List, [], _∷_, _++_, map, List·Memᴰ, List·Memᴰ·head, List·Memᴰ·tail}
+use mathlib.Core.List.{List, [], _∷_, _++_, List·Memᴰ, List·Memᴰ·head, List·Memᴰ·tail}
 use Prim.Native.Nat.{ℕ, suc, _+_, _-_, _*_, _≤_, _<_, _^_}
 use native.Mathlib.Omega.{arith}
 use lib.Dec.{eqb, ltb}
@@ -16,7 +16,7 @@ use Rattle.lists.proofs.Lists.{length-keep, length-consecutive}
 use Rattle.cells.specs.Box.{Triple, index, place}
 use Rattle.cells.specs.Extents.{offSize}
 use Rattle.cells.specs.Grid.{sides, cells, order, upperNeighbours, voxel}
-use Rattle.cells.specs.Row.{rowOf, row, occupied, active}
+use Rattle.cells.specs.Row.{rowOf, row, occupied, active, numbersAt}
 use Rattle.cells.proofs.BoxLaws.{index-place}
 use Rattle.cells.proofs.GridLaws.{Upper, upper-neighbour, length-up, voxel-inside}
 use Rattle.cells.proofs.RowFacts.{row-alike}
@@ -47,7 +47,7 @@ use Rattle.pass_strain.proofs.AddingLaws.{final-is}
 use Rattle.theory_totals.specs.Volume.{Parted, Shows, broughtTo, volumeTaken, sumsOver, countsOver}
 use Rattle.theory_totals.proofs.OwnCells.{lowest-true}
 use Rattle.theory_totals.proofs.SlotLaws.{kind-few}
-use Rattle.theory_totals.proofs.OrderLaws.{total-exact, total-counted, total-whole}
+use Rattle.theory_totals.proofs.OrderLaws.{total-exact, total-counted}
 use Rattle.theory_totals.proofs.SideLaws.{side-whole}
 use Rattle.theory_totals.proofs.StandingLaws.{stands-sofar, stands-past, over-lengths}
 
@@ -79,12 +79,9 @@ parted e m L p hp o z =
       one = code (w .0) (subst (List·Memᴰ (w .0)) (sym (w .2)) (List·Memᴰ·head refl));
       two = code (w .1) (subst (List·Memᴰ (w .1)) (sym (w .2)) (List·Memᴰ·tail (List·Memᴰ·head refl)));
       apart = λ s. active-first e m p t
-          (ap (λ (l : List ℕ). getD (rowOf (numbersAt l)) 0 0) (w .2) ∙ ap (λ (x : ℕ). getD (rowOf (getD m (w .0) 0 ∷ x ∷ [])) 0 0) (sym s) ∙ alike-none (getD m (w .0) 0));
+          (ap (λ (l : List ℕ). getD (rowOf (numbersAt m l)) 0 0) (w .2) ∙ ap (λ (x : ℕ). getD (rowOf (getD m (w .0) 0 ∷ x ∷ [])) 0 0) (sym s) ∙ alike-none (getD m (w .0) 0));
     }
   where
-    numbersAt : List ℕ → List ℕ
-    numbersAt l = map (λ q. getD m q 0) l
-
     pos-of : getD (labels e (L .codes)) p 0 ≡ getD m p 0 → 0 < getD (labels e (L .codes)) p 0
     pos-of f = omega arith
 
@@ -189,21 +186,6 @@ module _ (o : Told) (own : ℕ → List ℕ) (ext : offSize 1024 (o .cutting .ex
         → getD (countsOver k g counts bs) (3 * slotOf n side + j) 0 ≡ ofKind j (readingsFor (slotOf n side) (volumeTaken k g))
     table-counted j hj counts h z =
         total-counted k good g bs all (slotOf n side) j hj counts h z (omega (arith, kind-few j (readingsFor (slotOf n side) (volumeTaken k g)), few n, table-whole n side hn hs))
-
-    -- "Once all blocks have come, strains, clipped and missing together are twice the face's cells": once for each side.
-    pub table-together : (counts : List ℕ) → 3 * slotOf n side + 2 < length counts → ((j : ℕ) → j ≤ 2 → getD counts (3 * slotOf n side + j) 0 ≡ 0)
-        → getD (countsOver k g counts bs) (3 * slotOf n side + 0) 0 + getD (countsOver k g counts bs) (3 * slotOf n side + 1) 0 + getD (countsOver k g counts bs) (3 * slotOf n side + 2) 0
-        ≡ length (component (k .extents) (uncut B) 2 n)
-    table-together counts h z =
-        ap₂ _+_ (ap₂ _+_ (table-counted 0 (omega arith) counts (omega arith) (z 0 (omega arith))) (table-counted 1 (omega arith) counts (omega arith) (z 1 (omega arith)))) (table-counted 2 (omega arith) counts (omega arith) (z 2 (omega arith)))
-        ∙ total-whole k good g bs all (slotOf n side)
-        ∙ table-whole n side hn hs
-
-  -- "For any order of blocks": two orders leave the same sum.
-  module _ (bs cs : List ℕ) (one : Reordered bs (consecutive 0 (blocks k))) (two : Reordered cs (consecutive 0 (blocks k))) (n side : ℕ) (hn : 0 < n) (hs : side ≤ 1) where
-    pub table-order : (sums : List Float) → slotOf n side < length sums → getD sums (slotOf n side) plusZero ≡ plusZero → allOf isGood (readingsFor (slotOf n side) (volumeTaken k g)) ≡ true
-        → getD (sumsOver k g sums bs) (slotOf n side) plusZero ≡ getD (sumsOver k g sums cs) (slotOf n side) plusZero
-    table-order sums h z ok = table-exact bs one n side hn hs sums h z ok ∙ sym (table-exact cs two n side hn hs sums h z ok)
 
   -- While the readings come, in any order, every side of every face stands, so that 8 is not given for a total.
   module _ (came rest : List ℕ) (all : Reordered (came ++ rest) (consecutive 0 (blocks k))) (entries : ℕ) (sums : List Float) (counts : List ℕ) (ls : length sums ≡ 2 * entries) (lc : length counts ≡ 6 * entries)

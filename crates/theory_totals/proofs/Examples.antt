@@ -18,7 +18,7 @@ use Rattle.cells.specs.Extents.{isExtent, offSize}
 use Rattle.cells.specs.Grid.{sides, cells, parity, order, voxelCell, voxel, along, upperNeighbours}
 use Rattle.cells.specs.Row.{rowOf, row, occupied, active}
 use Rattle.labels.specs.Number.{pairs, alike, edgesAt, orderBelow, edges, activeOf, number as Number·number, numberedAt, numbered, codeAt, mapDown, labels}
-use Rattle.labels.specs.Components.{ofOrder, largest, component}
+use Rattle.labels.specs.Components.{ofOrder, largest, component, blankVoxel}
 use Rattle.cutting.specs.Cutting.{Cutting, ascends, cutList, intervals, lowEnd, highEnd, blockSides, blocks, goodCut, interval, origin, blockExtents, embed}
 use Rattle.joiner.specs.Job.{Face, Curve, Point, Closed, State, sameStage, countOf, fromOf, node, lengthsFit, numberTrays}
 use Rattle.joiner.specs.Stages.{hasOn, hasCell, local, lowestBlock, codeIn, codesOf}
@@ -93,7 +93,7 @@ fresh = zeroed (totalTables (7 ∷ 7 ∷ []) (nan ∷ nan ∷ nan ∷ nan ∷ []
 
 -- What a call is refused with.
 unfoldable pub refused : TotalTables → StrainCall → ℕ
-unfolding add consecutive tabulate zeros number table first givenBy standsIn stride volume index place isExtent offSize sides cells parity order voxel along upperNeighbours rowOf row ofOrder largest component ascends cutList intervals lowEnd highEnd blockSides blocks goodCut interval origin blockExtents embed sameStage countOf fromOf node lengthsFit numberTrays hasOn hasCell local lowestBlock tallyFits talliesFit filled counted standing mapStands numberStands finalOf isUnits unitsOf floatOf isGood sumWith unitsIn unitsSum kindOf ofKind slotOf after sumAdded sumsWith more countAdded countsWith readingOf readingAt fitsAt readingsFit sideAt givenSide totalsOf sideStands standsAt bothStand totalTrays zeroed gathered voxelTaken faceTaken isLowest countedCells cellAdds blockAdds allCome hasCome totalStands faceStands facesStand strainDeclines strainRefusal withReadings onSide sideReadings sideTotals faceTotals readingFrom
+unfolding add consecutive tabulate zeros number table first givenBy standsIn stride volume index place isExtent offSize sides cells parity order voxel along upperNeighbours rowOf row ofOrder largest component ascends cutList intervals lowEnd highEnd blockSides blocks goodCut interval origin blockExtents embed sameStage countOf fromOf node lengthsFit numberTrays hasOn hasCell local lowestBlock tallyFits talliesFit filled counted standing mapStands numberStands finalOf isUnits unitsOf floatOf isGood sumWith unitsIn unitsSum kindOf ofKind slotOf after sumAdded sumsWith more countAdded countsWith readingOf readingAt fitsAt readingsFit sideAt givenSide totalsOf sideStands standsAt bothStand totalTrays zeroed gathered voxelTaken faceTaken isLowest countedCells cellAdds blockAdds allCome hasCome totalStands faceStands facesStand strainDeclines strainRefusal withReadings onSide sideReadings sideTotals faceTotals readingFrom blankVoxel
 refused w c = strainRefusal closed w c
 
 -- The tables after a block's readings.

@@ -22,7 +22,7 @@ use Rattle.lowest.specs.Lowest.{starts}
 use Rattle.pass_strain.specs.Summing.{Brought, blockTaken}
 use Rattle.pass_strain.proofs.TakenLaws.{after-append}
 use Rattle.theory_totals.specs.Volume.{takenBy, takenAt, volumeTaken, sumsOver, countsOver}
-use Rattle.theory_totals.proofs.SlotLaws.{sum-exact, count-at, kinds-all}
+use Rattle.theory_totals.proofs.SlotLaws.{sum-exact, count-at}
 use Rattle.theory_totals.proofs.Reordering.{re-sym, re-same, re-map, re-keep, re-gathered}
 use Rattle.theory_totals.proofs.OwnCells.{own-cells, taken-blocks}
 
@@ -95,7 +95,3 @@ module _ (k : Cutting) (good : goodCut k ≡ true) (g : ℕ → Brought) (bs : L
         ap (λ (xs : List ℕ). getD xs (3 * s + j) 0) (counts-over k g counts bs)
         ∙ count-at s j hj counts (gathered (takenBy k g) bs) h (omega arith)
         ∙ omega arith
-
-  -- strains, clipped and missing together are the readings that went there
-  pub total-whole : (s : ℕ) → ofKind 0 (readingsFor s (volumeTaken k g)) + ofKind 1 (readingsFor s (volumeTaken k g)) + ofKind 2 (readingsFor s (volumeTaken k g)) ≡ length (readingsFor s (volumeTaken k g))
-  total-whole s = kinds-all (readingsFor s (volumeTaken k g))

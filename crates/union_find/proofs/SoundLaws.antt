@@ -3,17 +3,17 @@
 use Prim.Native.Nat.{ℕ, zero, suc, _+_, _-_, _≤_, _<_}
 use native.Mathlib.Decide.{le-ind}
 use native.Mathlib.Omega.{arith}
-use mathlib.Core.Bool.{Bool, true, false, true≢false, _&&_, _||_}
+use mathlib.Core.Bool.{Bool, true, false, true≢false, _&&_}
 use mathlib.Core.Logic.{⊎-elim}
 use mathlib.Core.List.{List}
 use mathlib.Core.Path.{_≡_, refl, sym, ap, _∙_}
 use lib.ListN.{length, getD, List·getD-eq-default}
-use lib.Dec.{eqb, leb}
+use lib.Dec.{leb}
 use borrow.Author.Tests.{leb-true, le-leb, lt-leb, eq-eqb, ne-eqb}
 use Rattle.lists.specs.Lists.{consecutive, allOf, zeros}
 use Rattle.lists.proofs.Cases.{by-test, and-first, and-second, and-both, or-right}
 use Rattle.lists.proofs.Lists.{consecutive-in, consecutive-out, zeros-at}
-use Rattle.lists.proofs.Tests.{all-in, all-out}
+use Rattle.lists.proofs.Tests.{all-in, all-out, test-none, test-passed}
 use Rattle.closure.specs.Trees.{ancestor}
 use Rattle.closure.proofs.Rooted.{same?}
 use Rattle.union_find.specs.Links.{parent, root, soundAt, soundWay, soundFrom, soundBelow, soundRange, stepsWithin, depth, depths, soundWays, Walked}
@@ -149,11 +149,6 @@ module _ (ls : List ℕ) (n : ℕ) where
   below-range g from count h =
       all-in (soundFrom ls) (consecutive from count) (λ x m. below-from g x (omega (arith, consecutive-out from count m)))
 
-module _ (ls : List ℕ) (from n : ℕ) where
-  pub range-from : soundRange ls from n ≡ true → (x : ℕ) → from ≤ x → x < from + n → soundFrom ls x ≡ true
-  unfolding soundRange
-  range-from e x h k = all-out (soundFrom ls) (consecutive from n) e (consecutive-in from n h k)
-
 -- ---- how many steps a way has
 
 module _ (ls : List ℕ) where
@@ -237,26 +232,6 @@ module _ (ls : List ℕ) (x : ℕ) where
 
       pub walk-few : k < x
       walk-few = omega (arith, depth-up ls y moves, d, depth-low ls x)
-
--- A test of k ids from x on: it goes on where x passes, it fails where x does not, and it passes where all from x on do, or none is left.
-module _ (f : ℕ → Bool) (x k : ℕ) where
-  pub test-same : (y j : ℕ) → x ≡ y → k ≡ j → allOf f (consecutive x k) ≡ allOf f (consecutive y j)
-  test-same y j e d = rw (e, d)
-
-  pub test-passed : (y j : ℕ) → k ≡ suc j → y ≡ suc x → f x ≡ true → allOf f (consecutive y j) ≡ allOf f (consecutive x k)
-  unfolding consecutive
-  test-passed y j e d t = rw (e, d, t)
-
-  pub test-failed : 0 < k → f x ≡ false → false ≡ allOf f (consecutive x k)
-  unfolding consecutive
-  test-failed h t = let e : k ≡ suc (k - 1) = omega arith in rw (e, t)
-
-  pub test-rest : ((y : ℕ) → x ≤ y → f y ≡ true) → true ≡ allOf f (consecutive x k)
-  test-rest h = sym (all-in f (consecutive x k) (λ y m. h y (consecutive-out x k m .0)))
-
-  pub test-none : k ≡ 0 → true ≡ allOf f (consecutive x k)
-  unfolding consecutive
-  test-none e = rw e
 
 -- ---- several ways
 

@@ -11,9 +11,11 @@ use lib.Dec.{eqb, ltb}
 use lib.ListN.{length, getD, take, drop, set, drop-of-length-le, length-append, length-drop}
 use lib.Seq.{drop-cons, take-all}
 use borrow.Author.Tests.{eqb-true, eq-eqb, ne-eqb, ltb-false, lt-ltb, le-ltb, not-false}
-use Rattle.lists.specs.Lists.{consecutive, tabulate}
+use Rattle.lists.specs.Lists.{consecutive, tabulate, someOf}
+use Rattle.labels.specs.Components.{blankVoxel}
 use Rattle.lists.proofs.Cases.{by-test, neither}
 use Rattle.lists.proofs.Lists.{length-tabulate, tabulate-snoc, drop-down}
+use Rattle.lists.proofs.Tests.{some-append}
 use Rattle.cells.specs.Box.{Triple}
 use Rattle.cells.specs.Extents.{offPlace}
 use Rattle.cells.specs.Grid.{cells}
@@ -22,8 +24,8 @@ use Rattle.extents.proofs.SizeLaws.{sized-at}
 use Rattle.refusals.specs.Refusals.{off-size, wrong-tray, number, table, first, givenBy, listedNumbers, standsIn}
 use Rattle.refusals.proofs.RefusalLaws.{given-none}
 use Rattle.records.specs.Fields.{packed, laid}
-use Rattle.records.specs.Record.{headBytes, bit, mapByte, bitmapLength, bitmap, listed, encodeRecord, blankVoxel}
-use Rattle.records.proofs.LaidLaws.{length-laid, laid-append, laid-none, laid-more, laid-front, laid-encode, length-encode, listed-next, length-next}
+use Rattle.records.specs.Record.{headBytes, bit, mapByte, bitmapLength, bitmap, listed, encodeRecord}
+use Rattle.records.proofs.LaidLaws.{length-laid, laid-append, laid-none, laid-more, laid-front, laid-encode, listed-next, length-next, encode-length}
 use Rattle.writer.specs.Inner.{byteOf, Ready}
 use Rattle.writer.specs.Writing.{declines, refusalOf, outcome, accepted, refused, writing}
 
@@ -141,7 +143,7 @@ module _ (m : List ℕ) (at : ℕ) (t : List ℕ) (fits : at + length (listed m)
 pub pieces : (e o : Triple) (m t t₁ t₂ t₃ : List ℕ) (at r : ℕ) → Ready m (length t) → t₁ ≡ laid 0 (headBytes e o) t → t₂ ≡ laid 12 (bitmap m) t₁ → at ≡ 12 + bitmapLength (length m)
     → (r ≡ at + length (listed m)) × (t₃ ≡ laid at (listed m) t₂) → (r ≡ length (encodeRecord e o m)) × (t₃ ≡ laid 0 (encodeRecord e o m) t)
 pieces e o m t t₁ t₂ t₃ at r g a b c d = (
-  d .0 ∙ ap (λ (n : ℕ). n + length (listed m)) c ∙ sym (length-encode e o m),
+  d .0 ∙ ap (λ (n : ℕ). n + length (listed m)) c ∙ sym (encode-length e o m),
   d .1 ∙ rw (c, b, a) (laid-encode e o m t (g .fits)),
 )
 
@@ -161,14 +163,14 @@ module _ (e o : Triple) (m : List ℕ) (tray : ℕ) where
 
   module _ (p : offPlace e o ≡ false) (k : length m ≡ cells e) (r : ℕ) (q : r ≡ 12 + bitmapLength (length m) + length (listed m)) where
     pub wrong-tray-given : tray < r → 6 ≡ refusalOf e o m tray
-    wrong-tray-given h = rw (ladder, p, eq-eqb _ _ k, length-encode e o m, ← q, lt-ltb tray r h)
+    wrong-tray-given h = rw (ladder, p, eq-eqb _ _ k, encode-length e o m, ← q, lt-ltb tray r h)
 
     module _ (h : r ≤ tray) where
       pub stray-label-given : blankVoxel e m ≡ true → 8 ≡ refusalOf e o m tray
-      stray-label-given b = rw (ladder, p, eq-eqb _ _ k, length-encode e o m, ← q, le-ltb tray r h, b)
+      stray-label-given b = rw (ladder, p, eq-eqb _ _ k, encode-length e o m, ← q, le-ltb tray r h, b)
 
       pub none-given : blankVoxel e m ≡ false → 0 ≡ refusalOf e o m tray
-      none-given b = rw (ladder, p, eq-eqb _ _ k, length-encode e o m, ← q, le-ltb tray r h, b)
+      none-given b = rw (ladder, p, eq-eqb _ _ k, encode-length e o m, ← q, le-ltb tray r h, b)
 
   -- What holds where nothing is refused.
   pub ready-of : refusalOf e o m tray ≡ 0 → Ready m tray
@@ -181,7 +183,7 @@ module _ (e o : Triple) (m : List ℕ) (tray : ℕ) where
       let b = ltb tray (length (encodeRecord e o m)) in
       let k : length m ≡ cells e = eqb-true _ _ (not-false _ (neither a b w .0)) in
       let f = ltb-false tray (length (encodeRecord e o m)) (neither a b w .1) in
-      record { short = omega (arith, cells-high s); fits = rw (length-encode e o m) at f }
+      record { short = omega (arith, cells-high s); fits = rw (encode-length e o m) at f }
 
 -- ---- the ways of `write_record`
 

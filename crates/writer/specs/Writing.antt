@@ -5,11 +5,12 @@ use mathlib.Core.List.{List, [], _∷_, _++_}
 use Prim.Native.Nat.{ℕ}
 use lib.Dec.{eqb, ltb}
 use lib.ListN.{length, drop}
+use Rattle.labels.specs.Components.{blankVoxel}
 use Rattle.refusals.specs.Refusals.{off-size, wrong-tray, stray-label, Case, _if_, givenRefusal}
 use Rattle.cells.specs.Box.{Triple}
 use Rattle.cells.specs.Extents.{offPlace}
 use Rattle.cells.specs.Grid.{cells}
-use Rattle.records.specs.Record.{encodeRecord, blankVoxel}
+use Rattle.records.specs.Record.{encodeRecord}
 use Rattle.writer.specs.declared.Written.{Written}
 
 -- The cases of `write_record`. The tray goes in by its length.

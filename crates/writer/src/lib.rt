@@ -9,13 +9,14 @@ ghost use mathlib.Core.List.{[], _∷_, _++_};
 ghost use Prim.Native.Nat.{_+_, _-_, _*_, _<_, _≤_};
 ghost use lib.Dec.{eqb};
 ghost use lib.ListN.{length, getD, take, drop};
-ghost use Rattle.lists.specs.Lists.{consecutive, keep};
+ghost use Rattle.labels.specs.Components.{blankVoxel};
+ghost use Rattle.lists.specs.Lists.{consecutive, keep, someOf};
 ghost use Rattle.cells.specs.Box.{triple};
 ghost use Rattle.cells.specs.Extents.{Sized};
 ghost use Rattle.cells.specs.Grid.{cells, order};
 ghost use Rattle.lines.specs.Lines.{lineCount};
 ghost use Rattle.records.specs.Fields.{bytes, laid};
-ghost use Rattle.records.specs.Record.{headBytes, bit, mapByte, bitmap, bitmapLength, listed, encodeRecord, some, blankVoxel};
+ghost use Rattle.records.specs.Record.{headBytes, bit, mapByte, bitmap, bitmapLength, listed, encodeRecord};
 ghost use Rattle.writer.specs.Inner.{byteOf, Ready};
 ghost use Rattle.writer.specs.Writing.{refusalOf, outcome, writing};
 
@@ -49,7 +50,7 @@ fn record_length(map: &[u32]) -> usize
 // Whether a voxel of line l has 0.
 fn blank_on(map: &[u32], nx: usize, ny: usize, nz: usize, l: usize) -> bool
     requires { ⌜ Sized 64 (triple nx ny nz) × (length (now map) ≡ cells (triple nx ny nz)) × (l < lineCount (triple nx ny nz)) ⌝ }
-    ensures { λ r. ⌜ r ≡ some (λ p. eqb (getD (now (map .entry)) p 0) 0) (keep (λ p. eqb (order (triple nx ny nz) p) 3) (consecutive (l * (2 * nx - 1)) (2 * nx - 1))) ⌝ }
+    ensures { λ r. ⌜ r ≡ someOf (λ p. eqb (getD (now (map .entry)) p 0) 0) (keep (λ p. eqb (order (triple nx ny nz) p) 3) (consecutive (l * (2 * nx - 1)) (2 * nx - 1))) ⌝ }
 {
     let line = line_at(nx, ny, nz, 0, l);
     let mut x = line.start;

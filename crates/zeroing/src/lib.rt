@@ -1,4 +1,5 @@
 // Zeros all over a table of sums or of counts.
+use lists::write_value;
 ghost use mathlib.Core.Path.{_≡_};
 ghost use mathlib.Core.List.{map};
 ghost use lib.ListN.{length};
@@ -20,9 +21,6 @@ pub fn clear_sums(sums: &mut [f64])
 pub fn clear_counts(counts: &mut [u64])
     ensures { λ _. ⌜ now (counts .exit) ≡ zeros (length (now (counts .entry))) ⌝ }
 {
-    let mut next: usize = 1;
-    while next <= counts.len() {
-        counts[next - 1] = 0;
-        next += 1;
-    }
+    let n = counts.len();
+    write_value(counts, 0, n, 0);
 }

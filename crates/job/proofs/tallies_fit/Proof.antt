@@ -1,7 +1,7 @@
 -- `job::tallies_fit` meets its contract.
 use borrow.Author.Needs.{needs}
 use Rattle.joiner.specs.Declines.{tallyFits, talliesFit}
-use Rattle.job.proofs.JobLaws.{and-here, and-next}
+use Rattle.lists.proofs.Cases.{and-here, and-next}
 use Rattle.job.proofs.tallies_fit.Statement.{statement}
 use Rattle.job.proofs.tallies_fit.Tie as tie
 

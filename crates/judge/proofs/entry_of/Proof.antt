@@ -7,32 +7,32 @@ use Rattle.judge.proofs.entry_of.Tie as tie
 mul-i : tie.Need-mul-i
 mul-i c = search needs
 
-at-requires : tie.Need-at-requires
-at-requires c κs = search needs
+read-or-zero-requires : tie.Need-read-or-zero-requires
+read-or-zero-requires c κs = search needs
 
-add-at : tie.Need-add-at
-add-at c = search needs
+add-read-or-zero : tie.Need-add-read-or-zero
+add-read-or-zero c = search needs
 
-at-requires-2 : tie.Need-at-requires-2
-at-requires-2 c κs = search needs
+read-or-zero-requires-2 : tie.Need-read-or-zero-requires-2
+read-or-zero-requires-2 c κs = search needs
 
-add-at-2 : tie.Need-add-at-2
-add-at-2 c = search needs
+add-read-or-zero-2 : tie.Need-add-read-or-zero-2
+add-read-or-zero-2 c = search needs
 
-at-requires-3 : tie.Need-at-requires-3
-at-requires-3 c κs = search needs
+read-or-zero-requires-3 : tie.Need-read-or-zero-requires-3
+read-or-zero-requires-3 c κs = search needs
 
-add-at-3 : tie.Need-add-at-3
-add-at-3 c = search needs
+add-read-or-zero-3 : tie.Need-add-read-or-zero-3
+add-read-or-zero-3 c = search needs
 
-at-requires-4 : tie.Need-at-requires-4
-at-requires-4 c κs = search needs
+read-or-zero-requires-4 : tie.Need-read-or-zero-requires-4
+read-or-zero-requires-4 c κs = search needs
 
-add-at-4 : tie.Need-add-at-4
-add-at-4 c = search needs
+add-read-or-zero-4 : tie.Need-add-read-or-zero-4
+add-read-or-zero-4 c = search needs
 
-at-requires-5 : tie.Need-at-requires-5
-at-requires-5 c κs = search needs
+read-or-zero-requires-5 : tie.Need-read-or-zero-requires-5
+read-or-zero-requires-5 c κs = search needs
 
 returns : tie.Need-returns
 unfolding entryOf
@@ -43,13 +43,13 @@ entry-of-spec =
     tie.close
     (tie.spec
     mul-i
-    at-requires
-    add-at
-    at-requires-2
-    add-at-2
-    at-requires-3
-    add-at-3
-    at-requires-4
-    add-at-4
-    at-requires-5
+    read-or-zero-requires
+    add-read-or-zero
+    read-or-zero-requires-2
+    add-read-or-zero-2
+    read-or-zero-requires-3
+    add-read-or-zero-3
+    read-or-zero-requires-4
+    add-read-or-zero-4
+    read-or-zero-requires-5
     returns)

@@ -1,6 +1,6 @@
 -- `judge::fits` meets its contract.
 use borrow.Author.Needs.{needs}
-use Rattle.job.proofs.JobLaws.{and-here, and-next}
+use Rattle.lists.proofs.Cases.{and-here, and-next}
 use Rattle.judge.specs.Judge.{fitsIn}
 use Rattle.judge.proofs.fits.Statement.{statement}
 use Rattle.judge.proofs.fits.Tie as tie

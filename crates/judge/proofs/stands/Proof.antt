@@ -1,6 +1,6 @@
 -- `judge::stands` meets its contract.
 use borrow.Author.Needs.{needs}
-use Rattle.job.proofs.JobLaws.{and-here, and-next}
+use Rattle.lists.proofs.Cases.{and-here, and-next}
 use Rattle.judge.specs.Judge.{standsBy}
 use Rattle.judge.proofs.JudgeLaws.{stands-here, stands-next}
 use Rattle.judge.proofs.stands.Statement.{statement}

@@ -1,7 +1,7 @@
 -- `judge_cross::own_stands` meets its contract.
 use borrow.Author.Needs.{needs}
 use Rattle.judge_cross.specs.Tests.{ownStands}
-use Rattle.job.proofs.JobLaws.{and-here, and-next}
+use Rattle.lists.proofs.Cases.{and-here, and-next}
 use Rattle.judge_cross.proofs.own_stands.Statement.{statement}
 use Rattle.judge_cross.proofs.own_stands.Tie as tie
 use Rattle.judge_cross.proofs.own_stands.Lts as lts

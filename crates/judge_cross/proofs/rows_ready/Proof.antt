@@ -1,7 +1,7 @@
 -- `judge_cross::rows_ready` meets its contract.
 use borrow.Author.Needs.{needs}
 use mathlib.Core.Path.{refl}
-use Rattle.job.proofs.JobLaws.{cond-here, cond-next}
+use Rattle.lists.proofs.Cases.{cond-here, cond-next}
 use Rattle.judge_cross.specs.Tests.{numberable}
 use Rattle.judge_cross.proofs.rows_ready.Statement.{statement}
 use Rattle.judge_cross.proofs.rows_ready.Tie as tie

@@ -5,7 +5,7 @@ use native.Mathlib.Omega.{arith}
 use borrow.Author.Needs.{needs}
 use borrow.Author.Tests.{not-true, not-false}
 use Rattle.lists.specs.Lists.{consecutive, allOf}
-use Rattle.union_find.proofs.SoundLaws.{test-same, test-passed, test-failed, test-none}
+use Rattle.lists.proofs.Tests.{test-same, test-passed, test-failed, test-none}
 use Rattle.judge.specs.Judge.{numberStandsIn}
 use Rattle.judge_point.specs.Tests.{curvesIn}
 use Rattle.judge_point.proofs.numbers_stand.Statement.{statement}

@@ -1,9 +1,9 @@
 -- `judge_seam::trays_fit` meets its contract.
 use borrow.Author.Needs.{needs}
-use Rattle.job.proofs.JobLaws.{and-here, and-next}
 use Rattle.judge_seam.specs.Tests.{fitsBoth}
 use Rattle.judge_seam.proofs.trays_fit.Statement.{statement}
 use Rattle.judge_seam.proofs.trays_fit.Tie as tie
+use Rattle.lists.proofs.Cases.{and-here, and-next}
 
 fits-requires : tie.Need-fits-requires
 fits-requires c κs = search needs

@@ -1,9 +1,9 @@
 -- `judge_seam::upper_stands` meets its contract.
 use borrow.Author.Needs.{needs}
-use Rattle.job.proofs.JobLaws.{and-here, and-next}
 use Rattle.judge_seam.specs.Tests.{upperStands}
 use Rattle.judge_seam.proofs.upper_stands.Statement.{statement}
 use Rattle.judge_seam.proofs.upper_stands.Tie as tie
+use Rattle.lists.proofs.Cases.{and-here, and-next}
 
 map-stands-requires : tie.Need-map-stands-requires
 map-stands-requires c κs = search needs

@@ -5,7 +5,7 @@ use native.Mathlib.Omega.{arith}
 use borrow.Author.Needs.{needs}
 use borrow.Author.Tests.{not-true, not-false}
 use Rattle.lists.specs.Lists.{consecutive, allOf}
-use Rattle.union_find.proofs.SoundLaws.{test-same, test-passed, test-failed, test-none}
+use Rattle.lists.proofs.Tests.{test-same, test-passed, test-failed, test-none}
 use Rattle.judge_strain.specs.Tests.{faceIn, facesIn}
 use Rattle.judge_strain.proofs.faces_stand.Statement.{statement}
 use Rattle.judge_strain.proofs.faces_stand.Tie as tie

@@ -1,6 +1,6 @@
 -- `judge_strain::trays_fit` meets its contract.
 use borrow.Author.Needs.{needs}
-use Rattle.job.proofs.JobLaws.{and-here, and-next}
+use Rattle.lists.proofs.Cases.{and-here, and-next}
 use Rattle.judge_strain.specs.Tests.{traysFit}
 use Rattle.judge_strain.proofs.trays_fit.Statement.{statement}
 use Rattle.judge_strain.proofs.trays_fit.Tie as tie

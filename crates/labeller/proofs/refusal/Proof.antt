@@ -1,9 +1,9 @@
 -- `labeller::refusal` meets its contract.
-use Prim.Native.Nat.{_-_}
 use mathlib.Core.Path.{_∙_, sym}
 use borrow.Author.Needs.{needs}
+use Rattle.lists.proofs.Cases.{cond-here, cond-next}
 use Rattle.cells.specs.Box.{triple}
-use Rattle.labeller.proofs.LabellingLaws.{refusal-is, cond-here, cond-next}
+use Rattle.labeller.proofs.LabellingLaws.{refusal-is}
 use Rattle.extents.proofs.SizeLaws.{sized-of}
 use Rattle.labeller.proofs.refusal.Statement.{statement}
 use Rattle.labeller.proofs.refusal.Tie as tie

@@ -22,8 +22,8 @@ Inv-loop keys₀ from count map nx ny nz block b j lines l₀ keys l =
 abbrev μ-loop : tie.MeasureT-loop
 μ-loop keys₀ from count map nx ny nz block b j lines l₀ keys l = l
 
-clear-keys-requires : tie.Need-clear-keys-requires Inv-loop μ-loop
-clear-keys-requires c κs = search needs
+write-value-requires : tie.Need-write-value-requires Inv-loop μ-loop
+write-value-requires c κs = search needs
 
 mul-lines : tie.Need-mul-lines Inv-loop μ-loop
 mul-lines c = search needs
@@ -79,7 +79,7 @@ returns c =
     let back4 = c .before .before .before .before in
     let back8 = back4 .before .before .before .before in
     let i = c .before .loop .inv in
-    lines-end _ _ _ _ _ _ _ _ _ _ _ (omega arith) (back8 .before .before .pre .4) (back4 .before .before .clear-keys .ensures) (i .2)
+    lines-end _ _ _ _ _ _ _ _ _ _ _ (omega arith) (back8 .before .before .pre .4) (back4 .before .before .write-value .ensures) (i .2)
 
 pub store-keys-spec : {M : Type 1} → statement M
 store-keys-spec =
@@ -87,7 +87,7 @@ store-keys-spec =
     (tie.spec
     Inv-loop
     μ-loop
-    clear-keys-requires
+    write-value-requires
     mul-lines
     sub-lines
     mul-lines-2

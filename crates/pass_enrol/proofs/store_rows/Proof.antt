@@ -5,9 +5,10 @@ use native.Mathlib.Omega.{arith}
 use lib.ListN.{length}
 use borrow.Author.Needs.{needs}
 use Rattle.lists.specs.Lists.{overlay}
+use Rattle.lists.proofs.Overlay.{rows-none, rows-next, rows-all, row-room}
 use Rattle.blocks.specs.Blocks.{sizeOf}
 use Rattle.pass_enrol.specs.Enrolment.{rowIn}
-use Rattle.pass_enrol.proofs.RowLaws.{number-has, number-row, row-fits, row-entry, rows-none, rows-next, rows-all, row-room}
+use Rattle.pass_enrol.proofs.RowLaws.{number-has, number-row, row-fits, row-entry}
 use Rattle.pass_enrol.proofs.store_rows.Statement.{statement}
 use Rattle.pass_enrol.proofs.store_rows.Tie as tie
 
@@ -42,24 +43,32 @@ row-for-requires c κs =
     let p = p4 .before .before .pre in
     (p .0, p .1, number-has (p .0) _ _ _ (p .2) _ (p .3 .at _ (omega arith)))
 
-add-put-row : tie.Need-add-put-row Inv-loop μ-loop
-add-put-row c = search needs
+shifted-row-requires : tie.Need-shifted-row-requires Inv-loop μ-loop
+shifted-row-requires c κs =
+    let p4 = c .before .before .before .before in
+    let p = p4 .before .before .before .pre in
+    row-fits (p .0) _ _ _ (p .2) _ (p .3 .at _ (omega arith)) _ (p .5) _ (c .row-for .ensures)
 
-mul-put-row : tie.Need-mul-put-row Inv-loop μ-loop
-mul-put-row c =
+add-write-front : tie.Need-add-write-front Inv-loop μ-loop
+add-write-front c = search needs
+
+mul-write-front : tie.Need-mul-write-front Inv-loop μ-loop
+mul-write-front c =
     let back4 = c .before .before .before .before in
-    omega (arith, row-room (6 - 2 * back4 .before .before .before .before .args .j) (back4 .before .before .before .before .args .from) (back4 .before .before .before .before .args .count) (c .before .before .before .before .loop .i) (omega arith), back4 .before .before .before .before .pre .4)
+    let back8 = back4 .before .before .before .before in
+    let st = back8 .before in
+    omega (arith, row-room (6 - 2 * st .args .j) (st .args .from) (st .args .count) (back4 .before .loop .i) (omega arith), st .pre .4)
 
-put-row-requires : tie.Need-put-row-requires Inv-loop μ-loop
-put-row-requires c κs =
-    let a4 = c .before .before .before .before in
-    let a = a4 .before .before .before .before .args in
-    let p = a4 .before .before .before .before .pre in
-    let l = c .before .before .before .before .loop in (
-      omega (arith, row-room (6 - 2 * a .j) (a .from) (a .count) (l .i) (omega arith), p .4, l .inv .1),
-      omega arith,
-      row-fits (p .0) _ _ _ (p .2) _ (p .3 .at _ (omega arith)) _ (p .5) _ (c .before .row-for .ensures),
-    )
+slice-aggregate-write-front : tie.Need-slice-aggregate-write-front Inv-loop μ-loop
+slice-aggregate-write-front c = search needs
+
+write-front-requires : tie.Need-write-front-requires Inv-loop μ-loop
+write-front-requires c κs =
+    let back4 = c .before .before .before .before in
+    let back8 = back4 .before .before .before .before in
+    let st = back8 .before .before in
+    let l = back4 .before .before .loop in
+    omega (arith, row-room (6 - 2 * st .args .j) (st .args .from) (st .args .count) (l .i) (omega arith), st .pre .4, l .inv .1)
 
 add-i : tie.Need-add-i Inv-loop μ-loop
 add-i c = search needs
@@ -71,11 +80,12 @@ loop-again : tie.Need-loop-again Inv-loop μ-loop
 loop-again c =
     let a4 = c .before .before .before .before in
     let a8 = a4 .before .before .before .before in
-    let a = a8 .before .before .before .args in
-    let p = a8 .before .before .before .pre in
-    let i = a4 .before .before .before .loop .inv in
-    let r = number-row (p .0) _ _ _ (p .2) _ (p .3 .at _ (omega arith)) _ (c .before .before .before .before .row-for .ensures) in
-    (omega arith, omega arith, rows-next _ _ _ (λ x k. rowIn (sizeOf (a .block)) (a .shift) (a .map .now) (a .j) (suc x) k) _ _ _ _ (i .2) (c .before .before .put-row .ensures) (row-entry _ _ _ _ _ _ r))
+    let a12 = a8 .before .before .before .before in
+    let st = a12 .before in
+    let a = st .args in
+    let i = a8 .before .loop .inv in
+    let r = number-row (st .pre .0) _ _ _ (st .pre .2) _ (st .pre .3 .at _ (omega arith)) _ (a4 .before .before .row-for .ensures) in
+    (omega arith, omega arith, rows-next _ _ _ (λ x k. rowIn (sizeOf (a .block)) (a .shift) (a .map .now) (a .j) (suc x) k) _ _ _ _ (i .2) (c .before .before .write-front .ensures) (λ k _. row-entry _ _ _ _ _ _ _ r (a4 .before .shifted-row .ensures) k))
 
 same-length : tie.Need-same-length Inv-loop μ-loop
 same-length c = search needs
@@ -96,9 +106,11 @@ store-rows-spec =
     mul-row-for
     shared-slice-read-row-for
     row-for-requires
-    add-put-row
-    mul-put-row
-    put-row-requires
+    shifted-row-requires
+    add-write-front
+    mul-write-front
+    slice-aggregate-write-front
+    write-front-requires
     add-i
     loop-less
     loop-again

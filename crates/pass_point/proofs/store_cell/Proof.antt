@@ -27,13 +27,16 @@ slice-write-keys c =
     let back4 = c .before .before .before .before in
     room-one _ _ _ _ _ _ _ _ _ (c .before .found-row .ensures) (c .if1 .left) (back4 .before .before .pre .4) .0
 
-mul-put-row : tie.Need-mul-put-row
-mul-put-row c = search needs
+mul-write-front : tie.Need-mul-write-front
+mul-write-front c = search needs
 
-put-row-requires : tie.Need-put-row-requires
-put-row-requires c κs =
+slice-aggregate-write-front : tie.Need-slice-aggregate-write-front
+slice-aggregate-write-front c = search needs
+
+write-front-requires : tie.Need-write-front-requires
+write-front-requires c κs =
     let back4 = c .before .before .before .before in
-    room-one _ _ _ _ _ _ _ _ _ (c .before .before .found-row .ensures) (c .before .if1 .left) (back4 .before .before .before .pre .4) .1
+    room-one _ _ _ _ _ _ _ _ _ (c .before .before .before .found-row .ensures) (c .before .before .if1 .left) (back4 .before .before .before .before .pre .4) .1
 
 add-result : tie.Need-add-result
 add-result c = search needs
@@ -58,8 +61,9 @@ store-cell-spec =
     add-keys
     mul-keys-2
     slice-write-keys
-    mul-put-row
-    put-row-requires
+    mul-write-front
+    slice-aggregate-write-front
+    write-front-requires
     add-result
     same-length
     same-length-2

@@ -1,5 +1,6 @@
 -- `pass_strain::take_cell` meets its contract.
-use Rattle.pass_strain.proofs.SumLaws.{away-sums, away-counts, own-sums, own-counts}
+use Rattle.totals.specs.Totals.{sumsWith, countsWith}
+use Rattle.pass_strain.proofs.SumLaws.{away-after, own-after}
 use borrow.Author.Needs.{needs}
 use Rattle.pass_strain.proofs.take_cell.Statement.{statement}
 use Rattle.pass_strain.proofs.take_cell.Tie as tie
@@ -8,9 +9,10 @@ own-face-requires : tie.Need-own-face-requires
 own-face-requires c κs = search needs
 
 returns : tie.Need-returns
+unfolding sumsWith countsWith
 returns c =
     let s4 = c .before .before .before .before in
-    let s = s4 .before .before .before .before .pre in (away-sums _ _ _ _ _ _ _ _ _ _ (c .before .own-face .ensures) (s .1) _ (c .if1 .taken), away-counts _ _ _ _ _ _ _ _ _ _ (c .before .own-face .ensures) (s .1) _ (c .if1 .taken))
+    let s = s4 .before .before .before .before .pre in (away-after _ _ _ _ _ _ _ _ _ _ (c .before .own-face .ensures) (s .1) _ _ (c .if1 .taken), away-after _ _ _ _ _ _ _ _ _ _ (c .before .own-face .ensures) (s .1) _ _ (c .if1 .taken))
 
 take-face-requires : tie.Need-take-face-requires
 take-face-requires c κs = search needs
@@ -22,7 +24,8 @@ same-length-2 : tie.Need-same-length-2
 same-length-2 c = search needs
 
 returns-2 : tie.Need-returns-2
-returns-2 c = (search own-sums, search own-counts)
+unfolding sumsWith countsWith
+returns-2 c = (search own-after, search own-after)
 
 pub take-cell-spec : {M : Type 1} → statement M
 take-cell-spec =

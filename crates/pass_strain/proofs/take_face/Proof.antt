@@ -1,7 +1,8 @@
 -- `pass_strain::take_face` meets its contract.
 use native.Mathlib.Omega.{arith}
 use borrow.Author.Needs.{needs}
-use Rattle.pass_strain.proofs.SumLaws.{spots, below-most, above-most, face-sums, face-counts}
+use Rattle.totals.specs.Totals.{sumsWith, countsWith}
+use Rattle.pass_strain.proofs.SumLaws.{spots, below-most, above-most, face-after}
 use Rattle.pass_strain.proofs.take_face.Statement.{statement}
 use Rattle.pass_strain.proofs.take_face.Tie as tie
 
@@ -67,7 +68,8 @@ same-length-2 : tie.Need-same-length-2
 same-length-2 c = search needs
 
 returns : tie.Need-returns
-returns c = (search face-sums, search face-counts)
+unfolding sumsWith countsWith
+returns c = (search face-after, search face-after)
 
 pub take-face-spec : {M : Type 1} → statement M
 take-face-spec =

@@ -1,11 +1,13 @@
 -- `pass_strain::take_voxel` meets its contract.
-use Rattle.pass_strain.proofs.SumLaws.{neither-sums, neither-counts, side-sums, side-counts}
+use Rattle.totals.specs.Totals.{sumsWith, countsWith}
+use Rattle.pass_strain.proofs.SumLaws.{neither-after, side-after}
 use borrow.Author.Needs.{needs}
 use Rattle.pass_strain.proofs.take_voxel.Statement.{statement}
 use Rattle.pass_strain.proofs.take_voxel.Tie as tie
 
 returns : tie.Need-returns
-returns c = (search neither-sums, search neither-counts)
+unfolding sumsWith countsWith
+returns c = (search neither-after, search neither-after)
 
 sub-take-reading : tie.Need-sub-take-reading
 sub-take-reading c = search needs
@@ -29,7 +31,8 @@ same-length-2 : tie.Need-same-length-2
 same-length-2 c = search needs
 
 returns-2 : tie.Need-returns-2
-returns-2 c = (search side-sums, search side-counts)
+unfolding sumsWith countsWith
+returns-2 c = (search side-after, search side-after)
 
 pub take-voxel-spec : {M : Type 1} → statement M
 take-voxel-spec =

@@ -6,7 +6,7 @@ use native.Mathlib.Omega.{arith}
 use lib.ListN.{length, getD, length-set}
 use borrow.Author.Needs.{needs}
 use Rattle.lists.specs.Lists.{overlay}
-use Rattle.ranking.proofs.Places.{written-none, written-next, written-end}
+use Rattle.lists.proofs.Overlay.{overlay-none, written-next, overlay-end}
 use Rattle.ranking.proofs.NumberLaws.{Placing, placing-none, placing-next, placed-end, listed-below, class-below, listed-same}
 use Rattle.ranking.proofs.place_firsts.Statement.{statement}
 use Rattle.ranking.proofs.place_firsts.Tie as tie
@@ -27,7 +27,7 @@ class : (c : tie.In-loop Inv-loop μ-loop)
 class c = class-below (c .before .before .pre .1 .0) (c .before .before .pre .1 .1) (c .loop-test .taken) (c .before .loop .inv .1)
 
 loop-holds : tie.Need-loop-holds Inv-loop μ-loop
-loop-holds c = (omega arith, placing-none _ _ _, refl, written-none _ _)
+loop-holds c = (omega arith, placing-none _ _ _, refl, overlay-none _ _ _)
 
 cast-x : tie.Need-cast-x Inv-loop μ-loop
 cast-x c = search needs
@@ -99,7 +99,7 @@ same-length-2 c = c .before .loop .inv .1 .done .long
 
 returns : tie.Need-returns Inv-loop μ-loop
 returns c = let a = c .before in
-    (placed-end (a .loop .inv .0) (c .loop-test .left) (a .loop .inv .1), written-end _ _ _ _ _ (a .loop .inv .0) (c .loop-test .left) (a .loop .inv .3))
+    (placed-end (a .loop .inv .0) (c .loop-test .left) (a .loop .inv .1), overlay-end _ _ _ _ _ _ (a .loop .inv .0) (c .loop-test .left) (a .loop .inv .3))
 
 pub place-firsts-spec : {M : Type 1} → statement M
 place-firsts-spec =

@@ -3,7 +3,7 @@
 use mathlib.Core.Path.{_∙_}
 use native.Mathlib.Omega.{arith}
 use borrow.Author.Needs.{needs}
-use Rattle.ranking.proofs.Places.{written-long}
+use Rattle.lists.proofs.Overlay.{written-long}
 use Rattle.ranking.proofs.FirstLaws.{root-classes}
 use Rattle.ranking.proofs.KindLaws.{found-listed, different-of, ranked-of}
 use Rattle.ranking.proofs.rank_kind.Statement.{statement}

@@ -6,8 +6,7 @@ use native.Mathlib.Omega.{arith}
 use lib.ListN.{length, getD, length-set}
 use borrow.Author.Needs.{needs}
 use Rattle.lists.specs.Lists.{overlay}
-use Rattle.ranking.proofs.Places.{written-none, written-end}
-use Rattle.ranking.proofs.NumberLaws.{unread, renumber-next}
+use Rattle.lists.proofs.Overlay.{overlay-none, overlay-end, written-behind, renewed-next}
 use Rattle.ranking.proofs.renumber.Statement.{statement}
 use Rattle.ranking.proofs.renumber.Tie as tie
 
@@ -21,10 +20,10 @@ abbrev μ-loop : tie.MeasureT-loop
 class : (c : tie.In-loop Inv-loop μ-loop) → getD (c .before .loop .numbers) (c .before .loop .x) 0 < c .before .before .args .n
 class c = let a = c .before in
     let s = a .before in
-    omega (arith, unread (s .args .spare .now) (s .args .numbers .now) (a .loop .numbers) (a .loop .x) (a .loop .inv .2), s .pre .1 .low (a .loop .x) (c .loop-test .taken), c .loop-test .taken)
+    omega (arith, written-behind _ _ _ _ (a .loop .inv .2) (a .loop .x) (omega arith), s .pre .1 .low (a .loop .x) (c .loop-test .taken), c .loop-test .taken)
 
 loop-holds : tie.Need-loop-holds Inv-loop μ-loop
-loop-holds c = (omega arith, refl, written-none _ _)
+loop-holds c = (omega arith, refl, overlay-none _ _ _)
 
 cast-c : tie.Need-cast-c Inv-loop μ-loop
 cast-c c = search needs
@@ -60,13 +59,13 @@ loop-less : tie.Need-loop-less Inv-loop μ-loop
 loop-less c = search needs
 
 loop-again : tie.Need-loop-again Inv-loop μ-loop
-loop-again c = let a = c .before .before .before in (omega arith, simp length-set (a .loop .inv .1), renumber-next (a .before .args .spare .now) _ _ _ (a .loop .inv .2))
+loop-again c = let a = c .before .before .before in (omega arith, simp length-set (a .loop .inv .1), renewed-next (λ c. getD (a .before .args .spare .now) c 0) _ _ _ _ (a .loop .inv .2) refl)
 
 same-length : tie.Need-same-length Inv-loop μ-loop
 same-length c = search needs
 
 returns : tie.Need-returns Inv-loop μ-loop
-returns c = search written-end
+returns c = search overlay-end
 
 pub renumber-spec : {M : Type 1} → statement M
 renumber-spec =

@@ -6,8 +6,8 @@ use native.Mathlib.Omega.{arith}
 use lib.ListN.{length}
 use borrow.Author.Needs.{needs}
 use Rattle.lists.specs.Lists.{overlay}
+use Rattle.lists.proofs.Overlay.{overlay-none, written-next, overlay-end, written-read}
 use Rattle.union_find.specs.Links.{root}
-use Rattle.ranking.proofs.Places.{written-none, written-next, written-end, written-read}
 use Rattle.ranking.proofs.store_classes.Statement.{statement}
 use Rattle.ranking.proofs.store_classes.Tie as tie
 
@@ -18,7 +18,7 @@ abbrev μ-loop : tie.MeasureT-loop
 μ-loop links classes₀ n x₀ classes x = n - x
 
 loop-holds : tie.Need-loop-holds Inv-loop μ-loop
-loop-holds c = (omega arith, refl, written-none _ _)
+loop-holds c = (omega arith, refl, overlay-none _ _ _)
 
 class-of-requires : tie.Need-class-of-requires Inv-loop μ-loop
 class-of-requires c κs = let a = c .before .before in
@@ -47,7 +47,7 @@ same-length : tie.Need-same-length Inv-loop μ-loop
 same-length c = search needs
 
 returns : tie.Need-returns Inv-loop μ-loop
-returns c = search written-end
+returns c = search overlay-end
 
 pub store-classes-spec : {M : Type 1} → statement M
 store-classes-spec =

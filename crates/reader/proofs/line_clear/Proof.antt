@@ -6,13 +6,13 @@ use native.Mathlib.Omega.{arith}
 use lib.Dec.{eqb}
 use borrow.Author.Needs.{needs}
 use borrow.Author.Tests.{eq-eqb, ne-eqb}
-use Rattle.lists.specs.Lists.{consecutive, keep}
+use Rattle.lists.specs.Lists.{consecutive, keep, someOf}
+use Rattle.lists.proofs.Tests.{some-here, some-next, some-end}
 use Rattle.cells.specs.Box.{triple}
 use Rattle.cells.specs.Grid.{sides, cells, order}
 use Rattle.lines.proofs.LineLaws.{order-tests}
 use Rattle.lines.proofs.WalkLaws.{Walking, ahead, walk-first, walk-next, walk-inside, walk-fits, cells-first, cells-next, cells-last}
-use Rattle.records.specs.Record.{bitAt, some, bitmapLength}
-use Rattle.records.proofs.BitLaws.{some-here, some-next, some-none}
+use Rattle.records.specs.Record.{bitAt, bitmapLength}
 use Rattle.reader.proofs.line_clear.Statement.{statement}
 use Rattle.reader.proofs.line_clear.Tie as tie
 
@@ -20,7 +20,7 @@ abbrev Inv-loop : tie.InvT-loop
 Inv-loop bytes nx ny nz l line x₀ x =
     let e = triple nx ny nz in
     let f : ℕ → Bool = λ p. eqb (order e p) 3 in
-    Walking e 0 l x × (some (λ c. eqb (bitAt bytes c) 0) (keep f (consecutive (l * (2 * nx - 1)) (2 * nx - 1))) ≡ some (λ c. eqb (bitAt bytes c) 0) (ahead f line x))
+    Walking e 0 l x × (someOf (λ c. eqb (bitAt bytes c) 0) (keep f (consecutive (l * (2 * nx - 1)) (2 * nx - 1))) ≡ someOf (λ c. eqb (bitAt bytes c) 0) (ahead f line x))
 
 abbrev μ-loop : tie.MeasureT-loop
 μ-loop bytes nx ny nz l line x₀ x = line .width - x
@@ -77,7 +77,7 @@ loop-again c =
 returns-2 : tie.Need-returns-2 Inv-loop μ-loop
 returns-2 c =
     let turn = c .before .before in
-    some-none _ (turn .loop .inv .1) (cells-last (turn .before .line-at .ensures) (order-tests _ 3 _ (omega arith)) (c .if1 .left))
+    some-end _ (turn .loop .inv .1) (cells-last (turn .before .line-at .ensures) (order-tests _ 3 _ (omega arith)) (c .if1 .left))
 
 pub line-clear-spec : {M : Type 1} → statement M
 line-clear-spec =

@@ -6,17 +6,17 @@ use native.Mathlib.Numerals.{add-one}
 use lib.Dec.{eqb}
 use borrow.Author.Needs.{needs}
 use borrow.Author.Tests.{eq-eqb, ne-eqb}
-use Rattle.lists.specs.Lists.{consecutive}
+use Rattle.lists.specs.Lists.{consecutive, someOf}
 use Rattle.lists.proofs.Lists.{consecutive-left}
-use Rattle.records.specs.Record.{bitAt, some, bitmapLength}
-use Rattle.records.proofs.BitLaws.{some-here, some-next, some-none}
+use Rattle.lists.proofs.Tests.{some-here, some-next, some-end}
+use Rattle.records.specs.Record.{bitAt, bitmapLength}
 use Rattle.reader.proofs.ReadingLaws.{none-left}
 use Rattle.reader.proofs.spare_set.Statement.{statement}
 use Rattle.reader.proofs.spare_set.Tie as tie
 
 abbrev Inv-loop : tie.InvT-loop
 Inv-loop bytes n end c₀ c =
-    (c ≤ end) × (some (λ d. eqb (bitAt bytes d) 1) (consecutive n (end - n)) ≡ some (λ d. eqb (bitAt bytes d) 1) (consecutive c (end - c)))
+    (c ≤ end) × (someOf (λ d. eqb (bitAt bytes d) 1) (consecutive n (end - n)) ≡ someOf (λ d. eqb (bitAt bytes d) 1) (consecutive c (end - c)))
 
 abbrev μ-loop : tie.MeasureT-loop
 μ-loop bytes n end c₀ c = end - c
@@ -52,7 +52,7 @@ loop-again c =
 
 returns-2 : tie.Need-returns-2 Inv-loop μ-loop
 unfolding bitmapLength
-returns-2 c = some-none _ (c .before .loop .inv .1) (none-left _ _ (omega arith))
+returns-2 c = some-end _ (c .before .loop .inv .1) (none-left _ _ (omega arith))
 
 pub spare-set-spec : {M : Type 1} → statement M
 spare-set-spec =

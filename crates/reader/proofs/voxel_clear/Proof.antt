@@ -4,21 +4,22 @@ use mathlib.Core.Path.{_≡_, ap, _∙_, sym}
 use native.Mathlib.Omega.{arith}
 use lib.Dec.{eqb}
 use borrow.Author.Needs.{needs}
+use Rattle.lists.specs.Lists.{someOf}
 use Rattle.cells.specs.Box.{triple}
 use Rattle.cells.specs.Grid.{sides, order}
 use Rattle.labels.specs.Components.{ofOrder}
 use Rattle.lines.specs.Lines.{lineCount}
 use Rattle.lines.proofs.LineLaws.{lines-high}
 use Rattle.lines.proofs.WalkLaws.{onwards, lines-first, lines-next, lines-last}
-use Rattle.records.specs.Record.{bitAt, some}
-use Rattle.records.proofs.BitLaws.{some-part, some-rest, some-none}
+use Rattle.records.specs.Record.{bitAt}
+use Rattle.lists.proofs.Tests.{some-part, some-rest, some-end}
 use Rattle.reader.proofs.voxel_clear.Statement.{statement}
 use Rattle.reader.proofs.voxel_clear.Tie as tie
 
 abbrev Inv-loop : tie.InvT-loop
 Inv-loop bytes nx ny nz lines l₀ l =
     let e = triple nx ny nz in
-    (l ≤ lines) × (some (λ c. eqb (bitAt bytes c) 0) (ofOrder e 3) ≡ some (λ c. eqb (bitAt bytes c) 0) (onwards (λ p. eqb (order e p) 3) e l))
+    (l ≤ lines) × (someOf (λ c. eqb (bitAt bytes c) 0) (ofOrder e 3) ≡ someOf (λ c. eqb (bitAt bytes c) 0) (onwards (λ p. eqb (order e p) 3) e l))
 
 abbrev μ-loop : tie.MeasureT-loop
 μ-loop bytes nx ny nz lines l₀ l = lines - l
@@ -66,7 +67,7 @@ loop-again c = (omega arith, some-rest _ _ _ (c .before .before .before .loop .i
 
 returns-2 : tie.Need-returns-2 Inv-loop μ-loop
 unfolding lineCount sides
-returns-2 c = some-none _ (c .before .loop .inv .1) (lines-last _ _ (omega arith))
+returns-2 c = some-end _ (c .before .loop .inv .1) (lines-last _ _ (omega arith))
 
 pub voxel-clear-spec : {M : Type 1} → statement M
 voxel-clear-spec =

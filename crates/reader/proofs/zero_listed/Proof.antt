@@ -7,18 +7,17 @@ use native.Mathlib.Nat.{sub-zero}
 use lib.Dec.{eqb}
 use borrow.Author.Needs.{needs}
 use borrow.Author.Tests.{eq-eqb, ne-eqb}
-use Rattle.lists.specs.Lists.{consecutive}
+use Rattle.lists.specs.Lists.{consecutive, someOf}
 use Rattle.lists.proofs.Lists.{consecutive-left}
-use Rattle.records.specs.Record.{some}
+use Rattle.lists.proofs.Tests.{some-here, some-next, some-end}
 use Rattle.records.specs.Fields.{fieldAt}
-use Rattle.records.proofs.BitLaws.{some-here, some-next, some-none}
 use Rattle.reader.proofs.ReadingLaws.{none-left}
 use Rattle.reader.proofs.zero_listed.Statement.{statement}
 use Rattle.reader.proofs.zero_listed.Tie as tie
 
 abbrev Inv-loop : tie.InvT-loop
 Inv-loop bytes at count k₀ k =
-    (k ≤ count) × (some (λ i. eqb (fieldAt bytes (at + 4 * i) 4) 0) (consecutive 0 count) ≡ some (λ i. eqb (fieldAt bytes (at + 4 * i) 4) 0) (consecutive k (count - k)))
+    (k ≤ count) × (someOf (λ i. eqb (fieldAt bytes (at + 4 * i) 4) 0) (consecutive 0 count) ≡ someOf (λ i. eqb (fieldAt bytes (at + 4 * i) 4) 0) (consecutive k (count - k)))
 
 abbrev μ-loop : tie.MeasureT-loop
 μ-loop bytes at count k₀ k = count - k
@@ -51,7 +50,7 @@ loop-again c =
     (omega arith, rw (add-one (l .k)) (some-next _ (l .inv .1) (consecutive-left _ _ (c .before .before .loop-test .taken)) (ne-eqb _ _ (λ e. c .if1 .left (c .before .four .ensures ∙ e)))))
 
 returns-2 : tie.Need-returns-2 Inv-loop μ-loop
-returns-2 c = some-none _ (c .before .loop .inv .1) (none-left _ _ (omega arith))
+returns-2 c = some-end _ (c .before .loop .inv .1) (none-left _ _ (omega arith))
 
 pub zero-listed-spec : {M : Type 1} → statement M
 zero-listed-spec =

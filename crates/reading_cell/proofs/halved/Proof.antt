@@ -7,11 +7,11 @@ use Rattle.reading_cell.proofs.halved.Tie as tie
 add-middle : tie.Need-add-middle
 add-middle c = search needs
 
-cast-position-at : tie.Need-cast-position-at
-cast-position-at c = search needs
+cast-read-or-zero-u64 : tie.Need-cast-read-or-zero-u64
+cast-read-or-zero-u64 c = search needs
 
-position-at-requires : tie.Need-position-at-requires
-position-at-requires c κs = search needs
+read-or-zero-u64-requires : tie.Need-read-or-zero-u64-requires
+read-or-zero-u64-requires c κs = search needs
 
 add-t9 : tie.Need-add-t9
 add-t9 c = search needs
@@ -33,8 +33,8 @@ halved-spec =
     tie.close
     (tie.spec
     add-middle
-    cast-position-at
-    position-at-requires
+    cast-read-or-zero-u64
+    read-or-zero-u64-requires
     add-t9
     sub-t10
     sub-t11

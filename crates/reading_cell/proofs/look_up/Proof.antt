@@ -18,8 +18,8 @@ local-requires c κs =
 entry-of-requires : tie.Need-entry-of-requires
 entry-of-requires c κs = search needs
 
-at-requires : tie.Need-at-requires
-at-requires c κs = search needs
+read-or-zero-requires : tie.Need-read-or-zero-requires
+read-or-zero-requires c κs = search needs
 
 number-handed-requires : tie.Need-number-handed-requires
 number-handed-requires c κs = search needs
@@ -34,7 +34,7 @@ returns c =
     let T = told .block-at .ensures _ _ _ in
     let there = cell-there (start .args .job) _ _ _ _ _ _ _ _ _ _ _ (start .pre) _ T in
     look-stray (start .args .job) _ _ _ _ _ _ _ _ _ _ _ (start .pre) _
-    (looked-stands _ _ _ _ _ _ _ _ _ _ _ _ _ T there _ _ _ _ (read .before .before .before .local .ensures) (read .before .before .entry-of .ensures) (read .before .at .ensures) (read .number-handed .ensures))
+    (looked-stands _ _ _ _ _ _ _ _ _ _ _ _ _ T there _ _ _ _ (read .before .before .before .local .ensures) (read .before .before .entry-of .ensures) (read .before .read-or-zero .ensures) (read .number-handed .ensures))
     (c .if1 .taken)
 
 number-of-requires : tie.Need-number-of-requires
@@ -56,9 +56,9 @@ returns-2 c =
     let T = told .block-at .ensures _ _ _ in
     let there = cell-there (start .args .job) _ _ _ _ _ _ _ _ _ _ _ (start .pre) _ T in
     look-accepted (start .args .job) _ _ _ _ _ _ _ _ _ _ _ (start .pre) _
-    (looked-stands _ _ _ _ _ _ _ _ _ _ _ _ _ T there _ _ _ _ (read .before .before .before .local .ensures) (read .before .before .entry-of .ensures) (read .before .at .ensures) (read .number-handed .ensures))
+    (looked-stands _ _ _ _ _ _ _ _ _ _ _ _ _ T there _ _ _ _ (read .before .before .before .local .ensures) (read .before .before .entry-of .ensures) (read .before .read-or-zero .ensures) (read .number-handed .ensures))
     (c .before .if1 .left) _
-    (looked-up _ _ _ _ _ _ _ _ _ _ _ _ _ T there _ _ _ _ (read .before .before .before .local .ensures) (read .before .before .entry-of .ensures) (read .before .at .ensures) (c .number-of .ensures))
+    (looked-up _ _ _ _ _ _ _ _ _ _ _ _ _ T there _ _ _ _ (read .before .before .before .local .ensures) (read .before .before .entry-of .ensures) (read .before .read-or-zero .ensures) (c .number-of .ensures))
 
 pub look-up-spec : {M : Type 1} → statement M
 look-up-spec =
@@ -67,7 +67,7 @@ look-up-spec =
     block-at-requires
     local-requires
     entry-of-requires
-    at-requires
+    read-or-zero-requires
     number-handed-requires
     returns
     number-of-requires

@@ -10,11 +10,11 @@ bisected-requires c κs = search needs
 returns : tie.Need-returns
 returns c = search point-past
 
-cast-position-at : tie.Need-cast-position-at
-cast-position-at c = search needs
+cast-read-or-zero-u64 : tie.Need-cast-read-or-zero-u64
+cast-read-or-zero-u64 c = search needs
 
-position-at-requires : tie.Need-position-at-requires
-position-at-requires c κs = search needs
+read-or-zero-u64-requires : tie.Need-read-or-zero-u64-requires
+read-or-zero-u64-requires c κs = search needs
 
 returns-2 : tie.Need-returns-2
 returns-2 c = search point-other
@@ -31,8 +31,8 @@ point-number-spec =
     (tie.spec
     bisected-requires
     returns
-    cast-position-at
-    position-at-requires
+    cast-read-or-zero-u64
+    read-or-zero-u64-requires
     returns-2
     add-result
     returns-3)

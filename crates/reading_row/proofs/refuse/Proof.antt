@@ -1,8 +1,8 @@
 -- `reading_row::refuse` meets its contract.
 use borrow.Author.Needs.{needs}
-use Rattle.job.proofs.JobLaws.{cond-here, cond-next, cond-not-here, cond-not-next}
+use Rattle.lists.proofs.Cases.{cond-here, cond-next, cond-not-here, cond-not-next}
 use Rattle.reading_row.specs.Inner.{refusalOf}
-use Rattle.reading_row.proofs.ReadingLaws.{tallies-off, tallies-on}
+use Rattle.reading_row.proofs.ReadingLaws.{number-told, tallies-off, tallies-on}
 use Rattle.reading_row.proofs.refuse.Statement.{statement}
 use Rattle.reading_row.proofs.refuse.Tie as tie
 
@@ -29,30 +29,33 @@ returns-2 : tie.Need-returns-2
 unfolding refusalOf
 returns-2 c = search (cond-next, cond-not-here) depth 12
 
+numbered-requires : tie.Need-numbered-requires
+numbered-requires c κs = search needs
+
 has-number-requires : tie.Need-has-number-requires
 has-number-requires c κs = search needs
 
 returns-3 : tie.Need-returns-3
 unfolding refusalOf
-returns-3 c = search (cond-next, cond-not-here, cond-not-next) depth 12
+returns-3 c = search (cond-next, cond-not-here, cond-not-next, number-told) depth 12
 
 lent-fits-requires : tie.Need-lent-fits-requires
 lent-fits-requires c κs = search needs
 
 returns-4 : tie.Need-returns-4
 unfolding refusalOf
-returns-4 c = search (cond-next, cond-not-here, cond-not-next) depth 12
+returns-4 c = search (cond-next, cond-not-here, cond-not-next, number-told) depth 12
 
 tallies-fit-requires : tie.Need-tallies-fit-requires
 tallies-fit-requires c κs = search needs
 
 returns-5 : tie.Need-returns-5
 unfolding refusalOf
-returns-5 c = search (cond-next, cond-not-next, tallies-off) depth 12
+returns-5 c = search (cond-next, cond-not-next, number-told, tallies-off) depth 12
 
 returns-6 : tie.Need-returns-6
 unfolding refusalOf
-returns-6 c = search (cond-next, cond-not-next, tallies-on) depth 12
+returns-6 c = search (cond-next, cond-not-next, number-told, tallies-on) depth 12
 
 pub refuse-spec : {M : Type 1} → statement M
 refuse-spec =
@@ -65,6 +68,7 @@ refuse-spec =
     returns
     same-stage-requires
     returns-2
+    numbered-requires
     has-number-requires
     returns-3
     lent-fits-requires

@@ -1,7 +1,7 @@
 -- `step_open::refusal` meets its contract.
 use mathlib.Core.Path.{refl}
 use borrow.Author.Needs.{needs}
-use Rattle.job.proofs.JobLaws.{cond-here, cond-next, cond-not-here, cond-not-next}
+use Rattle.lists.proofs.Cases.{cond-here, cond-next, cond-not-here, cond-not-next}
 use Rattle.step_open.specs.Inner.{refusalOf}
 use Rattle.step_open.proofs.OpeningLaws.{few, few-blocks, fitting-of}
 use Rattle.step_open.proofs.refusal.Statement.{statement}

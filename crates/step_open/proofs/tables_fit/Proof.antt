@@ -1,7 +1,7 @@
 -- `step_open::tables_fit` meets its contract.
 use borrow.Author.Needs.{needs}
 use Rattle.step_open.specs.Inner.{tablesFit}
-use Rattle.job.proofs.JobLaws.{and-here, and-next}
+use Rattle.lists.proofs.Cases.{and-here, and-next}
 use Rattle.step_open.proofs.tables_fit.Statement.{statement}
 use Rattle.step_open.proofs.tables_fit.Tie as tie
 use Rattle.step_open.proofs.tables_fit.Lts as lts

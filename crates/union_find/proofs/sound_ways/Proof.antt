@@ -7,9 +7,10 @@ use native.Mathlib.Omega.{arith}
 use lib.ListN.{length}
 use borrow.Author.Needs.{needs}
 use borrow.Author.Tests.{not-true, not-false}
+use Rattle.lists.proofs.Tests.{test-same, test-failed}
 use Rattle.lists.specs.Lists.{consecutive, allOf}
 use Rattle.union_find.specs.Links.{soundFrom, soundRange, depths}
-use Rattle.union_find.proofs.SoundLaws.{test-same, test-failed, depths-same, ways-stray, ways-long, ways-all, turn-sound, turn-steps, turn-low}
+use Rattle.union_find.proofs.SoundLaws.{depths-same, ways-stray, ways-long, ways-all, turn-sound, turn-steps, turn-low}
 use Rattle.union_find.proofs.sound_ways.Statement.{statement}
 use Rattle.union_find.proofs.sound_ways.Tie as tie
 

@@ -7,14 +7,13 @@ use lib.ListN.{getD}
 use lib.Dec.{eqb}
 use borrow.Author.Needs.{needs}
 use borrow.Author.Tests.{eq-eqb, ne-eqb}
-use Rattle.lists.specs.Lists.{consecutive, keep}
+use Rattle.lists.specs.Lists.{consecutive, keep, someOf}
 use Rattle.cells.specs.Box.{triple}
 use Rattle.cells.specs.Grid.{sides, cells, order}
 use Rattle.cells.proofs.ExtentLaws.{cells-high}
 use Rattle.lines.proofs.LineLaws.{order-tests}
 use Rattle.lines.proofs.WalkLaws.{Walking, ahead, walk-first, walk-next, walk-inside, walk-fits, cells-first, cells-next, cells-last}
-use Rattle.records.specs.Record.{some}
-use Rattle.records.proofs.BitLaws.{some-here, some-next, some-none}
+use Rattle.lists.proofs.Tests.{some-here, some-next, some-end}
 use Rattle.writer.proofs.blank_on.Statement.{statement}
 use Rattle.writer.proofs.blank_on.Tie as tie
 
@@ -22,7 +21,7 @@ abbrev Inv-loop : tie.InvT-loop
 Inv-loop map nx ny nz l line x₀ x =
     let e = triple nx ny nz in
     let f : ℕ → Bool = λ p. eqb (order e p) 3 in
-    Walking e 0 l x × (some (λ p. eqb (getD map p 0) 0) (keep f (consecutive (l * (2 * nx - 1)) (2 * nx - 1))) ≡ some (λ p. eqb (getD map p 0) 0) (ahead f line x))
+    Walking e 0 l x × (someOf (λ p. eqb (getD map p 0) 0) (keep f (consecutive (l * (2 * nx - 1)) (2 * nx - 1))) ≡ someOf (λ p. eqb (getD map p 0) 0) (ahead f line x))
 
 abbrev μ-loop : tie.MeasureT-loop
 μ-loop map nx ny nz l line x₀ x = line .width - x
@@ -83,7 +82,7 @@ loop-again c =
 returns-2 : tie.Need-returns-2 Inv-loop μ-loop
 returns-2 c =
     let turn = c .before .before in
-    some-none _ (turn .loop .inv .1) (cells-last (turn .before .line-at .ensures) (order-tests _ 3 _ (omega arith)) (c .if1 .left))
+    some-end _ (turn .loop .inv .1) (cells-last (turn .before .line-at .ensures) (order-tests _ 3 _ (omega arith)) (c .if1 .left))
 
 pub blank-on-spec : {M : Type 1} → statement M
 blank-on-spec =

@@ -5,21 +5,21 @@ use native.Mathlib.Omega.{arith}
 use lib.ListN.{getD}
 use lib.Dec.{eqb}
 use borrow.Author.Needs.{needs}
+use Rattle.lists.specs.Lists.{someOf}
 use Rattle.cells.specs.Box.{triple}
 use Rattle.cells.specs.Grid.{sides, order}
 use Rattle.lines.specs.Lines.{lineCount}
 use Rattle.lines.proofs.LineLaws.{lines-high}
 use Rattle.lines.proofs.WalkLaws.{onwards, lines-first, lines-next, lines-last}
-use Rattle.labels.specs.Components.{ofOrder}
-use Rattle.records.specs.Record.{some, blankVoxel}
-use Rattle.records.proofs.BitLaws.{some-part, some-rest, some-none}
+use Rattle.labels.specs.Components.{ofOrder, blankVoxel}
+use Rattle.lists.proofs.Tests.{some-part, some-rest, some-end}
 use Rattle.writer.proofs.has_blank_voxel.Statement.{statement}
 use Rattle.writer.proofs.has_blank_voxel.Tie as tie
 
 abbrev Inv-loop : tie.InvT-loop
 Inv-loop map nx ny nz lines l₀ l =
     let e = triple nx ny nz in
-    (l ≤ lines) × (blankVoxel e map ≡ some (λ p. eqb (getD map p 0) 0) (onwards (λ p. eqb (order e p) 3) e l))
+    (l ≤ lines) × (blankVoxel e map ≡ someOf (λ p. eqb (getD map p 0) 0) (onwards (λ p. eqb (order e p) 3) e l))
 
 abbrev μ-loop : tie.MeasureT-loop
 μ-loop map nx ny nz lines l₀ l = lines - l
@@ -69,7 +69,7 @@ loop-again c =
 
 returns-2 : tie.Need-returns-2 Inv-loop μ-loop
 unfolding lineCount sides
-returns-2 c = some-none _ (c .before .loop .inv .1) (lines-last _ _ (c .loop-test .left))
+returns-2 c = some-end _ (c .before .loop .inv .1) (lines-last _ _ (c .loop-test .left))
 
 pub has-blank-voxel-spec : {M : Type 1} → statement M
 has-blank-voxel-spec =

@@ -6,7 +6,8 @@ use native.Mathlib.Omega.{arith}
 use lib.ListN.{length}
 use borrow.Author.Needs.{needs}
 use Rattle.records.specs.Fields.{laid}
-use Rattle.records.proofs.LaidLaws.{laid-none, listed-zero, listed-one, length-bytes}
+use Rattle.records.proofs.LaidLaws.{laid-none, listed-zero, listed-one}
+use Rattle.records.proofs.FieldLaws.{length-bytes}
 use Rattle.writer.proofs.put_number.Statement.{statement}
 use Rattle.writer.proofs.put_number.Tie as tie
 

@@ -1,0 +1,59 @@
+-- `lists::write_value` meets its contract. The loop's invariant: the first i places are written.
+use Prim.Native.Nat.{_-_, _≤_}
+use mathlib.Core.Path.{_≡_, refl}
+use native.Mathlib.Omega.{arith}
+use lib.ListN.{length}
+use borrow.Author.Needs.{needs}
+use Rattle.lists.specs.Lists.{overlay}
+use Rattle.lists.proofs.Overlay.{overlay-none, overlay-next, overlay-end}
+use Rattle.lists.proofs.write_value.Statement.{statement}
+use Rattle.lists.proofs.write_value.Tie as tie
+
+abbrev Inv-loop : tie.InvT-loop
+Inv-loop xs₀ from n value i₀ xs i = (i ≤ n) × (length xs ≡ length xs₀) × (xs ≡ overlay xs₀ from (λ _. value) i)
+
+abbrev μ-loop : tie.MeasureT-loop
+μ-loop xs₀ from n value i₀ xs i = n - i
+
+loop-holds : tie.Need-loop-holds Inv-loop μ-loop
+loop-holds c = (omega arith, refl, overlay-none _ _ _)
+
+add-xs : tie.Need-add-xs Inv-loop μ-loop
+add-xs c = search needs
+
+mul-xs : tie.Need-mul-xs Inv-loop μ-loop
+mul-xs c = search needs
+
+slice-write-xs : tie.Need-slice-write-xs Inv-loop μ-loop
+slice-write-xs c = search needs
+
+add-i : tie.Need-add-i Inv-loop μ-loop
+add-i c = search needs
+
+loop-less : tie.Need-loop-less Inv-loop μ-loop
+loop-less c = search needs
+
+loop-again : tie.Need-loop-again Inv-loop μ-loop
+loop-again c = search (needs, overlay-next)
+
+same-length : tie.Need-same-length Inv-loop μ-loop
+same-length c = search needs
+
+returns : tie.Need-returns Inv-loop μ-loop
+returns c = search overlay-end
+
+pub write-value-spec : {M : Type 1} → statement M
+write-value-spec =
+    tie.close
+    (tie.spec
+    Inv-loop
+    μ-loop
+    loop-holds
+    add-xs
+    mul-xs
+    slice-write-xs
+    add-i
+    loop-less
+    loop-again
+    same-length
+    returns)
