@@ -9,8 +9,8 @@ use Rattle.lists.specs.Lists.{tabulate, overlay}
 use Rattle.lists.proofs.Lists.{getD-tabulate}
 use Rattle.lists.proofs.Overlay.{front-at, overlay-same, overlay-front}
 use Rattle.joiner.specs.Job.{Kind, Face, Curve, Point, width, Tables, firstAt}
-use Rattle.joiner.specs.Entries.{headOf, rowAt, finalFace, rowFinal}
-use Rattle.closed_tables.specs.Closings.{positionAt, entryAt, faceIn, ascendingFour, curveRow}
+use Rattle.joiner.specs.Outcomes.{headOf, rowAt, finalFace, rowFinal}
+use Rattle.closed_tables.specs.ClosedTables.{positionAt, entryAt, faceIn, ascendingFour, curveRow}
 
 -- ---- rows
 

@@ -75,11 +75,11 @@ module _ (k : Cutting) (good : goodCut k ≡ true) where
   pub meet-in : {p q : ℕ} → Meet (k .extents) p q → MeetIn k p q
   meet-in {p} {q} r =
       let w : InBlock k (r .at) = blocks-cover k good (r .at) (r .inside) in
-      let u : map (embed k (w .b)) (upperNeighbours (blockExtents k (w .b)) (w .held .p)) ≡ upperNeighbours (k .extents) (r .at) =
-      embed-up k good (w .b) (w .listed) (w .held .p) (w .held .within) ∙ ap (upperNeighbours (k .extents)) (w .held .is) in
-      let x = Memᴰ·of-map (embed k (w .b)) (upperNeighbours (blockExtents k (w .b)) (w .held .p)) (subst (List·Memᴰ p) (sym u) (r .one)) in
-      let y = Memᴰ·of-map (embed k (w .b)) (upperNeighbours (blockExtents k (w .b)) (w .held .p)) (subst (List·Memᴰ q) (sym u) (r .two)) in
-      record { b = w .b; listed = w .listed; one = x .0; two = y .0; meet = record { at = w .held .p; inside = w .held .within; one = x .1; two = y .1 }; one-is = x .2; two-is = y .2 }
+      let u : map (embed k (w .b)) (upperNeighbours (blockExtents k (w .b)) (w .has .p)) ≡ upperNeighbours (k .extents) (r .at) =
+      embed-up k good (w .b) (w .listed) (w .has .p) (w .has .within) ∙ ap (upperNeighbours (k .extents)) (w .has .is) in
+      let x = Memᴰ·of-map (embed k (w .b)) (upperNeighbours (blockExtents k (w .b)) (w .has .p)) (subst (List·Memᴰ p) (sym u) (r .one)) in
+      let y = Memᴰ·of-map (embed k (w .b)) (upperNeighbours (blockExtents k (w .b)) (w .has .p)) (subst (List·Memᴰ q) (sym u) (r .two)) in
+      record { b = w .b; listed = w .listed; one = x .0; two = y .0; meet = record { at = w .has .p; inside = w .has .within; one = x .1; two = y .1 }; one-is = x .2; two-is = y .2 }
 
   -- a row is kept where the upper neighbours' numbers are
   pub row-embed : (b : ℕ) → b < blocks k → (m M : List ℕ) (p : ℕ) → p < cells (blockExtents k b)

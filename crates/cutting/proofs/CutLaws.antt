@@ -11,7 +11,7 @@ use Rattle.cells.specs.Box.{Triple, Axis, X, Y, Z, coord, each, stride, index, 
 use Rattle.cells.specs.Extents.{Sized}
 use Rattle.cells.specs.Grid.{sides, cells, parity, order, along, upperNeighbours}
 use Rattle.cutting.specs.Cutting.{Cutting, cuts, ascends, cutList, intervals, lowEnd, highEnd, blockSides, blocks, mostBlocks, goodCut, interval, origin, blockExtents, embed}
-use Rattle.cutting.specs.Nodes.{Held}
+use Rattle.cutting.specs.Nodes.{BlockHas}
 use Rattle.lists.proofs.Cases.{by-test, and-first, and-second}
 use Rattle.cells.proofs.BoxLaws.{Inside, index-place, place-index, place-inside, index-inside, Before, layer, line, cell, before-index, place-before, raised, lowered, index-raised, index-lowered, coord-each, same-triple}
 use Rattle.cells.proofs.GridLaws.{side-on, inside, odd-at, low-side, high-side, raised-inside, lowered-inside}
@@ -266,9 +266,9 @@ module _ (k : Cutting) (good : goodCut k ≡ true) (b : ℕ) (hb : b < blocks k)
 -- ---- which block holds which cell of the volume
 
 module _ (k : Cutting) (good : goodCut k ≡ true) (b : ℕ) (hb : b < blocks k) (t : ℕ) where
-  pub held-spans : Held k b t → (a : Axis) → Spans (cuts k a) (interval k b a) (coord (place (sides (k .extents)) t) a)
+  pub has-spans : BlockHas k b t → (a : Axis) → Spans (cuts k a) (interval k b a) (coord (place (sides (k .extents)) t) a)
   unfolding embed shiftInto
-  held-spans r a =
+  has-spans r a =
       let c : Triple = place (sides (blockExtents k b)) (r .p) in
       let i : Inside (sides (blockExtents k b)) c = inside (blockExtents k b) (r .p) (r .within) in
       let j : Inside (sides (k .extents)) (shiftInto k b c) = shift-inside k good b hb c i in
@@ -282,9 +282,9 @@ module _ (k : Cutting) (good : goodCut k ≡ true) (b : ℕ) (hb : b < blocks k)
         below = omega (arith, i a, side-on (blockExtents k b) a, extent-on k b a, its-interval k good b hb a .upward);
       }
 
-  pub spans-held : ((a : Axis) → Spans (cuts k a) (interval k b a) (coord (place (sides (k .extents)) t) a)) → Held k b t
+  pub spans-has : ((a : Axis) → Spans (cuts k a) (interval k b a) (coord (place (sides (k .extents)) t) a)) → BlockHas k b t
   unfolding cells
-  spans-held r = record { p = index s d; within = index-inside s d d-in; is = embed-at k good b hb d d-in ∙ ap (index (sides (k .extents))) back ∙ index-place (sides (k .extents)) t }
+  spans-has r = record { p = index s d; within = index-inside s d d-in; is = embed-at k good b hb d d-in ∙ ap (index (sides (k .extents))) back ∙ index-place (sides (k .extents)) t }
     where
       c : Triple
       c = place (sides (k .extents)) t
@@ -315,11 +315,11 @@ interval-at k at i a = interval-is k (index (blockSides k) at) a ∙ place-index
 pub record InBlock (k : Cutting) (t : ℕ) : Type 0 where
   pub b : ℕ
   pub listed : b < blocks k
-  pub held : Held k b t
+  pub has : BlockHas k b t
 
 -- every cell of the volume is a cell of a block
 pub blocks-cover : (k : Cutting) → goodCut k ≡ true → (t : ℕ) → t < cells (k .extents) → InBlock k t
-blocks-cover k good t h = record { b = index (blockSides k) at; listed = block-in k at at-in; held = spans-held k good (index (blockSides k) at) (block-in k at at-in) t spans }
+blocks-cover k good t h = record { b = index (blockSides k) at; listed = block-in k at at-in; has = spans-has k good (index (blockSides k) at) (block-in k at at-in) t spans }
   where
     x : Axis → ℕ
     x a = coord (place (sides (k .extents)) t) a

@@ -58,7 +58,7 @@ module _ (k : Cutting) (good : goodCut k ≡ true) (codes : List ℕ) (j : ℕ) 
         c = d;
         o = o;
         tied = node-tied k good codes j lo hi s u .0 (sym N-is);
-        is = le-antisymm (rw (← w .held .is) (embed-le k good d (w .listed) (firstCell (blockExtents k d) (part k codes d) j o) q (least-at (blockExtents k d) (part k codes d) j o q (u .within) (u .level) refl) (u .within)))
+        is = le-antisymm (rw (← w .has .is) (embed-le k good d (w .listed) (firstCell (blockExtents k d) (part k codes d) j o) q (least-at (blockExtents k d) (part k codes d) j o q (u .within) (u .level) refl) (u .within)))
             (subst (λ (x : ℕ). firstCell (k .extents) (uncutMap k codes) j x ≤ embed k d (firstCell (blockExtents k d) (part k codes d) j o)) N-is (node-first u));
       }
     where
@@ -78,7 +78,7 @@ module _ (k : Cutting) (good : goodCut k ≡ true) (codes : List ℕ) (j : ℕ) 
       d = w .b
 
       q : ℕ
-      q = w .held .p
+      q = w .has .p
 
       o : ℕ
       o = getD (part k codes d) q 0
@@ -90,17 +90,17 @@ module _ (k : Cutting) (good : goodCut k ≡ true) (codes : List ℕ) (j : ℕ) 
       act = numbered-active (k .extents) codes F (f .within) (omega (arith, f .level)) (omega (arith, f .has, positive))
 
       level : order (blockExtents k d) q ≡ j
-      level = sym (embed-order k good d (w .listed) q (w .held .within)) ∙ ap (order (k .extents)) (w .held .is) ∙ f .level
+      level = sym (embed-order k good d (w .listed) q (w .has .within)) ∙ ap (order (k .extents)) (w .has .is) ∙ f .level
 
       u : Sees k codes j d o q
       u =
           record {
             listed = w .listed;
-            within = w .held .within;
+            within = w .has .within;
             level = level;
-            act = carried k good codes j lo hi d (w .listed) .act q (w .held .within) level ∙ ap (active (k .extents) (uncutMap k codes)) (w .held .is) ∙ act;
+            act = carried k good codes j lo hi d (w .listed) .act q (w .has .within) level ∙ ap (active (k .extents) (uncutMap k codes)) (w .has .is) ∙ act;
             has = refl;
           }
 
       N-is : getD (uncutMap k codes) (embed k d q) 0 ≡ N
-      N-is = ap (λ (x : ℕ). getD (uncutMap k codes) x 0) (w .held .is) ∙ f .has
+      N-is = ap (λ (x : ℕ). getD (uncutMap k codes) x 0) (w .has .is) ∙ f .has

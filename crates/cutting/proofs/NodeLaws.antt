@@ -15,7 +15,7 @@ use Rattle.cells.specs.Grid.{cells, order}
 use Rattle.cells.specs.Row.{row, active, occupied}
 use Rattle.labels.specs.Numbering.{here, step}
 use Rattle.cutting.specs.Cutting.{Cutting, goodCut, blocks, blockExtents, blockCodes, embed}
-use Rattle.cutting.specs.Nodes.{uncutMap, part, Held, SeamPath, stay, next, last, Sees, AtCrossing, Tied, done, over, under, crossed}
+use Rattle.cutting.specs.Nodes.{uncutMap, part, BlockHas, SeamPath, stay, next, last, Sees, AtCrossing, Tied, done, over, under, crossed}
 use Rattle.lists.proofs.Cases.{by-test}
 use Rattle.cells.proofs.GridLaws.{Upper, upper-neighbour}
 use Rattle.labels.proofs.LabelLaws.{labels-numbering}
@@ -64,8 +64,8 @@ module _ (k : Cutting) (good : goodCut k ≡ true) (codes : List ℕ) (j : ℕ) 
   tied-same (crossed x r l) s t = node-same s (r .one) ∙ crossing-same r ∙ tied-same l (r .two) t
 
   -- one cell seen from two blocks: its nodes are tied by seams
-  pub held-sees : {b n p : ℕ} → Sees k codes j b n p → (d : ℕ) → d < blocks k → (h : Held k d (embed k b p)) → Sees k codes j d (getD (part k codes d) (h .p) 0) (h .p)
-  held-sees {b} {n} {p} s d hd h =
+  pub has-sees : {b n p : ℕ} → Sees k codes j b n p → (d : ℕ) → d < blocks k → (h : BlockHas k d (embed k b p)) → Sees k codes j d (getD (part k codes d) (h .p) 0) (h .p)
+  has-sees {b} {n} {p} s d hd h =
       let o : order (blockExtents k d) (h .p) ≡ j = sym (embed-order k good d hd (h .p) (h .within)) ∙ ap (order (k .extents)) (h .is) ∙ sees-order s in
       record {
         listed = hd;
@@ -80,12 +80,12 @@ module _ (k : Cutting) (good : goodCut k ≡ true) (codes : List ℕ) (j : ℕ) 
       let same : p ≡ q = embed-same k good b (s .listed) p q (s .within) (u .within) (e ∙ sym f) in
       subst (Tied k codes j true b m b) (sym (s .has) ∙ ap (λ (x : ℕ). getD (part k codes b) x 0) same ∙ u .has) done
   along-seams {t} (next {b = b} {c = d} hd z h l) {m} {o} {p} s e u f =
-      let h′ : Held k d (embed k b p) = record { p = h .p; within = h .within; is = h .is ∙ sym e } in
-      let v : Sees k codes j d (getD (part k codes d) (h .p) 0) (h .p) = held-sees s d hd h′ in
+      let h′ : BlockHas k d (embed k b p) = record { p = h .p; within = h .within; is = h .is ∙ sym e } in
+      let v : Sees k codes j d (getD (part k codes d) (h .p) 0) (h .p) = has-sees s d hd h′ in
       over (record { joint = z; p = p; q = h .p; one = s; two = v; same = e ∙ sym (h .is) }) (along-seams l v (h .is) u f)
   along-seams {t} (last {b = b} {c = d} hd z h l) {m} {o} {p} s e u f =
-      let h′ : Held k d (embed k b p) = record { p = h .p; within = h .within; is = h .is ∙ sym e } in
-      let v : Sees k codes j d (getD (part k codes d) (h .p) 0) (h .p) = held-sees s d hd h′ in
+      let h′ : BlockHas k d (embed k b p) = record { p = h .p; within = h .within; is = h .is ∙ sym e } in
+      let v : Sees k codes j d (getD (part k codes d) (h .p) 0) (h .p) = has-sees s d hd h′ in
       under (record { joint = z; p = h .p; q = p; one = v; two = s; same = h .is ∙ sym e }) (along-seams l v (h .is) u f)
 
   one-cell : {b m p d o q : ℕ} → Sees k codes j b m p → Sees k codes j d o q → embed k b p ≡ embed k d q → Tied k codes j true b m d o
@@ -105,7 +105,7 @@ module _ (k : Cutting) (good : goodCut k ≡ true) (codes : List ℕ) (j : ℕ) 
       let a : Upper (blockExtents k (w .b)) (w .meet .at) (w .one) = upper-neighbour (blockExtents k (w .b)) (w .meet .at) (w .meet .inside) (w .meet .one) in
       let z : Upper (blockExtents k (w .b)) (w .meet .at) (w .two) = upper-neighbour (blockExtents k (w .b)) (w .meet .at) (w .meet .inside) (w .meet .two) in
       let one : Sees k codes j (w .b) (getD (part k codes (w .b)) (w .one) 0) (w .one) =
-      held-sees s (w .b) (w .listed) (record { p = w .one; within = a .within; is = w .one-is ∙ sym e }) in
+      has-sees s (w .b) (w .listed) (record { p = w .one; within = a .within; is = w .one-is ∙ sym e }) in
       let rows : row (k .extents) (uncutMap k codes) (embed k (w .b) (w .one)) ≡ row (k .extents) (uncutMap k codes) (embed k (w .b) (w .two)) =
       ap (row (k .extents) (uncutMap k codes)) (w .one-is) ∙ r .same ∙ ap (row (k .extents) (uncutMap k codes)) (sym (w .two-is)) in
       let level : order (blockExtents k (w .b)) (w .two) ≡ j = z .higher ∙ sym (a .higher) ∙ one .level in

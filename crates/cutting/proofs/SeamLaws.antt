@@ -12,10 +12,10 @@ use borrow.Author.Tests.{eqb-true, eqb-false, eq-eqb, ltb-true, ltb-false, lt-lt
 use Rattle.cells.specs.Box.{Triple, Axis, X, Y, Z, triple, coord, index, place}
 use Rattle.cells.specs.Grid.{sides, parity, order}
 use Rattle.cutting.specs.Cutting.{Cutting, cuts, ascends, cutList, intervals, lowEnd, highEnd, blockSides, blocks, goodCut, interval, follows, sameInterval, seam}
-use Rattle.cutting.specs.Nodes.{Held, SeamPath, stay, next, last}
+use Rattle.cutting.specs.Nodes.{BlockHas, SeamPath, stay, next, last}
 use Rattle.lists.proofs.Cases.{by-test, and-second, and-both, or-left, or-right}
 use Rattle.cells.proofs.BoxLaws.{Inside, index-place, place-index, place-inside, raised, same-triple}
-use Rattle.cutting.proofs.CutLaws.{step-up, step-rest, cut-on, Spans, held-spans, spans-held, block-in, interval-at, interval-is, block-sides-on}
+use Rattle.cutting.proofs.CutLaws.{step-up, step-rest, cut-on, Spans, has-spans, spans-has, block-in, interval-at, interval-is, block-sides-on}
 
 -- ---- one axis: two intervals that hold one coordinate are equal or neighbours
 
@@ -79,15 +79,15 @@ module _ (k : Cutting) (good : goodCut k ≡ true) (t : ℕ) where
   Fits : Triple → Type 0
   Fits m = (a : Axis) → Spans (cuts k a) (coord m a) (coord (place (sides (k .extents)) t) a)
 
-  held-at : (m : Triple) → Inside (blockSides k) m → Fits m → Held k (index (blockSides k) m) t
+  has-at : (m : Triple) → Inside (blockSides k) m → Fits m → BlockHas k (index (blockSides k) m) t
   unfolding Fits
-  held-at m i f =
-      spans-held k good (index (blockSides k) m) (block-in k m i) t
+  has-at m i f =
+      spans-has k good (index (blockSides k) m) (block-in k m i) t
       (λ a. subst (λ (n : ℕ). Spans (cuts k a) n (coord (place (sides (k .extents)) t) a)) (sym (interval-at k m i a)) (f a))
 
-  fits-of : (b : ℕ) → b < blocks k → Held k b t → Fits (place (blockSides k) b)
+  fits-of : (b : ℕ) → b < blocks k → BlockHas k b t → Fits (place (blockSides k) b)
   unfolding Fits
-  fits-of b hb h a = subst (λ (n : ℕ). Spans (cuts k a) n (coord (place (sides (k .extents)) t) a)) (interval-is k b a) (held-spans k good b hb t h a)
+  fits-of b hb h a = subst (λ (n : ℕ). Spans (cuts k a) n (coord (place (sides (k .extents)) t) a)) (interval-is k b a) (has-spans k good b hb t h a)
 
   place-of : (m : Triple) → Inside (blockSides k) m → place (blockSides k) (index (blockSides k) m) ≡ m
   place-of m i = same-triple _ _ (place-index (blockSides k) m (i X) (i Y))
@@ -99,14 +99,14 @@ module _ (k : Cutting) (good : goodCut k ≡ true) (t : ℕ) where
       next (block-in k n j)
       (seam-raised k (index (blockSides k) m) (index (blockSides k) n) a (block-in k m i) (block-in k n j)
       (λ d. interval-at k n j d ∙ ap (λ (x : Triple). coord x d) (e ∙ ap (raised a) (sym (place-of m i)))))
-      (held-at n j f) l
+      (has-at n j f) l
   hop a m n i j f (inr (inr e)) l =
       last (block-in k n j)
       (seam-raised k (index (blockSides k) n) (index (blockSides k) m) a (block-in k n j) (block-in k m i)
       (λ d. interval-at k m i d ∙ ap (λ (x : Triple). coord x d) (e ∙ ap (raised a) (sym (place-of n j)))))
-      (held-at n j f) l
+      (has-at n j f) l
 
-  pub seam-path : (b c : ℕ) → b < blocks k → c < blocks k → Held k b t → Held k c t → SeamPath k t b c
+  pub seam-path : (b c : ℕ) → b < blocks k → c < blocks k → BlockHas k b t → BlockHas k c t → SeamPath k t b c
   unfolding Fits raised blocks
   seam-path b c hb hc u v =
       subst (λ (x : ℕ). SeamPath k t x c) (index-place (blockSides k) b)
@@ -192,7 +192,7 @@ odd-interval n c t i j x hi hj u v o = go (near n c t i j x hi hj u v)
     go (inr (inl e)) = absurd (omega (arith, cut-ends n c t i (omega arith), ap (lowEnd c) e, u .below, v .above))
     go (inr (inr e)) = absurd (omega (arith, cut-ends n c t j (omega arith), ap (lowEnd c) e, v .below, u .above))
 
-pub point-block : (k : Cutting) → goodCut k ≡ true → (t b c : ℕ) → order (k .extents) t ≡ 0 → b < blocks k → c < blocks k → Held k b t → Held k c t → b ≡ c
+pub point-block : (k : Cutting) → goodCut k ≡ true → (t b c : ℕ) → order (k .extents) t ≡ 0 → b < blocks k → c < blocks k → BlockHas k b t → BlockHas k c t → b ≡ c
 unfolding order parity blocks Fits
 point-block k good t b c o hb hc u v = sym (index-place (blockSides k) b) ∙ ap (index (blockSides k)) (same-triple m n same) ∙ index-place (blockSides k) c
   where

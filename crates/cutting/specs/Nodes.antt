@@ -19,7 +19,7 @@ abbrev pub part : Cutting → List ℕ → ℕ → List ℕ
 part k codes b = labels (blockExtents k b) (blockCodes k b codes)
 
 -- Cell t of the volume is a cell of block b.
-pub record Held (k : Cutting) (b t : ℕ) : Type 0 where
+pub record BlockHas (k : Cutting) (b t : ℕ) : Type 0 where
   pub p : ℕ
   pub within : p < cells (blockExtents k b)
   pub is : embed k b p ≡ t
@@ -27,8 +27,8 @@ pub record Held (k : Cutting) (b t : ℕ) : Type 0 where
 -- A path of seams, taken either way, between blocks that hold cell t.
 pub data SeamPath (k : Cutting) (t : ℕ) : ℕ → ℕ → Type 0 where
   stay : {b : ℕ} → SeamPath k t b b
-  next : {b c d : ℕ} → c < blocks k → seam k b c ≡ true → Held k c t → SeamPath k t c d → SeamPath k t b d
-  last : {b c d : ℕ} → c < blocks k → seam k c b ≡ true → Held k c t → SeamPath k t c d → SeamPath k t b d
+  next : {b c d : ℕ} → c < blocks k → seam k b c ≡ true → BlockHas k c t → SeamPath k t c d → SeamPath k t b d
+  last : {b c d : ℕ} → c < blocks k → seam k c b ≡ true → BlockHas k c t → SeamPath k t c d → SeamPath k t b d
 
 -- Cell p of block b is active, has order j, and number n there.
 pub record Sees (k : Cutting) (codes : List ℕ) (j b n p : ℕ) : Type 0 where

@@ -9,17 +9,17 @@ use borrow.Author.Tests.{ne-eqb}
 use Rattle.cutting.specs.Cutting.{blocks, blockExtents}
 use Rattle.joiner.specs.Job.{Kind, width, Told, Tables, State}
 use Rattle.joiner.specs.Calls.{Call, reading, Answer, answer}
-use Rattle.joiner.specs.Entries.{CallStep}
+use Rattle.joiner.specs.Outcomes.{CallStep}
 use Rattle.joiner.specs.Book.{begun}
 use Rattle.joiner.specs.Statement.{Entry, Run, Fair, Labelling, Measured}
 use Rattle.joiner.proofs.Statement3.{statement3}
 use Rattle.job.specs.declared.Job.{Job}
 use Rattle.job.specs.declared.Stage.{Stage}
-use Rattle.job.specs.Jobs.{stateOf}
+use Rattle.job.specs.JobState.{stateOf}
 use Rattle.job_numbers.specs.Numbers.{jobIn, numbersOf, keptNumbers}
 use Rattle.job_numbers.proofs.NumberLaws.{job-back, kept-new, kept-old}
 use Rattle.strain_calls.specs.Tables.{TotalTables}
-use Rattle.strain_calls.specs.Entries.{OpenedTotals}
+use Rattle.strain_calls.specs.Outcomes.{OpenedTotals}
 use Rattle.exports.specs.Exports.{ExportedOpening, ExportedStep, ExportedLookup, ExportedRow}
 use Rattle.exports.specs.Calls.{Kept, keeps, stateKept, lookAnswer, rowAnswer, ExportedCall, stepped, looked, read, ExportedCalls, none, next}
 use Rattle.exports.proofs.Rows.{row-wide, six-front}

@@ -15,9 +15,9 @@ use Rattle.lists.proofs.Lists.{getD-tabulate, length-tabulate}
 use Rattle.joiner.specs.Job.{Kind, Face, Curve, Point, width, State, listedTrays}
 use Rattle.joiner.specs.Calls.{reading}
 use Rattle.joiner.specs.Declines.{lentTo, refusal}
-use Rattle.joiner.specs.Entries.{rowTaken}
+use Rattle.joiner.specs.Outcomes.{rowTaken}
 use Rattle.joiner.proofs.Passed.{Passed, passed, fits-at, numbered-fits}
-use Rattle.reading_row.proofs.ReadingLaws.{row-end}
+use Rattle.reading_row.proofs.RowLaws.{row-end}
 use Rattle.exports.specs.Exports.{sixOf}
 
 -- The row of an accepted reading has its two, four or six places.

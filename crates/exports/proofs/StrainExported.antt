@@ -11,12 +11,12 @@ use Rattle.joiner.specs.Book.{begun}
 use Rattle.joiner.specs.Statement.{Labelling}
 use Rattle.job.specs.declared.Job.{Job}
 use Rattle.job.specs.declared.Stage.{Stage}
-use Rattle.job.specs.Jobs.{stateOf}
+use Rattle.job.specs.JobState.{stateOf}
 use Rattle.totals.specs.declared.Totals.{Totals}
 use Rattle.extended.specs.Extended.{LongRun, added}
 use Rattle.strain_calls.specs.Tables.{TotalTables}
 use Rattle.strain_calls.specs.Calls.{StrainCall, total, StrainAnswer, strainAnswer, noTotals}
-use Rattle.strain_calls.specs.Entries.{StrainStep}
+use Rattle.strain_calls.specs.Outcomes.{StrainStep}
 use Rattle.theory_totals.specs.Book.{noReadings}
 use Rattle.theory_totals.specs.Statement.{StrainEntry, LongFair, StrainMeasured, BringsLists, TotalRead}
 use Rattle.theory_totals.proofs.StrainStatement.{strain-statement}

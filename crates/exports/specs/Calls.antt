@@ -9,7 +9,7 @@ use Rattle.joiner.specs.Job.{Kind, width, Tables, State}
 use Rattle.joiner.specs.Calls.{Call, reading, Answer, answer}
 use Rattle.joiner.specs.Statement.{Entry}
 use Rattle.job.specs.declared.Stage.{Stage}
-use Rattle.job.specs.Jobs.{stateOf}
+use Rattle.job.specs.JobState.{stateOf}
 use Rattle.job_numbers.specs.Numbers.{jobIn}
 use Rattle.exports.specs.Exports.{ExportedStep, ExportedLookup, ExportedRow}
 

@@ -9,15 +9,15 @@ use lib.ListN.{getD}
 use lib.Ieee.{Float}
 use Rattle.joiner.specs.Job.{Kind, Told, Tables}
 use Rattle.joiner.specs.Calls.{Call, reading, answer}
-use Rattle.joiner.specs.Entries.{CallStep}
+use Rattle.joiner.specs.Outcomes.{CallStep}
 use Rattle.job.specs.declared.Job.{Job}
 use Rattle.job.specs.declared.Stage.{Stage}
-use Rattle.job.specs.Jobs.{jobOf, stateOf, anyCuts, anyTables}
+use Rattle.job.specs.JobState.{jobOf, stateOf, anyCuts, anyTables}
 use Rattle.job.specs.Lent.{rowLent}
 use Rattle.job_numbers.specs.Numbers.{jobIn, keptNumbers}
 use Rattle.totals.specs.declared.Totals.{Totals}
 use Rattle.strain_calls.specs.Tables.{TotalTables}
-use Rattle.strain_calls.specs.Entries.{TotalsOpening, StrainPromise, TotalPromise}
+use Rattle.strain_calls.specs.Outcomes.{TotalsOpening, StrainPromise, TotalPromise}
 
 -- Of an opening: `TotalsOpening`, with the tables of the readings; its job is stored if it is accepted, and the numbers stay if it is refused.
 pub record ExportedOpening (ns ns′ : List ℕ) (o : Told) (t t′ : Tables) (w w′ : TotalTables) (r : ℕ) : Type 0 where

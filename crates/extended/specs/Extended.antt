@@ -3,7 +3,7 @@
 -- Assumes nothing.
 use mathlib.Core.List.{List, [], _∷_}
 use Rattle.joiner.specs.Job.{State}
-use Rattle.joiner.specs.Entries.{CallStep}
+use Rattle.joiner.specs.Outcomes.{CallStep}
 use Rattle.joiner.specs.Statement.{Entry}
 
 -- A call of the longer list: one of statement 3's, or one of the request's with its answer and the request's tables as it left them.

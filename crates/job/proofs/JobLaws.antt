@@ -9,9 +9,9 @@ use native.Mathlib.Omega.{arith}
 use lib.Dec.{eqb, leb}
 use borrow.Author.Tests.{eq-eqb, ne-eqb, le-leb, lt-leb}
 use Rattle.joiner.specs.Job.{Kind, Face, Curve, Point, Tray, lengthsFit}
-use Rattle.joiner.specs.Entries.{Fresh, nothing}
+use Rattle.joiner.specs.Outcomes.{Fresh, nothing}
 use Rattle.job.specs.declared.Job.{Job}
-use Rattle.job.specs.Jobs.{byKind, jobOf, freshJob, NoJob}
+use Rattle.job.specs.JobState.{byKind, jobOf, freshJob, NoJob}
 
 -- ---- the lengths of tables
 

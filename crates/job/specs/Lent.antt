@@ -4,7 +4,7 @@
 use mathlib.Core.List.{List, []}
 use Prim.Native.Nat.{ℕ}
 use Rattle.joiner.specs.Job.{Face, Curve, Point, Tables}
-use Rattle.job.specs.Jobs.{tablesOf}
+use Rattle.job.specs.JobState.{tablesOf}
 
 -- Empty tables: what a public entry's contract has for a table that it is not lent.
 abbrev pub noTables : Tables

@@ -1,3 +1,3 @@
 -- The definitions of the crate.
-pub mod Jobs
+pub mod JobState
 pub mod Lent

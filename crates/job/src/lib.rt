@@ -9,7 +9,7 @@ ghost use lib.Dec.{eqb, leb};
 ghost use Rattle.cutting.specs.Cutting.{mostBlocks};
 ghost use Rattle.joiner.specs.Job.{stageNumber, sameStage, tray, lengthsFit};
 ghost use Rattle.joiner.specs.Declines.{talliesFit};
-ghost use Rattle.job.specs.Jobs.{stageOf, jobOf, freshJob, anyCuts, NoJob, blockLengths, linkLengths, foundLengths, kindLengths, totalLengths};
+ghost use Rattle.job.specs.JobState.{stageOf, jobOf, freshJob, anyCuts, NoJob, blockLengths, linkLengths, foundLengths, kindLengths, totalLengths};
 
 // "A job goes through stages."
 pub enum Stage {

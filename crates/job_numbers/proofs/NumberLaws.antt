@@ -8,7 +8,7 @@ use borrow.Author.Tests.{eq-eqb, ne-eqb}
 use Rattle.joiner.specs.Job.{stageNumber}
 use Rattle.job.specs.declared.Job.{Job}
 use Rattle.job.specs.declared.Stage.{Stage}
-use Rattle.job.specs.Jobs.{stageOf}
+use Rattle.job.specs.JobState.{stageOf}
 use Rattle.job_numbers.specs.Numbers.{jobAt, stageIn, jobIn, numbersOf, keptNumbers}
 
 stage-back : (s other : Stage) → stageIn (stageNumber (stageOf s)) other ≡ s

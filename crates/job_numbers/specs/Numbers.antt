@@ -8,7 +8,7 @@ use lib.ListN.{getD}
 use Rattle.joiner.specs.Job.{stageNumber}
 use Rattle.job.specs.declared.Job.{Job}
 use Rattle.job.specs.declared.Stage.{Stage}
-use Rattle.job.specs.Jobs.{stageOf}
+use Rattle.job.specs.JobState.{stageOf}
 
 -- The stage with this number, `other` where there is none.
 unfoldable pub stageIn : ℕ → Stage → Stage

@@ -16,7 +16,7 @@ use Rattle.cutting.specs.Cutting.{Cutting, blocks}
 use Rattle.joiner.specs.Book.{Book, bookAdds}
 use Rattle.joiner.specs.Calls.{Call, full, layersDiffer, overfull, placed, repeated, stageOf}
 use Rattle.joiner.specs.Declines.{adds, declines, refusal}
-use Rattle.joiner.specs.Entries.{Ticked, same}
+use Rattle.joiner.specs.Outcomes.{Ticked, same}
 use Rattle.joiner.specs.Job.{Closed, Crossing, Curve, Enrol, Face, Kind, Point, Points, Seam, Stage, State, Told, sameStage, stageNumber, ticked, ticksPerBlock}
 use Rattle.joiner.specs.Stages.{finished, nextAfter, nextStage, stepsOf}
 use Rattle.lists.proofs.Cases.{by-test, neither}

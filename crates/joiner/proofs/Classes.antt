@@ -18,7 +18,7 @@ use Rattle.labels.specs.Components.{firstCell, largest, ofOrder}
 use Rattle.labels.specs.Numbering.{here}
 use Rattle.cutting.specs.Cutting.{Cutting, blockCodes, blockExtents, blocks, embed, goodCut, sameInterval, seam}
 use Rattle.cutting.specs.Nodes.{Sees, Tied, part, uncutMap}
-use Rattle.joiner.specs.Entries.{AtCrossing, AtSeam, Together, back, joined, joinedRow, same, throughLinks, via}
+use Rattle.joiner.specs.Outcomes.{AtCrossing, AtSeam, Together, back, joined, joinedRow, same, throughLinks, via}
 use Rattle.joiner.specs.Job.{Curve, Face, Kind, Point, Tables, firstAt, node, orderOf}
 use Rattle.joiner.specs.Stages.{seams}
 use Rattle.lists.proofs.Cases.{by-test}

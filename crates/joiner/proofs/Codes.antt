@@ -16,7 +16,7 @@ use Rattle.cells.specs.Grid.{cells, order, sides, voxel, voxelCell}
 use Rattle.labels.specs.Number.{orderBelow}
 use Rattle.labels.specs.Numbering.{Numbering}
 use Rattle.cutting.specs.Cutting.{Cutting, blockCodes, blockExtents, blocks, cuts, embed, goodCut, interval, origin, seam}
-use Rattle.cutting.specs.Nodes.{Held, SeamPath, part, uncutMap}
+use Rattle.cutting.specs.Nodes.{BlockHas, SeamPath, part, uncutMap}
 use Rattle.joiner.specs.Calls.{differs}
 use Rattle.joiner.specs.Stages.{codeIn, codesOf, hasCell, hasOn, local, lowestBlock, shared}
 use Rattle.joiner.specs.Statement.{Labelling}
@@ -28,7 +28,7 @@ use Rattle.cells.proofs.BoxLaws.{Inside, coord-each, index-inside, index-place,
 use Rattle.cells.proofs.GridLaws.{cell-voxel, side-on, voxel-cell-inside, voxel-inside}
 use Rattle.labels.proofs.LabelLaws.{labels-numbering, numbering-unique}
 use Rattle.cutting.proofs.BlockLaws.{block-code}
-use Rattle.cutting.proofs.CutLaws.{InBlock, Spans, blocks-cover, embed-at, embed-inside, embed-order, embed-same, extent-on, held-spans, its-interval, origin-on, shiftInto, shift-on}
+use Rattle.cutting.proofs.CutLaws.{InBlock, Spans, blocks-cover, embed-at, embed-inside, embed-order, embed-same, extent-on, has-spans, its-interval, origin-on, shiftInto, shift-on}
 use Rattle.cutting.proofs.SeamLaws.{seam-path}
 use Rattle.joiner.proofs.Shared.{Shares, shared-in}
 
@@ -50,9 +50,9 @@ module _ (k : Cutting) (good : goodCut k ≡ true) (b : ℕ) (hb : b < blocks k)
   has-high c t a = ltb-true _ _ (and-second (leb (2 * coord (origin k b) a) (coord c a)) (ltb (coord c a) (2 * coord (origin k b) a + coord (sides (blockExtents k b)) a)) (has-on c t a))
 
   -- a cell that a block has stands in it at `local`
-  pub has-held : (c : Triple) → hasCell k b c ≡ true → (local k b c < cells (blockExtents k b)) × (embed k b (local k b c) ≡ index (sides (k .extents)) c)
+  pub cell-in-block : (c : Triple) → hasCell k b c ≡ true → (local k b c < cells (blockExtents k b)) × (embed k b (local k b c) ≡ index (sides (k .extents)) c)
   unfolding local cells
-  has-held c t = (index-inside s d d-in, embed-at k good b hb d d-in ∙ ap (index (sides (k .extents))) back)
+  cell-in-block c t = (index-inside s d d-in, embed-at k good b hb d d-in ∙ ap (index (sides (k .extents))) back)
     where
       s : Triple
       s = sides (blockExtents k b)
@@ -69,16 +69,16 @@ module _ (k : Cutting) (good : goodCut k ≡ true) (b : ℕ) (hb : b < blocks k)
       back : shiftInto k b d ≡ c
       back = same-triple (shiftInto k b d) c (λ a. omega (arith, shift-on k b d a, d-is a, has-low c t a))
 
-  pub held-has : (t : ℕ) → Held k b t → hasCell k b (place (sides (k .extents)) t) ≡ true
+  pub block-has-cell : (t : ℕ) → BlockHas k b t → hasCell k b (place (sides (k .extents)) t) ≡ true
   unfolding hasCell hasOn
-  held-has t h = and-both (on X) (on Y && on Z) (on-true X) (and-both (on Y) (on Z) (on-true Y) (on-true Z))
+  block-has-cell t h = and-both (on X) (on Y && on Z) (on-true X) (and-both (on Y) (on Z) (on-true Y) (on-true Z))
     where
       on : Axis → Bool
       on a = hasOn k b (place (sides (k .extents)) t) a
 
       on-true : (a : Axis) → on a ≡ true
       on-true a =
-          let s : Spans (cuts k a) (interval k b a) (coord (place (sides (k .extents)) t) a) = held-spans k good b hb t h a in
+          let s : Spans (cuts k a) (interval k b a) (coord (place (sides (k .extents)) t) a) = has-spans k good b hb t h a in
           let x : ℕ = coord (place (sides (k .extents)) t) a in
           let l : ℕ = 2 * coord (origin k b) a in
           let h′ : ℕ = 2 * coord (origin k b) a + coord (sides (blockExtents k b)) a in
@@ -93,17 +93,17 @@ lowest-has k good t ht =
     let c : Triple = place (sides (k .extents)) t in
     let w : InBlock k t = blocks-cover k good t ht in
     let m : List·Memᴰ (w .b) (keep (λ b. hasCell k b c) (consecutive 0 (blocks k))) =
-    keep-in (λ b. hasCell k b c) (consecutive 0 (blocks k)) (consecutive-in 0 (blocks k) (omega arith) (omega (arith, w .listed))) (held-has k good (w .b) (w .listed) t (w .held)) in
+    keep-in (λ b. hasCell k b c) (consecutive 0 (blocks k)) (consecutive-in 0 (blocks k) (omega arith) (omega (arith, w .listed))) (block-has-cell k good (w .b) (w .listed) t (w .has)) in
     let r = keep-out (λ b. hasCell k b c) (consecutive 0 (blocks k)) (first-in (keep (λ b. hasCell k b c) (consecutive 0 (blocks k))) m) in
     (omega (arith, consecutive-out 0 (blocks k) (r .0)), r .1)
 
 -- .. and holds it
-pub lowest-held : (k : Cutting) → goodCut k ≡ true → (t : ℕ) → t < cells (k .extents)
-    → (lowestBlock k (place (sides (k .extents)) t) < blocks k) × Held k (lowestBlock k (place (sides (k .extents)) t)) t
-lowest-held k good t ht =
+pub lowest-has-cell : (k : Cutting) → goodCut k ≡ true → (t : ℕ) → t < cells (k .extents)
+    → (lowestBlock k (place (sides (k .extents)) t) < blocks k) × BlockHas k (lowestBlock k (place (sides (k .extents)) t)) t
+lowest-has-cell k good t ht =
     let c : Triple = place (sides (k .extents)) t in
     let w = lowest-has k good t ht in
-    let h = has-held k good (lowestBlock k c) (w .0) c (w .1) in
+    let h = cell-in-block k good (lowestBlock k c) (w .0) c (w .1) in
     (w .0, record { p = local k (lowestBlock k c) c; within = h .0; is = h .1 ∙ index-place (sides (k .extents)) t })
 
 -- the code of a voxel of the volume, out of the maps
@@ -122,7 +122,7 @@ codes-same k good f g h =
     (λ v m.
     let t : ℕ = voxelCell (k .extents) v in
     let c : Triple = place (sides (k .extents)) t in
-    let w = lowest-held k good t (voxel-cell-inside (k .extents) v (omega (arith, consecutive-out 0 (volume (k .extents)) m))) in
+    let w = lowest-has-cell k good t (voxel-cell-inside (k .extents) v (omega (arith, consecutive-out 0 (volume (k .extents)) m))) in
     ap (λ (l : List ℕ). getD l (local k (lowestBlock k c) c) 0) (h (lowestBlock k c) (w .0)))
 
 -- ---- agreement
@@ -135,7 +135,7 @@ module _ (k : Cutting) (good : goodCut k ≡ true) (own : ℕ → List ℕ)
       let d : differs (blockExtents k b) (own b) (own c) (edge p q) ≡ false = some-none (differs (blockExtents k b) (own b) (own c)) (shared k b c) (agree b c z) (shared-in k b c p q r) in
       eqb-true _ _ (not-false _ (rw (eq-eqb (order (blockExtents k b) p) 3 o) at d))
 
-  path-voxel : {t b d : ℕ} → SeamPath k t b d → b < blocks k → order (k .extents) t ≡ 3 → (h : Held k b t) (g : Held k d t) → getD (own b) (h .p) 0 ≡ getD (own d) (g .p) 0
+  path-voxel : {t b d : ℕ} → SeamPath k t b d → b < blocks k → order (k .extents) t ≡ 3 → (h : BlockHas k b t) (g : BlockHas k d t) → getD (own b) (h .p) 0 ≡ getD (own d) (g .p) 0
   path-voxel (SeamPath.stay {b = b}) hb o h g = ap (λ (x : ℕ). getD (own b) x 0) (embed-same k good b hb (h .p) (g .p) (h .within) (g .within) (h .is ∙ sym (g .is)))
   path-voxel (SeamPath.next {b = b} {c = c} hc z m l) hb o h g =
       seam-voxel b c (h .p) (m .p) z (record { p-in = h .within; q-in = m .within; one-cell = h .is ∙ sym (m .is) }) (sym (embed-order k good b hb (h .p) (h .within)) ∙ ap (order (k .extents)) (h .is) ∙ o)
@@ -153,9 +153,9 @@ module _ (k : Cutting) (good : goodCut k ≡ true) (own : ℕ → List ℕ)
       let ot : order (k .extents) t ≡ 3 = embed-order k good b hb p hp ∙ o in
       let c : Triple = place (sides (k .extents)) t in
       let w = lowest-has k good t ht in
-      let h = has-held k good (lowestBlock k c) (w .0) c (w .1) in
-      let g : Held k (lowestBlock k c) t = record { p = local k (lowestBlock k c) c; within = h .0; is = h .1 ∙ index-place (sides (k .extents)) t } in
-      let me : Held k b t = record { p = p; within = hp; is = refl } in
+      let h = cell-in-block k good (lowestBlock k c) (w .0) c (w .1) in
+      let g : BlockHas k (lowestBlock k c) t = record { p = local k (lowestBlock k c) c; within = h .0; is = h .1 ∙ index-place (sides (k .extents)) t } in
+      let me : BlockHas k b t = record { p = p; within = hp; is = refl } in
       path-voxel (seam-path k good t b (lowestBlock k c) hb (w .0) me g) hb ot me g ∙ sym (code-of k own t ht ot)
 
   -- so each map is that of its block of the volume

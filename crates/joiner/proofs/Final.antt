@@ -20,7 +20,7 @@ use Rattle.cutting.specs.Nodes.{part, uncutMap}
 use Rattle.joiner.specs.Book.{Book, bookAdds, uncut}
 use Rattle.joiner.specs.Calls.{point}
 use Rattle.joiner.specs.Declines.{adds, finalOf, finalRow, pointCells}
-use Rattle.joiner.specs.Entries.{AtCrossing, AtSeam, NumberedKind, PointDone, enrolledRow, headOf, rank, rowAt, rowFinal, shifted}
+use Rattle.joiner.specs.Outcomes.{AtCrossing, AtSeam, NumberedKind, PointDone, enrolledRow, headOf, rank, rowAt, rowFinal, shifted}
 use Rattle.joiner.specs.Job.{Crossing, Curve, Enrol, Face, Kind, Point, Points, Seam, State, Told, firstAt, fromOf, keyOf, node, orderOf, stageNumber, width}
 use Rattle.joiner.specs.Stages.{codesOf, crossingStep, enrolStep, pointStep, seamStep, stepsOf}
 use Rattle.joiner.specs.Statement.{Labelling}
@@ -36,9 +36,9 @@ use Rattle.joiner.proofs.Classes.{ByEither, BySeam, Layout, NodeAt, cur
 use Rattle.joiner.proofs.Codes.{codes-same, own-part}
 use Rattle.joiner.proofs.Linking.{Within}
 use Rattle.joiner.proofs.Inv.{EdgeDone, In, Inv, Kept, Numbered, SeamEdge}
-use Rattle.joiner.proofs.Points.{MorePoints, PointsSo, cell-out, point-rows, pointsOf, ranked-points}
-use Rattle.joiner.proofs.Ranking.{HeadOf, Ranked, head-of, heads-total, rank-is}
-use Rattle.joiner.proofs.Ranks.{ranked-joined}
+use Rattle.joiner.proofs.FoundPoints.{MorePoints, PointsSo, cell-out, point-rows, pointsOf, ranked-points}
+use Rattle.joiner.proofs.Ranked.{HeadOf, Ranked, head-of, heads-total, rank-is}
+use Rattle.joiner.proofs.FinalRanks.{ranked-joined}
 use Rattle.joiner.proofs.Roots.{together-map}
 use Rattle.joiner.proofs.RowsFinal.{component-row-first, curve-kept, final-cell}
 use Rattle.joiner.proofs.SeamSteps.{seam-in}

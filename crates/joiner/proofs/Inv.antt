@@ -20,7 +20,7 @@ use Rattle.cutting.specs.Cutting.{Cutting, blockExtents, blocks, embed, goodCut
 use Rattle.joiner.specs.Book.{Book, bookAdds, bookDeclines, bookEarly, earlyCases, bookRefusal, bringsOwn, uncutCount}
 use Rattle.joiner.specs.Calls.{Call, cross, differs, enrol, full, join, layersDiffer, look, mapsFit, overfull, placed, point, reading, repeated, stageOf}
 use Rattle.joiner.specs.Declines.{adds, allLinksStand, counted, curvesStand, cutFor, declines, filled, lastCrossing, lentTo, linksStand, lookStands, mapStands, refusal, rowsStand, standing, standsFor, stray, talliesFit, tallyFits}
-use Rattle.joiner.specs.Entries.{AtCrossing, AtSeam, enrolledRow, shifted}
+use Rattle.joiner.specs.Outcomes.{AtCrossing, AtSeam, enrolledRow, shifted}
 use Rattle.joiner.specs.Job.{Closed, Crossing, Curve, Enrol, Face, Kind, Point, Points, Seam, Stage, State, Told, countOf, firstAt, lengthsFit, fromOf, node, orderOf, sameStage, stageNumber, ticked, width}
 use Rattle.joiner.specs.Stages.{crossingStep, enrolStep, hasCell, local, pointStep, seamStep, shared, stepsOf}
 use Rattle.joiner.specs.Statement.{Labelling}

@@ -4,7 +4,7 @@ use mathlib.Core.Path.{_≡_}
 use mathlib.Core.List.{List, [], _∷_, head-eq-of-cons-eq, tail-eq-of-cons-eq}
 use Prim.Native.Nat.{ℕ}
 use Rattle.joiner.specs.Job.{Kind, Tables, State}
-use Rattle.joiner.specs.Entries.{KeptFound, KeptNumbers}
+use Rattle.joiner.specs.Outcomes.{KeptFound, KeptNumbers}
 
 -- What is found of a kind, and what is numbered.
 abbrev pub foundTables : Tables → Kind → List (List ℕ)

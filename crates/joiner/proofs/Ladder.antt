@@ -10,7 +10,7 @@ use Rattle.refusals.specs.Refusals.{Refusal, bad-cut, bad-reading, bad-record, 
 use Rattle.joiner.specs.Job.{State, Tables, Told}
 use Rattle.joiner.specs.Calls.{Call}
 use Rattle.joiner.specs.Declines.{declines}
-use Rattle.joiner.specs.Entries.{openDeclines}
+use Rattle.joiner.specs.Outcomes.{openDeclines}
 use Rattle.joiner.specs.Book.{Book, bookDeclines}
 use Rattle.lists.proofs.Cases.{by-test}
 

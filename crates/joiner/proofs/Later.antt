@@ -17,7 +17,7 @@ use Rattle.cutting.specs.Cutting.{Cutting, blockExtents, blocks, goodCut, sameI
 use Rattle.joiner.specs.Book.{Book, bookAdds, entered}
 use Rattle.joiner.specs.Calls.{Call, differs}
 use Rattle.joiner.specs.Declines.{adds}
-use Rattle.joiner.specs.Entries.{AtCrossing, AtSeam, KeptFound, Ticked, enrolledRow, joinedRow}
+use Rattle.joiner.specs.Outcomes.{AtCrossing, AtSeam, KeptFound, Ticked, enrolledRow, joinedRow}
 use Rattle.joiner.specs.Job.{Curve, Face, Kind, Point, State, Tables, Told, column, countOf, firstAt, fromOf, keyPosition, node, numbersPerBlock, orderOf, ticksPerBlock, width}
 use Rattle.joiner.specs.Stages.{seamStep, shared, stepsOf}
 use Rattle.lists.proofs.Table.{at, bothTests, every}

@@ -20,7 +20,7 @@ use Rattle.labels.specs.Numbering.{Numbering}
 use Rattle.cutting.specs.Cutting.{blockExtents, blocks, embed, goodCut}
 use Rattle.joiner.specs.Book.{Book, uncut}
 use Rattle.joiner.specs.Declines.{finalOf}
-use Rattle.joiner.specs.Entries.{bisect, cellNumber, lookedUp, pointNumber, rowTaken}
+use Rattle.joiner.specs.Outcomes.{bisect, cellNumber, lookedUp, pointNumber, rowTaken}
 use Rattle.joiner.specs.Job.{Curve, Face, Kind, Point, Points, State, Told, orderOf, stageNumber, width}
 use Rattle.joiner.specs.Stages.{codesOf, hasCell, local, shared}
 use Rattle.joiner.specs.Statement.{Labelling}
@@ -33,7 +33,7 @@ use Rattle.labels.proofs.CountLaws.{every-number, firsts-ascend, largest-bound}
 use Rattle.labels.proofs.LabelLaws.{labels-numbering, numbered-active, point-alone}
 use Rattle.cutting.proofs.BlockLaws.{voxel-same}
 use Rattle.cutting.proofs.CutLaws.{embed-inside, embed-order}
-use Rattle.joiner.proofs.Codes.{has-held}
+use Rattle.joiner.proofs.Codes.{cell-in-block}
 use Rattle.joiner.proofs.Final.{Final, layout, part-is, uncut-is, volume-map}
 use Rattle.joiner.proofs.Inv.{Inv, Kept}
 use Rattle.joiner.proofs.RowsFinal.{final-cell}
@@ -129,8 +129,8 @@ module _ (e : Triple) (codes xs : List ℕ) (firsts-are : (i : ℕ) → i < larg
       subst (λ (a : ℕ). a < getD xs j 0) (sym (firsts-are i (omega arith)))
       (subst (λ (b : ℕ). firstCell e (labels e codes) 0 (suc i) < b) (sym (firsts-are j l)) (firsts-ascend e codes (labels e codes) uncut-numbering 0 (omega arith) (suc i) (suc j) (omega arith) (omega arith) (omega arith)))
 
-  pub point-held : (q : ℕ) → q < cells e → order e q ≡ 0 → pointNumber xs (largest e (labels e codes) 0) q ≡ getD (labels e codes) q 0
-  point-held q hq o = by-test (active e (labels e codes) q) yes no
+  pub point-listed : (q : ℕ) → q < cells e → order e q ≡ 0 → pointNumber xs (largest e (labels e codes) 0) q ≡ getD (labels e codes) q 0
+  point-listed q hq o = by-test (active e (labels e codes) q) yes no
     where
       first-active : (N : ℕ) → 0 < N → N ≤ largest e (labels e codes) 0 → Belongs e (labels e codes) 0 N (firstCell e (labels e codes) 0 N)
       first-active N h0 hN = let w = every-number e codes (labels e codes) uncut-numbering 0 (omega arith) N h0 hN in belongs-at e (labels e codes) 0 N (w .p) (w .there .within) (w .there .level) (w .there .has)
@@ -196,7 +196,7 @@ module _ (o : Told) (own : ℕ → List ℕ) (good : goodCut (o .cutting) ≡ tr
   unfolding lookedUp
   cell-read b c hb h =
       ap (λ (z : Told). cellNumber (z .cutting) (s .tables) (s .job .numbered Point) b (own b) c (local (z .cutting) b c)) (I .told)
-      ∙ held
+      ∙ looked-up
       ∙ ap (λ (x : ℕ). getD Vm x 0) (p-is .1)
       ∙ sym (ap₂ (λ (z : Told) (m : List ℕ). getD m (index (sides (z .cutting .extents)) c) 0) (I .btold) (uncut-is o own good lab B s I late))
     where
@@ -207,7 +207,7 @@ module _ (o : Told) (own : ℕ → List ℕ) (good : goodCut (o .cutting) ≡ tr
       p = local (o .cutting) b c
 
       p-is : (p < cells (blockExtents (o .cutting) b)) × (embed (o .cutting) b p ≡ index (sides (o .cutting .extents)) c)
-      p-is = has-held (o .cutting) good b hb c h
+      p-is = cell-in-block (o .cutting) good b hb c h
 
       d : ℕ
       d = order (blockExtents (o .cutting) b) p
@@ -222,12 +222,12 @@ module _ (o : Told) (own : ℕ → List ℕ) (good : goodCut (o .cutting) ≡ tr
       points : d ≡ 0 → pointNumber (s .tables .firsts Point) (s .job .numbered Point) (index (sides (o .cutting .extents)) c) ≡ getD Vm (embed (o .cutting) b p) 0
       points z =
           ap₂ (λ (n x : ℕ). pointNumber (s .tables .firsts Point) n x) (all-final Point .total) (sym (p-is .1))
-          ∙ point-held (o .cutting .extents) cs (s .tables .firsts Point)
+          ∙ point-listed (o .cutting .extents) cs (s .tables .firsts Point)
           (λ i hi. front-at (s .tables .firsts Point) (s .job .numbered Point) _ (all-final Point .firsts) i (omega (arith, hi, all-final Point .total)))
           (embed (o .cutting) b p) (embed-inside (o .cutting) good b hb p (p-is .0)) (embed-order (o .cutting) good b hb p (p-is .0) ∙ z)
 
-      held : cellNumber (o .cutting) (s .tables) (s .job .numbered Point) b (own b) c p ≡ getD Vm (embed (o .cutting) b p) 0
-      held =
+      looked-up : cellNumber (o .cutting) (s .tables) (s .job .numbered Point) b (own b) c p ≡ getD Vm (embed (o .cutting) b p) 0
+      looked-up =
           unfold cellNumber in
           by-test (eqb d 3)
           (λ e. rw e (ap (λ (l : List ℕ). getD l p 0) (part-is o own good lab B s I late b hb) ∙ voxel-same (o .cutting) good cs b hb p (p-is .0) (eqb-true d 3 e)))

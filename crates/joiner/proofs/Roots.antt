@@ -8,7 +8,7 @@ use Prim.Native.Nat.{_<_, ℕ}
 use native.Mathlib.Omega.{arith}
 use lib.Dec.{T}
 use Rattle.union_find.specs.Links.{root, soundAt}
-use Rattle.joiner.specs.Entries.{Merged, Together, back, joined, same, via}
+use Rattle.joiner.specs.Outcomes.{Merged, Together, back, joined, same, via}
 use Rattle.cells.proofs.GridLaws.{inside}
 use Rattle.union_find.proofs.LinkLaws.{root-idem, root-low}
 

@@ -18,7 +18,7 @@ use Rattle.labels.specs.Numbering.{Numbering}
 use Rattle.cutting.specs.Cutting.{Cutting, blockExtents, blocks, embed, goodCut}
 use Rattle.cutting.specs.Nodes.{part, uncutMap}
 use Rattle.joiner.specs.Declines.{finalOf}
-use Rattle.joiner.specs.Entries.{finalFace, rowAt, rowFinal, shifted}
+use Rattle.joiner.specs.Outcomes.{finalFace, rowAt, rowFinal, shifted}
 use Rattle.joiner.specs.Job.{Curve, Face, Kind, Tables, fromOf, node, orderOf}
 use Rattle.lists.proofs.Cases.{by-test}
 use Rattle.lists.proofs.Lists.{consecutive-out, keep-out, length-keep, map-consecutive-suc, map-same}

@@ -17,7 +17,7 @@ use Rattle.labels.specs.Number.{labels, numbered}
 use Rattle.cutting.specs.Cutting.{Cutting, blockCodes, blockExtents, blocks, embed, goodCut}
 use Rattle.cutting.specs.Nodes.{part, uncutMap}
 use Rattle.joiner.specs.Book.{Book, begun, uncut}
-use Rattle.joiner.specs.Entries.{allTrays, lookedUp}
+use Rattle.joiner.specs.Outcomes.{allTrays, lookedUp}
 use Rattle.joiner.specs.Job.{Closed, Kind, State, Told, lengthsFit, orderOf, stageNumber, width}
 use Rattle.joiner.specs.Sheets.{ClosedJob, Sheet}
 use Rattle.joiner.specs.Stages.{codeIn, codesOf, hasCell, local, lowestBlock}
@@ -28,7 +28,7 @@ use Rattle.cells.proofs.GridLaws.{voxel-cell, voxel-cell-inside, voxel-cell-ord
 use Rattle.labels.proofs.LabelLaws.{labels-numbering}
 use Rattle.cutting.proofs.BlockLaws.{block-code, voxel-same}
 use Rattle.cutting.proofs.CutLaws.{embed-inside, embed-order}
-use Rattle.joiner.proofs.Codes.{has-held, lowest-has}
+use Rattle.joiner.proofs.Codes.{cell-in-block, lowest-has}
 use Rattle.joiner.proofs.Final.{uncut-is}
 use Rattle.joiner.proofs.Readings.{cell-read}
 use Rattle.joiner.proofs.Simulation.{Sim, closed-uncut, finals-at, simulated}
@@ -55,7 +55,7 @@ codes-back k good codes own many h =
         let c : Triple = place (sides (k .extents)) t in
         let b : ℕ = lowestBlock k c in
         let w = lowest-has k good t ht in
-        let g = has-held k good b (w .0) c (w .1) in
+        let g = cell-in-block k good b (w .0) c (w .1) in
         let is : embed k b (local k b c) ≡ t = g .1 ∙ index-place (sides (k .extents)) t in
         let o : order (blockExtents k b) (local k b c) ≡ 3 = sym (embed-order k good b (w .0) (local k b c) (g .0)) ∙ ap (order (k .extents)) is ∙ ot in
         in-block t ∙ ap (λ (l : List ℕ). getD l (local k b c) 0) (h b (w .0)) ∙ voxel-same k good codes b (w .0) (local k b c) (g .0) o ∙ ap (λ (x : ℕ). getD (uncutMap k codes) x 0) is

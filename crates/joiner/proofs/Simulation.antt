@@ -21,7 +21,7 @@ use Rattle.cutting.specs.Cutting.{Cutting, blockExtents, blocks, goodCut}
 use Rattle.joiner.specs.Book.{Book, accepts, bookAdds, bookAfter, bookAnswer, bookEarly, bookRefusal, bringsOwn, entered, labelled, turned, uncut, uncutCount}
 use Rattle.joiner.specs.Calls.{Answer, Call, answer, cross, enrol, join, look, placed, point, reading, repeated, stageOf}
 use Rattle.joiner.specs.Declines.{adds, lookStands, pointCells, refusal}
-use Rattle.joiner.specs.Entries.{CrossingDone, Done, EnrolDone, KeptFound, KeptNumbers, NumberedKind, PointDone, SeamDone, CallStep, lookedUp}
+use Rattle.joiner.specs.Outcomes.{CrossingDone, Done, EnrolDone, KeptFound, KeptNumbers, NumberedKind, PointDone, SeamDone, CallStep, lookedUp}
 use Rattle.joiner.specs.Job.{Closed, Crossing, Curve, Enrol, Face, Kind, Point, Points, Seam, Stage, State, Told, countOf, firstAt, keyPosition, orderOf, stageNumber, ticked, width}
 use Rattle.joiner.specs.Sheets.{lastState}
 use Rattle.joiner.specs.Stages.{codesOf, crossingStep, enrolStep, finished, hasCell, local, nextAfter, nextStage, pointStep, seamStep, seams, stepsOf}
@@ -31,17 +31,17 @@ use Rattle.lists.proofs.Lists.{consecutive-in}
 use Rattle.lists.proofs.Tests.{is-in}
 use Rattle.cells.proofs.RowLaws.{row-same}
 use Rattle.joiner.proofs.Classes.{vol}
-use Rattle.joiner.proofs.Crossings.{cross-keeps, point-keeps}
-use Rattle.joiner.proofs.Enrolling.{enrol-keeps}
+use Rattle.joiner.proofs.LaterKeeps.{cross-keeps, point-keeps}
+use Rattle.joiner.proofs.EnrolKeeps.{enrol-keeps}
 use Rattle.joiner.proofs.Final.{Final, cells-final, final-points, finals, more-points, point-adds, uncut-is, volume-map}
 use Rattle.joiner.proofs.Inv.{In, Inv, block-in, book-early, book-passed, book-stray, cross-agrees, early-agrees, early-only, enrol-agrees, enrolled, join-agrees, lookup-agrees, point-agrees, reading-agrees}
-use Rattle.joiner.proofs.Codes.{has-held}
+use Rattle.joiner.proofs.Codes.{cell-in-block}
 use Rattle.joiner.proofs.Linking.{Enrolled, curves-stand, look-stands}
 use Rattle.joiner.proofs.Own.{labelling-labelled}
-use Rattle.joiner.proofs.Points.{PointsSo, points-more, points-none, pointsOf}
+use Rattle.joiner.proofs.FoundPoints.{PointsSo, points-more, points-none, pointsOf}
 use Rattle.joiner.proofs.Progress.{closed-all, crossing-level, point-level, stepStage}
 use Rattle.joiner.proofs.Readings.{cell-read, row-read}
-use Rattle.joiner.proofs.Seaming.{join-keeps}
+use Rattle.joiner.proofs.SeamKeeps.{join-keeps}
 use Rattle.joiner.proofs.Shared.{seam-listed}
 use Rattle.joiner.proofs.Passed.{passed}
 
@@ -133,7 +133,7 @@ module _ (o : Told) (own : ℕ → List ℕ) (ext : offSize 1024 (o .cutting .ex
         let l : stageNumber Points ≤ stageNumber (B .stage) = omega arith in
         ap₂ (λ (z : Told) (x : List ℕ). lookStands s b x (local (z .cutting) b c)) (I .told) q
         ∙ look-stands s b (own b) (local (o .cutting) b c)
-        (subst (λ (z : Told). local (o .cutting) b c < cells (blockExtents (z .cutting) b)) (sym (I .told)) (has-held (o .cutting) good b hb c has .0))
+        (subst (λ (z : Told). local (o .cutting) b c < cells (blockExtents (z .cutting) b)) (sym (I .told)) (cell-in-block (o .cutting) good b hb c has .0))
         (λ κ. subst (λ (z : Told). largest (blockExtents (z .cutting) b) (own b) (orderOf κ) ≤ countOf (s .tables) κ b) (sym (I .told)) (omega (arith, I .counts κ b hb (enrolled o own ext good lab B s I (omega (arith, l)) b hb))))
         (S .final-two l .0 .within, S .final-two l .1 .within) (enrolled-block l b hb))
     own-refused (reading κ n) e = reading-agrees o own ext good lab B s I κ n (λ h. total-at h κ)

@@ -10,7 +10,7 @@ use borrow.Author.Tests.{eq-eqb, eqb-true}
 use Rattle.cutting.specs.Cutting.{blocks}
 use Rattle.joiner.specs.Calls.{Call, cross, enrol, join, look, point, reading}
 use Rattle.joiner.specs.Declines.{lentTo}
-use Rattle.joiner.specs.Entries.{allTrays}
+use Rattle.joiner.specs.Outcomes.{allTrays}
 use Rattle.joiner.specs.Job.{Curve, Face, Kind, Point, Tables, Told, Tray, blockTrays, firstTrays, lengthsFit, foundTrays, kindTrays, linkTrays, listedTrays, numberTrays, tray, width, ticksPerBlock, numbersPerBlock}
 use Rattle.lists.proofs.Cases.{and-both, and-first, and-second}
 

@@ -15,7 +15,7 @@ use Rattle.cells.specs.Extents.{offSize}
 use Rattle.labels.specs.Number.{numbered}
 use Rattle.cutting.specs.Cutting.{blockExtents, blocks, goodCut}
 use Rattle.joiner.specs.Book.{begun}
-use Rattle.joiner.specs.Entries.{Opened, allTrays, openDeclines, openRefusal}
+use Rattle.joiner.specs.Outcomes.{Opened, allTrays, openDeclines, openRefusal}
 use Rattle.joiner.specs.Job.{Curve, Face, Kind, Point, State, Tables, Told, lengthsFit, ticked}
 use Rattle.joiner.specs.Statement.{Labelling, Statement3}
 use Rattle.refusals.proofs.RefusalLaws.{given-none}

@@ -3,7 +3,7 @@ pub mod Job
 pub mod Stages
 pub mod Calls
 pub mod Declines
-pub mod Entries
+pub mod Outcomes
 pub mod Book
 pub mod Statement
 pub mod Sheets

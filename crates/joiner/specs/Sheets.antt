@@ -9,7 +9,7 @@ use Rattle.cells.specs.Box.{Triple, volume}
 use Rattle.labels.specs.Number.{labels}
 use Rattle.cutting.specs.Cutting.{blocks, blockExtents, blockCodes}
 use Rattle.joiner.specs.Job.{Kind, width, Closed, Told, Tables, State}
-use Rattle.joiner.specs.Entries.{Opened}
+use Rattle.joiner.specs.Outcomes.{Opened}
 use Rattle.joiner.specs.Statement.{Entry, Run, Fair}
 
 -- The job and tables that a list of calls leaves.

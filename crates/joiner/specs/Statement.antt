@@ -14,7 +14,7 @@ use Rattle.cutting.specs.Cutting.{blocks, blockExtents}
 use Rattle.joiner.specs.Job.{Kind, orderOf, width, Stage, Closed, Told, Tables, State}
 use Rattle.joiner.specs.Stages.{stepsOf}
 use Rattle.joiner.specs.Calls.{Call, enrol, join, cross, point, look, reading, Answer}
-use Rattle.joiner.specs.Entries.{Opened, CallStep}
+use Rattle.joiner.specs.Outcomes.{Opened, CallStep}
 use Rattle.joiner.specs.Book.{Book, begun, uncut, bookRefusal, bookEarly, bringsOwn, accepts, turned, bookAnswer}
 
 -- m is the map that one labelling of a block of e voxels left.

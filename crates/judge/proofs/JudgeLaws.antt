@@ -21,7 +21,7 @@ use Rattle.joiner.specs.Job as joiner
 use Rattle.joiner.specs.Stages.{nextAfter}
 use Rattle.joiner.specs.Calls.{Call, enrol, join, cross, point, look, reading, Answer, answer, stageOf, placed, repeated, mapsFit, layersDiffer, full, overfull}
 use Rattle.joiner.specs.Declines.{adds, counted, cutFor, declines, filled, lentTo, linksStand, mapStands, numberStands, refusal, standing, standsFor, stray, talliesFit, waysStand}
-use Rattle.joiner.specs.Entries.{Done, CallStep, Ticked, allTrays}
+use Rattle.joiner.specs.Outcomes.{Done, CallStep, Ticked, allTrays}
 use Rattle.joiner.proofs.Passed.{tally-fits}
 use Rattle.blocks.specs.Blocks.{anyExtents, sizeOf, Tells}
 use Rattle.blocks.specs.declared.Block.{Block}
@@ -30,8 +30,8 @@ use Rattle.blocks.proofs.CodeLaws.{blocks-are}
 use Rattle.pass_survey.specs.declared.Survey.{Survey}
 use Rattle.job.specs.declared.Job.{Job}
 use Rattle.job.specs.declared.Stage.{Stage}
-use Rattle.job.specs.Jobs.{anyCuts, byKind, jobOf, toldOf, stateOf}
-use Rattle.job.specs.Jobs as job
+use Rattle.job.specs.JobState.{anyCuts, byKind, jobOf, toldOf, stateOf}
+use Rattle.job.specs.JobState as job
 use Rattle.job.proofs.JobLaws.{fits-append}
 use Rattle.stages.specs.Ticks.{tickedIn}
 use Rattle.stages.proofs.StageLaws.{next-told}

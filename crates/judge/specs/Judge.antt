@@ -19,8 +19,8 @@ use Rattle.joiner.specs.Calls.{Call, enrol, join, cross, point, look, reading, 
 use Rattle.joiner.specs.Declines.{filled, lentTo, stray, talliesFit, adds}
 use Rattle.job.specs.declared.Job.{Job}
 use Rattle.job.specs.declared.Stage.{Stage}
-use Rattle.job.specs.Jobs.{byKind, toldOf, blockLengths, linkLengths, foundLengths, kindLengths}
-use Rattle.job.specs.Jobs as job
+use Rattle.job.specs.JobState.{byKind, toldOf, blockLengths, linkLengths, foundLengths, kindLengths}
+use Rattle.job.specs.JobState as job
 use Rattle.stages.specs.Ticks.{tickedIn}
 use Rattle.judge.specs.declared.CallName.{CallName}
 use Rattle.judge.specs.declared.KindLengths.{KindLengths}

@@ -39,7 +39,7 @@ ghost use Rattle.cells.specs.Grid.{cells};
 ghost use Rattle.cutting.specs.Cutting.{mostBlocks};
 ghost use Rattle.blocks.specs.Blocks.{sizeOf};
 ghost use Rattle.joiner.specs.Job.{Face, Curve, Point, lengthsFit};
-ghost use Rattle.job.specs.Jobs.{anyCuts, stageOf, jobOf};
+ghost use Rattle.job.specs.JobState.{anyCuts, stageOf, jobOf};
 ghost use Rattle.judge.specs.declared.CallName.{CallName};
 ghost use Rattle.judge.specs.Judge.{entriesOf, kindLent, lentBy, stageFor, fitsIn, mapJudged, lengthsJudged, judgedOf, openedOf, reachedOf, entryOf, standsBy, mapStandsIn, linksStandIn, numberStandsIn};
 

@@ -15,7 +15,7 @@ use Rattle.joiner.specs.Stages.{finished, stepsOf, crossingStep}
 use Rattle.joiner.specs.Calls.{cross}
 use Rattle.joiner.specs.Declines.{adds, allLinksStand, lastCrossing, linksStand, refusal, rowsStand}
 use Rattle.job.specs.declared.Job.{Job}
-use Rattle.job.specs.Jobs.{jobOf, toldOf}
+use Rattle.job.specs.JobState.{jobOf, toldOf}
 use Rattle.stages.specs.Ticks.{tickedIn}
 use Rattle.judge.specs.declared.CallName.{CallName}
 use Rattle.judge.specs.declared.Lengths.{Lengths}

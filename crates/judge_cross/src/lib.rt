@@ -19,7 +19,7 @@ ghost use lib.Dec.{leb};
 ghost use lib.ListN.{getD};
 ghost use Rattle.cutting.specs.Cutting.{mostBlocks};
 ghost use Rattle.joiner.specs.Stages.{crossingStep};
-ghost use Rattle.job.specs.Jobs.{jobOf};
+ghost use Rattle.job.specs.JobState.{jobOf};
 ghost use Rattle.judge_cross.specs.Tests.{crossedBut, lastIn, rowsIn, allReady, numberable, ownStands, refusalOf};
 
 // The number of a crossing's step.

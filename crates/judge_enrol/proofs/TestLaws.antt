@@ -19,7 +19,7 @@ use Rattle.joiner.proofs.Passed.{tally-fits}
 use Rattle.blocks.specs.Blocks.{anyExtents, sizeOf, Tells}
 use Rattle.blocks.specs.declared.Block.{Block}
 use Rattle.job.specs.declared.Job.{Job}
-use Rattle.job.specs.Jobs.{byKind, anyCuts, toldOf, jobOf}
+use Rattle.job.specs.JobState.{byKind, anyCuts, toldOf, jobOf}
 use Rattle.stages.specs.Ticks.{tickedIn}
 use Rattle.judge.specs.declared.CallName.{CallName}
 use Rattle.judge.specs.declared.Lengths.{Lengths}

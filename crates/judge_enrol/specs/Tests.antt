@@ -11,7 +11,7 @@ use Rattle.joiner.specs.Job as joiner
 use Rattle.joiner.specs.Stages.{enrolStep}
 use Rattle.joiner.specs.Calls.{full}
 use Rattle.joiner.specs.Declines.{talliesFit, filled}
-use Rattle.job.specs.Jobs.{byKind}
+use Rattle.job.specs.JobState.{byKind}
 use Rattle.judge.specs.declared.CallName.{CallName}
 use Rattle.judge.specs.declared.Lengths.{Lengths}
 use Rattle.judge.specs.Judge.{firstRefusal, lengthsJudged}

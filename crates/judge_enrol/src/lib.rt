@@ -15,7 +15,7 @@ ghost use mathlib.Core.Path.{_≡_};
 ghost use Prim.Native.Nat.{_+_, _*_, _≤_};
 ghost use lib.Dec.{ltb};
 ghost use Rattle.joiner.specs.Calls.{full};
-ghost use Rattle.job.specs.Jobs.{byKind, anyCuts, jobOf};
+ghost use Rattle.job.specs.JobState.{byKind, anyCuts, jobOf};
 ghost use Rattle.judge_enrol.specs.Tests.{lentLengths, lateOf, Judged};
 
 // The number of the refusal, and the block's largest numbers where it is 0.

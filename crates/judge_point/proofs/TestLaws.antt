@@ -19,10 +19,10 @@ use Rattle.joiner.specs.Declines.{adds, curvesStand, numberStands, refusal, tal
 use Rattle.joiner.proofs.Passed.{tally-fits}
 use Rattle.blocks.specs.Blocks.{Tells, sizeOf, anyExtents}
 use Rattle.blocks.specs.declared.Block.{Block}
-use Rattle.pass_point.specs.Findings.{foundCells}
+use Rattle.pass_point.specs.FoundPoints.{foundCells}
 use Rattle.pass_point.proofs.FoundLaws.{found-cells}
 use Rattle.job.specs.declared.Job.{Job}
-use Rattle.job.specs.Jobs.{anyCuts, jobOf, toldOf}
+use Rattle.job.specs.JobState.{anyCuts, jobOf, toldOf}
 use Rattle.stages.specs.Ticks.{tickedIn}
 use Rattle.judge.specs.declared.CallName.{CallName}
 use Rattle.judge.specs.declared.Lengths.{Lengths}

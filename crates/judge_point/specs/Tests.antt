@@ -12,7 +12,7 @@ use Rattle.cutting.specs.Cutting.{Cutting, blockExtents}
 use Rattle.joiner.specs.Job.{Curve, Point}
 use Rattle.joiner.specs.Job as joiner
 use Rattle.joiner.specs.Stages.{pointStep}
-use Rattle.pass_point.specs.Findings.{foundCells}
+use Rattle.pass_point.specs.FoundPoints.{foundCells}
 use Rattle.judge.specs.declared.CallName.{CallName}
 use Rattle.judge.specs.declared.Lengths.{Lengths}
 use Rattle.judge.specs.declared.Entry.{Entry}

@@ -18,7 +18,7 @@ ghost use lib.ListN.{length};
 ghost use Rattle.cells.specs.Extents.{Sized};
 ghost use Rattle.cells.specs.Grid.{cells};
 ghost use Rattle.blocks.specs.Blocks.{sizeOf};
-ghost use Rattle.job.specs.Jobs.{anyCuts, jobOf, toldOf};
+ghost use Rattle.job.specs.JobState.{anyCuts, jobOf, toldOf};
 ghost use Rattle.judge_point.specs.Tests.{curvesIn, foundBy, lateOf, foundOf, refusalOf, Plans};
 
 // The number of the refusal, and the block's points where it is 0.

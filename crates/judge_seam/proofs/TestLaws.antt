@@ -22,7 +22,7 @@ use Rattle.pass_seam.proofs.SeamWalks.{seam-differs}
 use Rattle.blocks.specs.Blocks.{Tells, sizeOf, anyExtents}
 use Rattle.blocks.specs.declared.Block.{Block}
 use Rattle.job.specs.declared.Job.{Job}
-use Rattle.job.specs.Jobs.{anyCuts, jobOf, toldOf, stateOf}
+use Rattle.job.specs.JobState.{anyCuts, jobOf, toldOf, stateOf}
 use Rattle.stages.specs.Ticks.{tickedIn}
 use Rattle.judge.specs.declared.CallName.{CallName}
 use Rattle.judge.specs.declared.Entry.{Entry}

@@ -40,7 +40,7 @@ ghost use Rattle.joiner.specs.Stages.{seamAxis};
 ghost use Rattle.joiner.specs.Calls.{join, layersDiffer};
 ghost use Rattle.joiner.specs.Declines.{refusal};
 ghost use Rattle.blocks.specs.Blocks.{cutOf, sizeOf};
-ghost use Rattle.job.specs.Jobs.{stateOf};
+ghost use Rattle.job.specs.JobState.{stateOf};
 ghost use Rattle.judge.specs.Judge.{entriesOf, lengthsOf, lateOf};
 ghost use Rattle.judge_seam.specs.Tests.{lent, fitsBoth, upperStands, anySeam, SharedBy};
 

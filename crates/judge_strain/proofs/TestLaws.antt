@@ -20,13 +20,13 @@ use Rattle.joiner.proofs.Passed.{fits-at}
 use Rattle.blocks.specs.Blocks.{Tells, sizeOf, anyExtents}
 use Rattle.blocks.specs.declared.Block.{Block}
 use Rattle.job.specs.declared.Job.{Job}
-use Rattle.job.specs.Jobs.{anyCuts, jobOf, toldOf, totalLengths, stateOf}
+use Rattle.job.specs.JobState.{anyCuts, jobOf, toldOf, totalLengths, stateOf}
 use Rattle.judge.specs.declared.Entry.{Entry}
 use Rattle.judge.specs.Judge.{reachedOf, entryOf, mapStandsIn, numberStandsIn, firstRefusal, openedOf}
 use Rattle.judge.proofs.JudgeLaws.{or-first, or-then, reached-passed, FirstTests, few-of, count-few, block-sized, stands-is, number-of}
 use Rattle.totals.specs.Totals.{Holds, bothStand, readingsFit}
-use Rattle.totals.proofs.TotalLaws.{fewer-held}
-use Rattle.pass_strain.specs.Summing.{Whole}
+use Rattle.totals.proofs.TotalLaws.{fewer-holds}
+use Rattle.pass_strain.specs.BlockReadings.{Whole}
 use Rattle.strain_calls.specs.Tables.{totalTables, TotalTables, totalTrays}
 use Rattle.judge_strain.specs.declared.Sizes.{Sizes}
 use Rattle.judge_strain.specs.Tests.{sizesOf, listsIn, traysFit, faceIn, facesIn, standIn, lateOf, refusalOf}
@@ -35,7 +35,7 @@ use Rattle.job.proofs.JobLaws.{fits-append}
 use Rattle.stages.specs.Ticks.{tickedIn}
 use Rattle.strain_calls.specs.Calls.{strain, listsFit}
 use Rattle.strain_calls.specs.Declines.{hasCome, lentFor, totalStands, faceStands, facesStand, strainDeclines, strainRefusal}
-use Rattle.strain_calls.proofs.HeldLaws.{face-held}
+use Rattle.strain_calls.proofs.HeldLaws.{face-holds}
 
 -- ---- the lengths
 
@@ -87,7 +87,7 @@ module _ (numbers : List ℕ) (most : ℕ) (sums : List Float) (counts : List �
     face-some = number-of n most is-number .0
 
     pub face-long : Holds sums counts most → Holds sums counts n
-    face-long = fewer-held sums counts n most (number-of n most is-number .1)
+    face-long = fewer-holds sums counts n most (number-of n most is-number .1)
 
     pub face-both : (size : ℕ) (r : Bool) → r ≡ bothStand size sums counts n → r ≡ faceIn numbers most size sums counts x
     unfolding faceIn
@@ -102,8 +102,8 @@ module _ (j : Job) (e : Triple) (d : Entry) (numbers : List ℕ) (sums : List Fl
   stand-tallies q cx cy cz = rw (sym (h cx cy cz) ∙ not-true t q)
 
   -- what `faces_stand` requires
-  pub stand-held : not t ≡ false → Holds sums counts (j .«face_entries») → Holds sums counts (j .«numbered_faces»)
-  stand-held q = face-held (jobOf j [] [] []) sums counts (j .«numbered_faces») (sym (h [] [] []) ∙ not-false t q) (omega arith)
+  pub stand-holds : not t ≡ false → Holds sums counts (j .«face_entries») → Holds sums counts (j .«numbered_faces»)
+  stand-holds q = face-holds (jobOf j [] [] []) sums counts (j .«numbered_faces») (sym (h [] [] []) ∙ not-false t q) (omega arith)
 
   module _ (q : not t ≡ false) (u : Bool) (i : u ≡ mapStandsIn e d (j .«face_entries») (j .«curve_entries») m) where
     pub stand-map : not u ≡ true → Stands false

@@ -12,7 +12,7 @@ use Rattle.cells.specs.Grid.{cells}
 use Rattle.cutting.specs.Cutting.{Cutting, blocks, blockExtents}
 use Rattle.joiner.specs.Job.{Face, Curve, Closed, Job, tray, lengthsFit, numbersPerBlock}
 use Rattle.joiner.specs.Declines.{talliesFit}
-use Rattle.job.specs.Jobs.{totalLengths}
+use Rattle.job.specs.JobState.{totalLengths}
 use Rattle.judge.specs.declared.Entry.{Entry}
 use Rattle.judge.specs.Judge.{firstRefusal, reachedOf, entryOf, mapStandsIn, numberStandsIn}
 use Rattle.totals.specs.Totals.{bothStand, readingsFit}

@@ -28,10 +28,10 @@ ghost use Rattle.cells.specs.Box.{triple};
 ghost use Rattle.cells.specs.Extents.{Sized};
 ghost use Rattle.cells.specs.Grid.{cells};
 ghost use Rattle.blocks.specs.Blocks.{sizeOf};
-ghost use Rattle.job.specs.Jobs.{anyCuts, jobOf};
+ghost use Rattle.job.specs.JobState.{anyCuts, jobOf};
 ghost use Rattle.totals.specs.Totals.{Holds};
 ghost use Rattle.cutting.specs.Cutting.{mostBlocks};
-ghost use Rattle.pass_strain.specs.Summing.{Whole};
+ghost use Rattle.pass_strain.specs.BlockReadings.{Whole};
 ghost use Rattle.strain_calls.specs.Tables.{totalTables};
 ghost use Rattle.judge_strain.specs.Tests.{listsIn, traysFit, faceIn, facesIn, standIn, lateOf, refusalOf};
 

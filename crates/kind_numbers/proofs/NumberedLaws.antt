@@ -9,10 +9,10 @@ use lib.ListN.{getD, length, take}
 use Rattle.lists.specs.Lists.{tabulate, overlay}
 use Rattle.lists.proofs.Overlay.{length-overlay, overlay-front}
 use Rattle.joiner.specs.Job.{Kind, Face, Curve, width, Tables, State}
-use Rattle.joiner.specs.Entries.{classOf, headOf, rowFinal, NumberedKind}
-use Rattle.joiner.proofs.Crossings.{heads-most}
+use Rattle.joiner.specs.Outcomes.{classOf, headOf, rowFinal, NumberedKind}
+use Rattle.joiner.proofs.LaterKeeps.{heads-most}
 use Rattle.ranking.specs.Ranking.{anyKind, Ranked}
-use Rattle.closed_tables.specs.Closings.{positionAt, entryAt, curveRow}
+use Rattle.closed_tables.specs.ClosedTables.{positionAt, entryAt, curveRow}
 use Rattle.closed_tables.proofs.ClosedLaws.{closed-firsts-front, closed-copied, closed-curves, closed-front}
 use Rattle.kind_numbers.specs.Numbered.{Numbered, anyCopied, anyCurves}
 

@@ -7,7 +7,7 @@ use lib.ListN.{getD, length, take}
 use Rattle.lists.specs.Lists.{tabulate, overlay}
 use Rattle.union_find.specs.Links.{root}
 use Rattle.joiner.specs.Job.{Kind, Curve, Face, width, Tables, firstAt}
-use Rattle.joiner.specs.Entries.{classOf, heads, rank, headOf, rowAt, rowFinal}
+use Rattle.joiner.specs.Outcomes.{classOf, heads, rank, headOf, rowAt, rowFinal}
 use Rattle.ranking.specs.Ranking.{anyKind}
 
 -- The n components numbered 1 to `total`. What the closed tables hold behind the last one is free.

@@ -159,21 +159,21 @@ module _ (f : ℕ → Bool) (x k : ℕ) where
 -- ---- loops that ask the same of each of the first places
 
 module _ (g : ℕ → Bool) where
-  abbrev pub Held : ℕ → Type 0
-  Held i = (x : ℕ) → x < i → g x ≡ true
+  abbrev pub TrueBelow : ℕ → Type 0
+  TrueBelow i = (x : ℕ) → x < i → g x ≡ true
 
-  pub held-none : Held 0
-  held-none x h = absurd (omega arith)
+  pub true-below-none : TrueBelow 0
+  true-below-none x h = absurd (omega arith)
 
-  pub held-more : (i : ℕ) (t : Bool) → Held i → t ≡ g i → not t ≡ false → Held (i + 1)
-  held-more i t h e q x l =
+  pub true-below-more : (i : ℕ) (t : Bool) → TrueBelow i → t ≡ g i → not t ≡ false → TrueBelow (i + 1)
+  true-below-more i t h e q x l =
       by-test (eqb x i) (λ u. ap g (eqb-true x i u) ∙ sym e ∙ not-false t q) (λ u. let d : x ≡ i → ⊥ = eqb-false x i u in h x (omega arith))
 
-  pub held-broken : (n i : ℕ) (t : Bool) → i < n → t ≡ g i → not t ≡ true → false ≡ allOf g (consecutive 0 n)
-  held-broken n i t h e q =
+  pub true-below-broken : (n i : ℕ) (t : Bool) → i < n → t ≡ g i → not t ≡ true → false ≡ allOf g (consecutive 0 n)
+  true-below-broken n i t h e q =
       by-test (allOf g (consecutive 0 n))
       (λ u. sym (sym (all-out g (consecutive 0 n) u (consecutive-in 0 n (omega arith) (omega arith))) ∙ sym e ∙ not-true t q) ∙ sym u)
       (λ u. sym u)
 
-  pub held-all : (n i : ℕ) → n ≤ i → Held i → true ≡ allOf g (consecutive 0 n)
-  held-all n i h a = sym (all-in g (consecutive 0 n) (λ x m. a x (omega (arith, consecutive-out 0 n m))))
+  pub true-below-all : (n i : ℕ) → n ≤ i → TrueBelow i → true ≡ allOf g (consecutive 0 n)
+  true-below-all n i h a = sym (all-in g (consecutive 0 n) (λ x m. a x (omega (arith, consecutive-out 0 n m))))

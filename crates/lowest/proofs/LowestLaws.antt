@@ -17,11 +17,11 @@ use Rattle.cells.proofs.BoxLaws.{Inside, coord-each, index-place, place-index, 
 use Rattle.cells.proofs.GridLaws.{inside, lowered-inside}
 use Rattle.labels.proofs.ComponentLaws.{ascends-first}
 use Rattle.cutting.specs.Cutting.{Cutting, cuts, cutList, intervals, lowEnd, highEnd, blockSides, blocks, goodCut, interval, blockExtents, embed}
-use Rattle.cutting.specs.Nodes.{Held}
-use Rattle.cutting.proofs.CutLaws.{Spans, cut-interval, cut-on, shiftInto, block-sides-on, interval-is, origin-on, shift-on, shift-inside, embed-inside, held-spans, spans-held, block-in, interval-at}
+use Rattle.cutting.specs.Nodes.{BlockHas}
+use Rattle.cutting.proofs.CutLaws.{Spans, cut-interval, cut-on, shiftInto, block-sides-on, interval-is, origin-on, shift-on, shift-inside, embed-inside, has-spans, spans-has, block-in, interval-at}
 use Rattle.cutting.proofs.SeamLaws.{cut-ends}
 use Rattle.joiner.specs.Stages.{hasCell, lowestBlock}
-use Rattle.joiner.proofs.Codes.{held-has, lowest-has, lowest-held}
+use Rattle.joiner.proofs.Codes.{block-has-cell, lowest-has, lowest-has-cell}
 use Rattle.strain_calls.specs.Adding.{isLowest}
 use Rattle.lowest.specs.Lowest.{starts, startsBy, ownCell, anyDepth}
 
@@ -64,11 +64,11 @@ module _ (k : Cutting) (good : goodCut k ≡ true) (b : ℕ) (hb : b < blocks k)
       let j : Inside (sides (k .extents)) (shiftInto k b here) = shift-inside k good b hb here (inside (blockExtents k b) p hp) in
       place-index (sides (k .extents)) (shiftInto k b here) (j X) (j Y) a ∙ shift-on k b here a ∙ ap (λ (n : ℕ). 2 * n + coord here a) (origin-on k b a)
 
-  own : Held k b (embed k b p)
+  own : BlockHas k b (embed k b p)
   own = record { p = p; within = hp; is = refl }
 
   has-own : hasCell k b there ≡ true
-  has-own = held-has k good b hb (embed k b p) own
+  has-own = block-has-cell k good b hb (embed k b p) own
 
   listed : (c : ℕ) → c < blocks k → (a : Axis) → interval k c a < intervals (cuts k a)
   unfolding blocks
@@ -96,8 +96,8 @@ module _ (k : Cutting) (good : goodCut k ≡ true) (b : ℕ) (hb : b < blocks k)
     behind a =
         by-test (leb (interval k b a) (interval k first a)) (λ t. leb-true _ _ t)
         (λ t.
-        let w = lowest-held k good (embed k b p) (embed-inside k good b hb p hp) in
-        let s : Spans (cuts k a) (interval k first a) (coord there a) = held-spans k good first (found .0) (embed k b p) (w .1) a in
+        let w = lowest-has-cell k good (embed k b p) (embed-inside k good b hb p hp) in
+        let s : Spans (cuts k a) (interval k first a) (coord there a) = has-spans k good first (found .0) (embed k b p) (w .1) a in
         let l : interval k first a < interval k b a = leb-false _ _ t in
         absurd (omega (arith, late a, start-on a, there-on a, s .below, ordered a (interval k first a) (interval k b a) l (listed b hb a))))
 
@@ -129,7 +129,7 @@ module _ (k : Cutting) (good : goodCut k ≡ true) (b : ℕ) (hb : b < blocks k)
 
     own-spans : (d : Axis) → Spans (cuts k d) (coord m d) (coord there d)
     unfolding interval
-    own-spans d = held-spans k good b hb (embed k b p) own d
+    own-spans d = has-spans k good b hb (embed k b p) own d
 
     span-before : Spans (cuts k a) (coord m a - 1) (coord there a)
     span-before =
@@ -154,8 +154,8 @@ module _ (k : Cutting) (good : goodCut k ≡ true) (b : ℕ) (hb : b < blocks k)
 
     has-before : hasCell k before there ≡ true
     has-before =
-        held-has k good before before-in (embed k b p)
-        (spans-held k good before before-in (embed k b p)
+        block-has-cell k good before before-in (embed k b p)
+        (spans-has k good before before-in (embed k b p)
         (λ d. subst (λ (i : ℕ). Spans (cuts k d) i (coord there d)) (sym (interval-at k (lowered a m) (lowered-inside (blockSides k) m a m-in) d)) (spans-at d)))
 
     lowest-early : lowestBlock k there < b

@@ -3,8 +3,8 @@ use crate::Stepped;
 use step_cross::crossing;
 ghost use mathlib.Core.List.{[]};
 ghost use Rattle.joiner.specs.Calls.{cross, answer};
-ghost use Rattle.joiner.specs.Entries.{CallStep};
-ghost use Rattle.job.specs.Jobs.{stateOf, anyTables};
+ghost use Rattle.joiner.specs.Outcomes.{CallStep};
+ghost use Rattle.job.specs.JobState.{stateOf, anyTables};
 ghost use Rattle.job.specs.Lent.{crossLent};
 
 impl Joining {

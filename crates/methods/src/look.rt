@@ -4,8 +4,8 @@ use reading_cell::lookup;
 ghost use mathlib.Core.List.{[]};
 ghost use Rattle.cells.specs.Box.{triple};
 ghost use Rattle.joiner.specs.Calls.{look, answer};
-ghost use Rattle.joiner.specs.Entries.{CallStep};
-ghost use Rattle.job.specs.Jobs.{stateOf, anyTables};
+ghost use Rattle.joiner.specs.Outcomes.{CallStep};
+ghost use Rattle.job.specs.JobState.{stateOf, anyTables};
 ghost use Rattle.job.specs.Lent.{lookLent};
 
 impl Joining {

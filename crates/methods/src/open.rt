@@ -1,9 +1,9 @@
 use crate::Joining;
 use crate::Stepped;
 use step_open::open;
-ghost use Rattle.job.specs.Jobs.{toldBy, tablesOf, stateOf};
+ghost use Rattle.job.specs.JobState.{toldBy, tablesOf, stateOf};
 ghost use Rattle.strain_calls.specs.Tables.{totalTables};
-ghost use Rattle.strain_calls.specs.Entries.{TotalsOpening};
+ghost use Rattle.strain_calls.specs.Outcomes.{TotalsOpening};
 
 impl Joining {
     // Opens a job.

@@ -2,8 +2,8 @@ use crate::Joining;
 use reading_row::Kind;
 use reading_row::row;
 ghost use Rattle.joiner.specs.Calls.{reading, answer};
-ghost use Rattle.joiner.specs.Entries.{CallStep};
-ghost use Rattle.job.specs.Jobs.{stateOf, anyCuts, anyTables};
+ghost use Rattle.joiner.specs.Outcomes.{CallStep};
+ghost use Rattle.job.specs.JobState.{stateOf, anyCuts, anyTables};
 ghost use Rattle.job.specs.Lent.{rowLent};
 ghost use Rattle.reading_row.specs.Inner.{kindOf};
 

@@ -2,9 +2,9 @@ use crate::Joining;
 use crate::Stepped;
 use step_strain::strain;
 ghost use mathlib.Core.Path.{_≡_};
-ghost use Rattle.job.specs.Jobs.{jobOf};
+ghost use Rattle.job.specs.JobState.{jobOf};
 ghost use Rattle.strain_calls.specs.Tables.{totalTables};
-ghost use Rattle.strain_calls.specs.Entries.{StrainPromise};
+ghost use Rattle.strain_calls.specs.Outcomes.{StrainPromise};
 
 impl Joining {
     // Adds the readings of a block of a closed job to the totals of its faces. The job is handed on as it was.

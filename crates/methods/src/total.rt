@@ -1,9 +1,9 @@
 use crate::Joining;
 use reading_total::Totalled;
 use reading_total::total;
-ghost use Rattle.job.specs.Jobs.{jobOf};
+ghost use Rattle.job.specs.JobState.{jobOf};
 ghost use Rattle.strain_calls.specs.Tables.{totalTables};
-ghost use Rattle.strain_calls.specs.Entries.{TotalPromise};
+ghost use Rattle.strain_calls.specs.Outcomes.{TotalPromise};
 
 impl Joining {
     // The totals of a face of a closed job.

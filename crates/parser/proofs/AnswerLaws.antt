@@ -19,7 +19,7 @@ use Rattle.extents.proofs.SizeLaws.{sized-of}
 use Rattle.parser.specs.declared.Scanned.{Scanned}
 use Rattle.parser.specs.declared.Task.{Task}
 use Rattle.parser.specs.Scanning.{State, state, counts, stored, closed}
-use Rattle.parser.specs.Reading.{Outcome, outcome, taskOf, extentsSeen, offExtents, wholeText, lineNumber, taskSeen, finished}
+use Rattle.parser.specs.Asked.{Outcome, outcome, taskOf, extentsSeen, offExtents, wholeText, lineNumber, taskSeen, finished}
 
 -- ---- the form
 

@@ -21,7 +21,7 @@ use Rattle.text.specs.Words.{wordsOf, allDigits, isNumber, spelled}
 use Rattle.text.specs.Request.{numbers, word, readable, extentsIn, codesIn, formed, declinesText, textRefusal, askedExtents, askedCodes}
 use Rattle.parser.specs.declared.Scanned.{Scanned}
 use Rattle.parser.specs.Scanning.{State, state, scanned, begun, extent, lost, stored, after}
-use Rattle.parser.specs.Reading.{Outcome, outcome, taskOf, extentsSeen, offExtents, wholeText, lineNumber, taskSeen, finished}
+use Rattle.parser.specs.Asked.{Outcome, outcome, taskOf, extentsSeen, offExtents, wholeText, lineNumber, taskSeen, finished}
 use Rattle.parser.proofs.WordLaws.{wordEnds, afterWords, walked}
 use Rattle.parser.proofs.AnswerLaws.{rungs, rungs-none, ladder}
 

@@ -13,7 +13,7 @@ ghost use Rattle.cells.specs.Codes.{blank};
 ghost use Rattle.cells.specs.Extents.{Sized};
 ghost use Rattle.text.specs.Words.{gap};
 ghost use Rattle.parser.specs.Scanning.{state, begun, capped, spells, longer, grown, counts, extent, counted, lost, stored, closed, step, after};
-ghost use Rattle.parser.specs.Reading.{outcome, offExtents, wholeText, lineNumber, taskSeen, finished};
+ghost use Rattle.parser.specs.Asked.{outcome, offExtents, wholeText, lineNumber, taskSeen, finished};
 
 // What is spelled where no number is: 2^32, above every number.
 const NO_NUMBER: u64 = 4294967296;

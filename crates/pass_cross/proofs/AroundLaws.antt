@@ -18,7 +18,7 @@ use Rattle.labels.specs.Components.{largest}
 use Rattle.labels.proofs.CountLaws.{largest-bound}
 use Rattle.lines.specs.Lines.{odds, around}
 use Rattle.lines.proofs.LineLaws.{up-around, flank-at, strided-two, strided-three, Reads, reads}
-use Rattle.pass_cross.specs.Crossings.{Room}
+use Rattle.pass_cross.specs.CrossEdges.{Room}
 use Rattle.pass_cross.specs.Inner.{Read, stridesOf, rowsAlong, cellRow, cellRows, padRows, Readable, Near, Beside, Meeting}
 use Rattle.pass_cross.proofs.ReadLaws.{kept-roots, kept-then}
 

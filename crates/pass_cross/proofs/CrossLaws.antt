@@ -15,7 +15,7 @@ use Rattle.cells.proofs.GridLaws.{length-up}
 use Rattle.lines.specs.Lines.{lineCount, StridedAt}
 use Rattle.lines.specs.declared.StridedLine.{StridedLine}
 use Rattle.lines.proofs.WalkLaws.{Walking, walk-inside, walk-order, walk-strided}
-use Rattle.pass_cross.specs.Crossings.{crossAt, Room, Trays, Crossed}
+use Rattle.pass_cross.specs.CrossEdges.{crossAt, Room, Trays, Crossed}
 use Rattle.pass_cross.specs.Inner.{Read, cellRows, padRows, countActive, edgesAmong, CellTrays}
 use Rattle.pass_cross.proofs.ReadLaws.{kept-roots, kept-then}
 use Rattle.pass_cross.proofs.AroundLaws.{number-in}

@@ -17,7 +17,7 @@ use Rattle.union_find.proofs.LinkLaws.{Left, left-all, left-fewer, left-united,
 use Rattle.cells.specs.Box.{Triple}
 use Rattle.cells.specs.Row.{sameRow, padTo, numbersAt}
 use Rattle.labels.specs.Number.{pairs}
-use Rattle.pass_cross.specs.Crossings.{placeOf, edgeIf, crossPair}
+use Rattle.pass_cross.specs.CrossEdges.{placeOf, edgeIf, crossPair}
 use Rattle.pass_cross.proofs.FlatLaws.{flat-append}
 use Rattle.pass_cross.specs.Inner.{activeRow, cellRow, cellRows, padRows, countActive, edgesTo, edgesAmong}
 

@@ -21,9 +21,9 @@ use Rattle.labels.specs.Components.{ofOrder}
 use Rattle.labels.proofs.NumberLaws.{pairs-in, pairs-out}
 use Rattle.cutting.specs.Cutting.{Cutting, blockExtents}
 use Rattle.joiner.specs.Job.{Face, Curve, Tables, fromOf, node}
-use Rattle.joiner.specs.Entries.{AtCrossing, Merged, joined, throughLinks, joinedRow}
+use Rattle.joiner.specs.Outcomes.{AtCrossing, Merged, joined, throughLinks, joinedRow}
 use Rattle.theory_model.proofs.Merging.{joins-merged-by}
-use Rattle.pass_cross.specs.Crossings.{placeOf, readThrough, numbersThrough, rowThrough, edgeIf, crossPair, crossAt, crossEdges}
+use Rattle.pass_cross.specs.CrossEdges.{placeOf, readThrough, numbersThrough, rowThrough, edgeIf, crossPair, crossAt, crossEdges}
 use Rattle.pass_cross.proofs.FlatLaws.{flat-in, flat-out}
 
 -- x and y are the places of two cells of order j that meet at a cell of the order below: both active, and with equal rows, read through

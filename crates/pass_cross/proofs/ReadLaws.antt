@@ -12,7 +12,7 @@ use Rattle.union_find.specs.Links.{root, Rooted, Found}
 use Rattle.union_find.proofs.LinkLaws.{root-low, rooted-refl, rooted-then}
 use Rattle.cells.specs.Row.{rowOf, padTo}
 use Rattle.lines.specs.Lines.{around}
-use Rattle.pass_cross.specs.Crossings.{placeOf, readThrough, numbersThrough, rowThrough}
+use Rattle.pass_cross.specs.CrossEdges.{placeOf, readThrough, numbersThrough, rowThrough}
 use Rattle.pass_cross.specs.Inner.{Read, stridesOf, activeRow, rowsAlong, Readable, Near}
 
 -- Links that keep their roots have the same roots, as functions.

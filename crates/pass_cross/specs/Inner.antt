@@ -13,7 +13,7 @@ use Rattle.cells.specs.Box.{Triple}
 use Rattle.cells.specs.Grid.{sides, cells, order, upperNeighbours}
 use Rattle.cells.specs.Row.{padTo}
 use Rattle.lines.specs.Lines.{Strided, around}
-use Rattle.pass_cross.specs.Crossings.{edgeIf, rowThrough, Room}
+use Rattle.pass_cross.specs.CrossEdges.{edgeIf, rowThrough, Room}
 
 -- x is v, read through links that keep their roots.
 pub record Read {A : Type 0} (above above′ : List ℕ) (x v : A) : Type 0 where

@@ -1,3 +1,3 @@
 -- What the contracts of the crossing pass cite: the edges that it joins, and how it finds them.
-pub mod Crossings
+pub mod CrossEdges
 pub mod Inner

@@ -18,7 +18,7 @@ ghost use Rattle.cells.specs.Box.{triple};
 ghost use Rattle.cells.specs.Grid.{order, upperNeighbours};
 ghost use Rattle.cells.specs.Row.{padTo, numbersAt};
 ghost use Rattle.lines.specs.Lines.{around, lineCount};
-ghost use Rattle.pass_cross.specs.Crossings.{readThrough, numbersThrough, edgeIf, crossAt, crossEdges, Room, Trays, Crossed};
+ghost use Rattle.pass_cross.specs.CrossEdges.{readThrough, numbersThrough, edgeIf, crossAt, crossEdges, Room, Trays, Crossed};
 ghost use Rattle.pass_cross.specs.Inner.{Read, stridesOf, activeRow, rowsAlong, cellRows, padRows, countActive, edgesTo, edgesAmong, lineEdges, Readable, Near, Beside, Meeting, CellTrays};
 
 // A number read through links: the place of its root + 1, and 0 for 0.

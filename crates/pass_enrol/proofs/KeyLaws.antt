@@ -24,14 +24,14 @@ use Rattle.lines.proofs.LineLaws.{Tests, order-tests}
 use Rattle.lines.proofs.WalkLaws.{Walking, ahead, walk-inside, walk-ends, walk-order, cells-first, cells-next, cells-last}
 use Rattle.cutting.specs.Cutting.{Cutting, blocks, goodCut, embed, mostBlocks}
 use Rattle.joiner.specs.Job.{Kind, orderOf, keyOf, keyPosition}
-use Rattle.joiner.specs.Entries.{firstOf, enrolledKey}
+use Rattle.joiner.specs.Outcomes.{firstOf, enrolledKey}
 use Rattle.joiner.proofs.Keys.{key-first}
 use Rattle.blocks.specs.Blocks.{sizeOf, Tells, shiftIn, embedIn}
 use Rattle.blocks.specs.declared.Block.{Block}
 use Rattle.blocks.proofs.BlockLaws.{told-sized, told-ends}
-use Rattle.pass_survey.specs.Surveys.{onLine}
+use Rattle.pass_survey.specs.Survey.{onLine}
 use Rattle.pass_survey.proofs.SurveyLaws.{fromLine, from-first, from-next, from-last}
-use Rattle.pass_enrol.specs.Enrolment.{Lies, Along, positionIn, firstIn, keyIn, keyPut, keyed, Firsts}
+use Rattle.pass_enrol.specs.EnrolledRows.{Lies, Along, positionIn, firstIn, keyIn, keyPut, keyed, FirstKeys}
 use Rattle.pass_enrol.proofs.PlaceLaws.{position-line, position-high}
 
 -- ---- the keys of a list of cells
@@ -196,7 +196,7 @@ module _ (k : Cutting) (b : ℕ) (r : Block) (T : Tells k b r) where
 
 -- what `store_rows` requires of the keys, where `store_keys` left them
 pub stored-firsts : (v : Triple) (r : Block) (b : ℕ) (m : List ℕ) (j from count : ℕ) (xs ks : List ℕ) → b < mostBlocks → from + count ≤ length ks → length ks ≡ length xs
-    → ks ≡ overlay xs from (λ i. keyIn v r b m j (suc i)) count → Firsts v r m j ks from count
+    → ks ≡ overlay xs from (λ i. keyIn v r b m j (suc i)) count → FirstKeys v r m j ks from count
 unfolding keyIn
 stored-firsts v r b m j from count xs ks h l s e = record {
   room = l;

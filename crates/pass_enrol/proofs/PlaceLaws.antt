@@ -12,7 +12,7 @@ use Rattle.lines.specs.Lines.{lineCount}
 use Rattle.lines.proofs.LineLaws.{line-place, line-inside}
 use Rattle.blocks.specs.Blocks.{sizeOf, shiftIn, embedIn}
 use Rattle.blocks.specs.declared.Block.{Block}
-use Rattle.pass_enrol.specs.Enrolment.{Lies, positionIn}
+use Rattle.pass_enrol.specs.EnrolledRows.{Lies, positionIn}
 
 module _ {v : Triple} {r : Block} (L : Lies v r) where
   pub shift-in : (c : Triple) → Inside (sides (sizeOf r)) c → Inside (sides v) (shiftIn r c)

@@ -23,12 +23,12 @@ use Rattle.labels.specs.Components.{largest, component, componentRow, rowAtFirs
 use Rattle.labels.proofs.ComponentLaws.{Belongs, component-out}
 use Rattle.cutting.specs.Cutting.{Cutting}
 use Rattle.joiner.specs.Job.{Face, Curve, width}
-use Rattle.joiner.specs.Entries.{shifted, enrolledRow}
+use Rattle.joiner.specs.Outcomes.{shifted, enrolledRow}
 use Rattle.joiner.proofs.RowBounds.{component-row-most}
 use Rattle.blocks.specs.Blocks.{originOf, sizeOf, Tells, inOn, hasIn, localIn, shiftIn, embedIn}
 use Rattle.blocks.specs.declared.Block.{Block}
 use Rattle.blocks.proofs.BlockLaws.{in-low, in-high}
-use Rattle.pass_enrol.specs.Enrolment.{Lies, positionIn, firstIn, shiftBy, rowIn, rowFor}
+use Rattle.pass_enrol.specs.EnrolledRows.{Lies, positionIn, firstIn, shiftBy, rowIn, rowFor}
 use Rattle.pass_enrol.proofs.PlaceLaws.{shift-in}
 
 -- ---- shifted entries

@@ -22,8 +22,8 @@ ghost use Rattle.lines.specs.Lines.{lineCount};
 ghost use Rattle.cutting.specs.Cutting.{mostBlocks};
 ghost use Rattle.joiner.specs.Job.{keyOf};
 ghost use Rattle.blocks.specs.Blocks.{sizeOf, hasIn, localIn};
-ghost use Rattle.pass_survey.specs.Surveys.{onLine};
-ghost use Rattle.pass_enrol.specs.Enrolment.{Lies, Along, positionIn, keyIn, shiftBy, rowIn, keyPut, keyed, rowFor, Firsts};
+ghost use Rattle.pass_survey.specs.Survey.{onLine};
+ghost use Rattle.pass_enrol.specs.EnrolledRows.{Lies, Along, positionIn, keyIn, shiftBy, rowIn, keyPut, keyed, rowFor, FirstKeys};
 
 // ---- keys
 
@@ -222,7 +222,7 @@ pub fn store_rows(
     j: usize,
     shift: u32,
 )
-    requires { ⌜ Lies (triple nx ny nz) block × (length (now map) ≡ cells (sizeOf block)) × (j ≤ 2) × Firsts (triple nx ny nz) block (now map) j (now keys) from count × ((6 - 2 * j) * (from + count) ≤ length (now rows)) × ((shift ≡ 0) ⊎ (shift + largest (sizeOf block) (now map) (suc j) < 4294967296)) ⌝ }
+    requires { ⌜ Lies (triple nx ny nz) block × (length (now map) ≡ cells (sizeOf block)) × (j ≤ 2) × FirstKeys (triple nx ny nz) block (now map) j (now keys) from count × ((6 - 2 * j) * (from + count) ≤ length (now rows)) × ((shift ≡ 0) ⊎ (shift + largest (sizeOf block) (now map) (suc j) < 4294967296)) ⌝ }
     ensures { λ _. ⌜ now (rows .exit)
         ≡ overlay (now (rows .entry)) ((6 - 2 * j) * from) (λ i. rowIn (sizeOf block) shift (now (map .entry)) j (suc (i / (6 - 2 * j))) (i % (6 - 2 * j))) ((6 - 2 * j) * count) ⌝ }
 {

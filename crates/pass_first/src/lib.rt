@@ -52,9 +52,9 @@ pub fn wide(v: u32) -> usize
 }
 
 // Marks cell p, where it has order j, as the first of its number.
-fn mark_cell(map: &[u32], nx: usize, ny: usize, nz: usize, j: usize, p: usize, firsts: &mut [u32])
-    requires { ⌜ Sought (triple nx ny nz) (now map) j × (p < cells (triple nx ny nz)) × Marks (triple nx ny nz) (now map) j (p + 1) (now firsts) ⌝ }
-    ensures { λ _. ⌜ Marks (triple nx ny nz) (now (map .entry)) j p (now (firsts .exit)) ⌝ }
+fn mark_cell(map: &[u32], nx: usize, ny: usize, nz: usize, j: usize, p: usize, marks: &mut [u32])
+    requires { ⌜ Sought (triple nx ny nz) (now map) j × (p < cells (triple nx ny nz)) × Marks (triple nx ny nz) (now map) j (p + 1) (now marks) ⌝ }
+    ensures { λ _. ⌜ Marks (triple nx ny nz) (now (map .entry)) j p (now (marks .exit)) ⌝ }
 {
     if order_of(nx, ny, nz, p) != j {
         return;
@@ -63,20 +63,20 @@ fn mark_cell(map: &[u32], nx: usize, ny: usize, nz: usize, j: usize, p: usize, f
     if v == 0 {
         return;
     }
-    if v > firsts.len() {
+    if v > marks.len() {
         return;
     }
-    firsts[v - 1] = p as u32;
+    marks[v - 1] = p as u32;
 }
 
 // Marks the first cells of the components of order j, from the last cell down. Not an entry.
-pub fn mark_firsts(map: &[u32], nx: usize, ny: usize, nz: usize, j: usize, firsts: &mut [u32])
-    requires { ⌜ Sought (triple nx ny nz) (now map) j × (now firsts ≡ zeros (cells (triple nx ny nz))) ⌝ }
-    ensures { λ _. ⌜ Marks (triple nx ny nz) (now (map .entry)) j 0 (now (firsts .exit)) ⌝ }
+pub fn mark_order(map: &[u32], nx: usize, ny: usize, nz: usize, j: usize, marks: &mut [u32])
+    requires { ⌜ Sought (triple nx ny nz) (now map) j × (now marks ≡ zeros (cells (triple nx ny nz))) ⌝ }
+    ensures { λ _. ⌜ Marks (triple nx ny nz) (now (map .entry)) j 0 (now (marks .exit)) ⌝ }
 {
     let mut p = map.len();
     while p > 0 {
         p -= 1;
-        mark_cell(map, nx, ny, nz, j, p, firsts);
+        mark_cell(map, nx, ny, nz, j, p, marks);
     }
 }

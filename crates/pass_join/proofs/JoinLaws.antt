@@ -24,7 +24,7 @@ use Rattle.cells.proofs.ExtentLaws.{cells-high}
 use Rattle.labels.specs.Number.{pairs, alike, edgesAt, orderBelow}
 use Rattle.lines.specs.Lines.{odds, around, lineY, lineZ}
 use Rattle.lines.proofs.LineLaws.{up-around, flank-at, Tests, order-tests}
-use Rattle.pass_join.specs.Joining.{Trays, alikeTo, alikePairs}
+use Rattle.pass_join.specs.JoinTrays.{Trays, alikeTo, alikePairs}
 
 -- Links that a loop has changed still fit the block.
 pub trays-kept : {e : Triple} {m ls ms : List ℕ} {es ds : List Edge} → Trays e m ls → Left ls ms es ds → Trays e m ms

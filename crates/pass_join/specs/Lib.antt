@@ -1,2 +1,2 @@
 -- What the contracts of the joining pass cite.
-pub mod Joining
+pub mod JoinTrays

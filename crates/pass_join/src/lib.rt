@@ -17,7 +17,7 @@ ghost use Rattle.cells.specs.Grid.{cells, upperNeighbours};
 ghost use Rattle.cells.specs.Row.{occupied};
 ghost use Rattle.labels.specs.Number.{pairs, alike, edgesAt, orderBelow, edges};
 ghost use Rattle.lines.specs.Lines.{odds, lineCount, Strided};
-ghost use Rattle.pass_join.specs.Joining.{Trays, alikeTo, alikePairs};
+ghost use Rattle.pass_join.specs.JoinTrays.{Trays, alikeTo, alikePairs};
 
 // Joins the i-th cell with the later ones of equal row.
 fn join_from(at: [u32; 6], rows: [[u32; 6]; 6], i: usize, links: &mut [u32])

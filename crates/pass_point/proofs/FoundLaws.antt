@@ -13,8 +13,8 @@ use Rattle.joiner.specs.Job.{Curve, Tables, fromOf, node, keyOf}
 use Rattle.joiner.specs.Declines.{finalOf, finalRow, pointCells}
 use Rattle.blocks.specs.Blocks.{sizeOf, Tells, shiftIn, embedIn}
 use Rattle.blocks.specs.declared.Block.{Block}
-use Rattle.pass_enrol.specs.Enrolment.{positionIn}
-use Rattle.pass_point.specs.Findings.{finalIn, foundRow, foundAmong, foundCells, Room}
+use Rattle.pass_enrol.specs.EnrolledRows.{positionIn}
+use Rattle.pass_point.specs.FoundPoints.{finalIn, foundRow, foundAmong, foundCells, Room}
 
 -- A cutting and tables in which block b has e voxels, these final curves, and its first curve at `from`.
 module _ (k : Cutting) (t : Tables) (b : ℕ) (m : List ℕ) {e : Triple} {numbers : List ℕ} {from : ℕ}

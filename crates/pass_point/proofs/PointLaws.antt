@@ -19,9 +19,9 @@ use Rattle.cells.proofs.GridLaws.{odd-lt}
 use Rattle.labels.specs.Components.{ofOrder}
 use Rattle.lines.specs.Lines.{strideIf, odds, around, lineCount}
 use Rattle.lines.proofs.LineLaws.{up-around, odds-are, Reads, reads}
-use Rattle.pass_survey.specs.Surveys.{onLine}
+use Rattle.pass_survey.specs.Survey.{onLine}
 use Rattle.pass_survey.proofs.SurveyLaws.{fromLine, from-first, from-next, from-last}
-use Rattle.pass_point.specs.Findings.{finalIn, foundRow, foundAmong, foundCells, finalsIn}
+use Rattle.pass_point.specs.FoundPoints.{finalIn, foundRow, foundAmong, foundCells, finalsIn}
 
 -- ---- final numbers
 

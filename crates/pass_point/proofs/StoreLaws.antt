@@ -14,8 +14,8 @@ use Rattle.joiner.specs.Job.{keyOf, keyBase}
 use Rattle.blocks.specs.Blocks.{sizeOf}
 use Rattle.blocks.specs.declared.Block.{Block}
 use Rattle.pass_survey.proofs.SurveyLaws.{fromLine}
-use Rattle.pass_enrol.specs.Enrolment.{positionIn}
-use Rattle.pass_point.specs.Findings.{foundRow, foundAmong, foundCells, rowEntry, keyAt, written, Stored, Room}
+use Rattle.pass_enrol.specs.EnrolledRows.{positionIn}
+use Rattle.pass_point.specs.FoundPoints.{foundRow, foundAmong, foundCells, rowEntry, keyAt, written, Stored, Room}
 use Rattle.pass_point.proofs.PointLaws.{found-append, found-none, found-length, cell-none, cell-one, found-all}
 
 -- ---- entries for the cells of a list

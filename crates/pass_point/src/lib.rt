@@ -22,9 +22,9 @@ ghost use Rattle.lines.specs.Lines.{lineCount};
 ghost use Rattle.cutting.specs.Cutting.{mostBlocks};
 ghost use Rattle.joiner.specs.Job.{keyOf};
 ghost use Rattle.blocks.specs.Blocks.{sizeOf};
-ghost use Rattle.pass_survey.specs.Surveys.{onLine};
-ghost use Rattle.pass_enrol.specs.Enrolment.{Lies, Along, positionIn};
-ghost use Rattle.pass_point.specs.Findings.{finalIn, foundRow, foundAmong, foundCells, finalsIn, PointCell, Stored, Room};
+ghost use Rattle.pass_survey.specs.Survey.{onLine};
+ghost use Rattle.pass_enrol.specs.EnrolledRows.{Lies, Along, positionIn};
+ghost use Rattle.pass_point.specs.FoundPoints.{finalIn, foundRow, foundAmong, foundCells, finalsIn, PointCell, Stored, Room};
 
 // ---- the row of a point cell
 

@@ -25,7 +25,7 @@ use Rattle.cutting.proofs.CutLaws.{embed-order, extent-on}
 use Rattle.joiner.specs.Job.{Kind, Tables, countOf, fromOf, node, orderOf, Face, Curve, Point}
 use Rattle.joiner.specs.Stages.{seamAxis, shared}
 use Rattle.joiner.specs.Calls.{differs, join, layersDiffer}
-use Rattle.joiner.specs.Entries.{AtSeam, Merged, Together, same, joined, back, via}
+use Rattle.joiner.specs.Outcomes.{AtSeam, Merged, Together, same, joined, back, via}
 use Rattle.joiner.proofs.Shared.{Shares, shared-in, shared-out}
 use Rattle.layers.specs.Layers.{across, axisOf, cellPair, columnsOf, firstAcross, lastAt, layerPairs, rowsOf}
 use Rattle.layers.proofs.LayerLaws.{Follows, layer-differs, layer-in, layer-out, layer-shares, shares-layer, seam-follows, inside-last}

@@ -14,12 +14,12 @@ use Rattle.labels.proofs.ComponentLaws.{of-order-out}
 use Rattle.cutting.specs.Cutting.{Cutting, blocks, goodCut, blockExtents}
 use Rattle.joiner.specs.Declines.{finalOf}
 use Rattle.joiner.specs.Job.{Face, Tables, fromOf, node}
-use Rattle.pass_point.specs.Findings.{finalIn}
+use Rattle.pass_point.specs.FoundPoints.{finalIn}
 use Rattle.totals.specs.Totals.{Taken}
 use Rattle.strain_calls.specs.Adding.{gathered, isLowest, countedCells, cellAdds}
 use Rattle.lowest.specs.Lowest.{starts, ownCell}
 use Rattle.lowest.proofs.LowestLaws.{own-lowest}
-use Rattle.pass_strain.specs.Summing.{Brought, brought, faceAt, ownFace, cellTaken, blockTaken}
+use Rattle.pass_strain.specs.BlockReadings.{Brought, brought, faceAt, ownFace, cellTaken, blockTaken}
 
 -- the final number of a block's number n, by the tables or by what is lent of them
 pub final-is : (t : Tables) (b n : ℕ) → finalIn (t .numbers Face) (fromOf t Face b) n ≡ finalOf t Face b n

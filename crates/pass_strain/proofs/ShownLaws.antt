@@ -13,10 +13,10 @@ use Rattle.lists.proofs.Cases.{by-test}
 use Rattle.cells.specs.Box.{Triple}
 use Rattle.lines.specs.Lines.{LineAt}
 use Rattle.lines.specs.declared.Line.{Line}
-use Rattle.pass_survey.specs.Surveys.{onLine}
+use Rattle.pass_survey.specs.Survey.{onLine}
 use Rattle.totals.specs.Totals.{sumsWith, countsWith}
 use Rattle.strain_calls.specs.Adding.{gathered}
-use Rattle.pass_strain.specs.Summing.{Brought, brought, cellTaken, Skips, nextAt, Listed}
+use Rattle.pass_strain.specs.BlockReadings.{Brought, brought, cellTaken, Skips, nextAt, Listed}
 use Rattle.pass_strain.proofs.SumLaws.{skips-none, skips-more, Going, going-start, going-skip, going-more, going-end}
 
 -- The list after the cells before `at`: what is listed, and what is passed over since the last of them.

@@ -8,7 +8,7 @@ use Rattle.cells.specs.Box.{Triple}
 use Rattle.cells.specs.Extents.{Sized}
 use Rattle.cells.specs.Grid.{sides}
 use Rattle.lines.specs.Lines.{lineCount, lineY, lineZ, firstStride, LineAt}
-use Rattle.pass_strain.specs.Summing.{Lies, Lying}
+use Rattle.pass_strain.specs.BlockReadings.{Lies, Lying}
 use Rattle.pass_strain.specs.declared.FaceLine.{FaceLine}
 use Rattle.pass_strain.specs.declared.Spot.{Spot}
 use Rattle.pass_strain.proofs.SumLaws.{bounds}

@@ -24,14 +24,14 @@ use Rattle.lines.specs.Lines.{odds, around, lineCount, lineY, lineZ, firstStrid
 use Rattle.lines.specs.declared.Line.{Line}
 use Rattle.lines.proofs.LineLaws.{up-around, row-odds, Reads, reads, Tests, line-odd, line-place, line-strides, strided-one, order-tests}
 use Rattle.lines.proofs.WalkLaws.{ahead, walk-even, walk-inside, cells-first, cells-next, cells-last}
-use Rattle.pass_point.specs.Findings.{finalIn}
-use Rattle.pass_survey.specs.Surveys.{onLine}
+use Rattle.pass_point.specs.FoundPoints.{finalIn}
+use Rattle.pass_survey.specs.Survey.{onLine}
 use Rattle.pass_survey.proofs.SurveyLaws.{fromLine}
 use Rattle.strains.specs.declared.Reading.{Reading}
 use Rattle.totals.specs.Totals.{Taken, slotOf, after, sumsWith, countsWith, readingAt}
 use Rattle.lowest.specs.Lowest.{startsBy}
 use Rattle.strain_calls.specs.Adding.{gathered, voxelTaken, faceTaken}
-use Rattle.pass_strain.specs.Summing.{Brought, brought, faceAt, ownFace, cellTaken, blockTaken, Whole, Lies, Beside, sideOf, Sided, sideTaken, OwnFace, Skips}
+use Rattle.pass_strain.specs.BlockReadings.{Brought, brought, faceAt, ownFace, cellTaken, blockTaken, Whole, Lies, Beside, sideOf, Sided, sideTaken, OwnFace, Skips}
 use Rattle.pass_strain.specs.declared.FaceLine.{FaceLine}
 use Rattle.pass_strain.specs.declared.Sides.{Sides}
 use Rattle.pass_strain.proofs.TakenLaws.{after-append, after-next, after-none, after-lines, after-line, after-last}

@@ -8,7 +8,7 @@ use lib.Ieee.{Float}
 use Rattle.cells.specs.Box.{Triple}
 use Rattle.labels.specs.Components.{ofOrder}
 use Rattle.lines.specs.Lines.{lineCount}
-use Rattle.pass_survey.specs.Surveys.{onLine}
+use Rattle.pass_survey.specs.Survey.{onLine}
 use Rattle.pass_survey.proofs.SurveyLaws.{fromLine, from-first, from-next, from-last}
 use Rattle.strains.specs.Readings.{kindOf}
 use Rattle.totals.specs.Totals.{Taken, after, sumAdded, sumsWith, countAdded, countsWith}

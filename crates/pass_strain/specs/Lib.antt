@@ -1,2 +1,2 @@
 -- The definitions that the contracts cite: the readings that a block adds to the totals.
-pub mod Summing
+pub mod BlockReadings

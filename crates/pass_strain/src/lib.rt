@@ -15,11 +15,11 @@ ghost use Rattle.cells.specs.Box.{triple, place};
 ghost use Rattle.cells.specs.Extents.{Sized};
 ghost use Rattle.cells.specs.Grid.{sides};
 ghost use Rattle.lines.specs.Lines.{lineCount};
-ghost use Rattle.pass_survey.specs.Surveys.{onLine};
+ghost use Rattle.pass_survey.specs.Survey.{onLine};
 ghost use Rattle.lowest.specs.Lowest.{startOf};
 ghost use Rattle.totals.specs.Totals.{readingAt, sumsWith, countsWith};
 ghost use Rattle.strain_calls.specs.Adding.{gathered, faceTaken};
-ghost use Rattle.pass_strain.specs.Summing.{brought, Sided, sideTaken, Beside, Whole, Lies, OwnFace, cellTaken, blockTaken, Lying, Listed};
+ghost use Rattle.pass_strain.specs.BlockReadings.{brought, Sided, sideTaken, Beside, Whole, Lies, OwnFace, cellTaken, blockTaken, Lying, Listed};
 
 // The sides of the voxels below and above a face cell: 0 lower, 1 higher, 2 for neither.
 struct Sides {

@@ -16,7 +16,7 @@ use Rattle.labels.specs.Components.{ofOrder, largest, blankVoxel}
 use Rattle.lines.specs.Lines.{lineCount}
 use Rattle.lines.proofs.WalkLaws.{onwards, lines-first, lines-next, lines-last}
 use Rattle.joiner.specs.Declines.{filled}
-use Rattle.pass_survey.specs.Surveys.{onLine, most, full, lineAdded}
+use Rattle.pass_survey.specs.Survey.{onLine, most, full, lineAdded}
 use Rattle.pass_survey.specs.declared.Survey.{Survey}
 
 -- ---- lists

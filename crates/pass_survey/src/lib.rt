@@ -10,7 +10,7 @@ ghost use Rattle.cells.specs.Grid.{cells};
 ghost use Rattle.labels.specs.Components.{largest};
 ghost use Rattle.lines.specs.Lines.{lineCount, lineY, lineZ};
 ghost use Rattle.joiner.specs.Declines.{filled};
-ghost use Rattle.pass_survey.specs.Surveys.{onLine, most, full, lineAdded};
+ghost use Rattle.pass_survey.specs.Survey.{onLine, most, full, lineAdded};
 
 // Whether no voxel is 0, and the largest number of a face, a curve and a point.
 pub struct Survey {

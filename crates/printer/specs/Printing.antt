@@ -21,16 +21,16 @@ tooMany e m = ltb (cells e) (largest e m 2) || (ltb (cells e) (largest e m 1) ||
 -- The extents are 1 to 8, map and tray of first cells have a place for each cell, and no number is above the cells. Every map that a
 -- labelling leaves has a listing: `labels-printed` (proofs/LabelledLaws). The tray of first cells goes in by its length.
 unfoldable pub hasListing : Triple → List ℕ → ℕ → Bool
-hasListing e m firsts = not (offSize 8 e) && (eqb (length m) (cells e) && (eqb firsts (cells e) && not (tooMany e m)))
+hasListing e m marks = not (offSize 8 e) && (eqb (length m) (cells e) && (eqb marks (cells e) && not (tooMany e m)))
 
 -- How many bytes are put, and what the tray of first cells and the tray of text hold.
 pub record Outcome : Type 0 where
   pub put : ℕ
-  pub firsts : List ℕ
+  pub marks : List ℕ
   pub tray : List ℕ
 
 abbrev pub outcome : ℕ → List ℕ → List ℕ → Outcome
-outcome n f t = record { put = n; firsts = f; tray = t }
+outcome n f t = record { put = n; marks = f; tray = t }
 
 -- The part of the listing from `from` on that the tray holds; the tray of first cells is left with zeros.
 unfoldable pub listed : Triple → List ℕ → List ℕ → ℕ → List ℕ → Outcome
@@ -41,8 +41,8 @@ unfoldable pub printing : Triple → List ℕ → List ℕ → ℕ → List ℕ 
 printing e m f from t = cond (hasListing e m (length f)) (listed e m f from t) (outcome 0 f t)
 
 -- What the inner functions require: the map has a listing.
-pub record Ready (e : Triple) (m : List ℕ) (firsts : ℕ) : Type 0 where
+pub record Ready (e : Triple) (m : List ℕ) (marks : ℕ) : Type 0 where
   pub sized : Sized 8 e
   pub whole : length m ≡ cells e
-  pub room : firsts ≡ cells e
+  pub room : marks ≡ cells e
   pub counts : (j : ℕ) → j ≤ 2 → largest e m j ≤ cells e

@@ -2,7 +2,7 @@
 // there is no listing, no byte is put. None of the functions is an entry.
 use extents::off_size;
 use pass_first::count_of;
-use pass_first::mark_firsts;
+use pass_first::mark_order;
 use pass_first::wide;
 use rows::row_at;
 use text_tray::Sink;
@@ -97,16 +97,16 @@ fn put_lines(
     nz: usize,
     map: &[u32],
     j: usize,
-    firsts: &[u32],
+    marks: &[u32],
     count: u32,
 ) -> Sink
-    requires { ⌜ Sought (triple nx ny nz) (now map) j × Marks (triple nx ny nz) (now map) j 0 (now firsts) × (count ≤ cells (triple nx ny nz)) ⌝ }
+    requires { ⌜ Sought (triple nx ny nz) (now map) j × Marks (triple nx ny nz) (now map) j 0 (now marks) × (count ≤ cells (triple nx ny nz)) ⌝ }
     ensures { λ r. ⌜ state r (now (out .exit)) ≡ sunk (state s (now (out .entry))) (linesFor (triple nx ny nz) (now (map .entry)) j (consecutive 1 count)) ⌝ }
 {
     let mut t = s;
     let mut i: u32 = 0;
     while i < count {
-        let p = wide(firsts[wide(i)]);
+        let p = wide(marks[wide(i)]);
         t = put_line(t, out, nx, ny, nz, map, j, i + 1, p);
         i += 1;
     }
@@ -122,16 +122,16 @@ fn put_order(
     nz: usize,
     map: &[u32],
     j: usize,
-    firsts: &mut [u32],
+    marks: &mut [u32],
 ) -> Sink
-    requires { ⌜ Sought (triple nx ny nz) (now map) j × (now firsts ≡ zeros (cells (triple nx ny nz))) × (largest (triple nx ny nz) (now map) j ≤ cells (triple nx ny nz)) ⌝ }
+    requires { ⌜ Sought (triple nx ny nz) (now map) j × (now marks ≡ zeros (cells (triple nx ny nz))) × (largest (triple nx ny nz) (now map) j ≤ cells (triple nx ny nz)) ⌝ }
     ensures { λ r. ⌜ state r (now (out .exit)) ≡ sunk (state s (now (out .entry))) (linesOf (triple nx ny nz) (now (map .entry)) j) ⌝ }
-    ensures { λ r. ⌜ now (firsts .exit) ≡ zeros (cells (triple nx ny nz)) ⌝ }
+    ensures { λ r. ⌜ now (marks .exit) ≡ zeros (cells (triple nx ny nz)) ⌝ }
 {
     let count = count_of(map, nx, ny, nz, j);
-    mark_firsts(map, nx, ny, nz, j, firsts);
-    let t = put_lines(s, out, nx, ny, nz, map, j, firsts, count);
-    clear(firsts);
+    mark_order(map, nx, ny, nz, j, marks);
+    let t = put_lines(s, out, nx, ny, nz, map, j, marks, count);
+    clear(marks);
     t
 }
 
@@ -157,17 +157,17 @@ fn put_listing(
     ny: usize,
     nz: usize,
     map: &[u32],
-    firsts: &mut [u32],
+    marks: &mut [u32],
 ) -> Sink
-    requires { ⌜ Ready (triple nx ny nz) (now map) (length (now firsts)) ⌝ }
+    requires { ⌜ Ready (triple nx ny nz) (now map) (length (now marks)) ⌝ }
     ensures { λ r. ⌜ state r (now (out .exit)) ≡ sunk (state s (now (out .entry))) (listing (triple nx ny nz) (now (map .entry))) ⌝ }
-    ensures { λ r. ⌜ now (firsts .exit) ≡ zeros (cells (triple nx ny nz)) ⌝ }
+    ensures { λ r. ⌜ now (marks .exit) ≡ zeros (cells (triple nx ny nz)) ⌝ }
 {
-    clear(firsts);
+    clear(marks);
     let s = put_heading(s, out, nx, ny, nz, map);
-    let s = put_order(s, out, nx, ny, nz, map, 2, firsts);
-    let s = put_order(s, out, nx, ny, nz, map, 1, firsts);
-    put_order(s, out, nx, ny, nz, map, 0, firsts)
+    let s = put_order(s, out, nx, ny, nz, map, 2, marks);
+    let s = put_order(s, out, nx, ny, nz, map, 1, marks);
+    put_order(s, out, nx, ny, nz, map, 0, marks)
 }
 
 // Whether there are more components of an order than cells.
@@ -186,8 +186,8 @@ fn too_many(map: &[u32], nx: usize, ny: usize, nz: usize) -> bool
 }
 
 // Whether the map has a listing and the tray of first cells its length.
-fn has_listing(nx: usize, ny: usize, nz: usize, map: &[u32], firsts: usize) -> bool
-    ensures { λ r. ⌜ r ≡ hasListing (triple nx ny nz) (now (map .entry)) firsts ⌝ }
+fn has_listing(nx: usize, ny: usize, nz: usize, map: &[u32], marks: usize) -> bool
+    ensures { λ r. ⌜ r ≡ hasListing (triple nx ny nz) (now (map .entry)) marks ⌝ }
 {
     if off_size(8, nx, ny, nz) {
         return false;
@@ -196,7 +196,7 @@ fn has_listing(nx: usize, ny: usize, nz: usize, map: &[u32], firsts: usize) -> b
     if map.len() != cells {
         return false;
     }
-    if firsts != cells {
+    if marks != cells {
         return false;
     }
     !too_many(map, nx, ny, nz)
@@ -210,17 +210,17 @@ pub fn print_listing(
     ny: usize,
     nz: usize,
     map: &[u32],
-    firsts: &mut [u32],
+    marks: &mut [u32],
     from: usize,
     out: &mut [u8],
 ) -> usize
-    ensures { λ r. ⌜ outcome r (now (firsts .exit)) (now (out .exit))
-        ≡ printing (triple nx ny nz) (now (map .entry)) (now (firsts .entry)) from (now (out .entry)) ⌝ }
+    ensures { λ r. ⌜ outcome r (now (marks .exit)) (now (out .exit))
+        ≡ printing (triple nx ny nz) (now (map .entry)) (now (marks .entry)) from (now (out .entry)) ⌝ }
 {
-    let size = firsts.len();
+    let size = marks.len();
     if has_listing(nx, ny, nz, map, size) {
         let start = Sink { skip: from, at: 0 };
-        let end = put_listing(start, out, nx, ny, nz, map, firsts);
+        let end = put_listing(start, out, nx, ny, nz, map, marks);
         return end.at;
     }
     0

@@ -19,7 +19,7 @@ use Rattle.text.specs.Request.{textRefusal, askedExtents, askedCodes}
 use Rattle.text.specs.Listing.{refusedLine, printed}
 use Rattle.parser.specs.declared.Task.{Task}
 use Rattle.parser.specs.Scanning.{state, begun, after}
-use Rattle.parser.specs.Reading.{Outcome, taskOf, finished}
+use Rattle.parser.specs.Asked.{Outcome, taskOf, finished}
 use Rattle.parser.proofs.TextLaws.{accepted-of, text-read}
 use Rattle.labeller.specs.Labelling as labeller
 use Rattle.labeller.proofs.LabellingLaws.{ready-accepted}

@@ -91,13 +91,13 @@ fn print_some(
     ny: usize,
     nz: usize,
     map: &[u32],
-    firsts: &mut [u32],
+    marks: &mut [u32],
     from: usize,
     out: &mut [u8],
 ) -> usize
     ensures { λ r. ⌜ from ≤ r ⌝ }
 {
-    let n = print_listing(nx, ny, nz, map, firsts, from, out);
+    let n = print_listing(nx, ny, nz, map, marks, from, out);
     if write(&out[..n]) {
         return after(from, n);
     }
@@ -105,14 +105,14 @@ fn print_some(
 }
 
 // Prints the listing of a map.
-fn print_all(nx: usize, ny: usize, nz: usize, map: &[u32], firsts: &mut [u32]) {
+fn print_all(nx: usize, ny: usize, nz: usize, map: &[u32], marks: &mut [u32]) {
     let mut space = io::large_buffer();
     let out: &mut [u8] = &mut space;
     let mut from: usize = 0;
-    let mut next = print_some(nx, ny, nz, map, firsts, 0, out);
+    let mut next = print_some(nx, ny, nz, map, marks, 0, out);
     while from < next {
         from = next;
-        next = print_some(nx, ny, nz, map, firsts, from, out);
+        next = print_some(nx, ny, nz, map, marks, from, out);
     }
 }
 

@@ -17,7 +17,7 @@ use Rattle.lists.proofs.Cases.{by-test, picked}
 use Rattle.lists.proofs.Overlay.{written-long, written-read}
 use Rattle.union_find.specs.Links.{parent, root}
 use Rattle.union_find.proofs.LinkLaws.{root-low, root-idem, root-own, root-up, parent-low}
-use Rattle.ranking.specs.Ranking.{Classes, Firsts, entered, firstOf}
+use Rattle.ranking.specs.Ranking.{Classes, Leaders, entered, firstOf}
 
 -- ---- classes
 
@@ -95,10 +95,10 @@ read-picked : (b : Bool) (fs : List ℕ) (c x : ℕ) → c < length fs → getD 
 read-picked true fs c x h = getD-set-same fs c x 0 h
 read-picked false fs c x h = refl
 
-pub firsts-none : (keys cs fs : List ℕ) → Firsts keys cs 0 fs
-firsts-none keys cs fs = record { at = λ c l. absurd (omega arith) }
+pub leaders-none : (keys cs fs : List ℕ) → Leaders keys cs 0 fs
+leaders-none keys cs fs = record { at = λ c l. absurd (omega arith) }
 
-module _ (keys cs fs : List ℕ) (n x : ℕ) (C : Classes cs n) (h : x < n) (F : Firsts keys cs x fs) where
+module _ (keys cs fs : List ℕ) (n x : ℕ) (C : Classes cs n) (h : x < n) (F : Leaders keys cs x fs) where
   abbrev f : ℕ → ℕ
   f y = getD cs y 0
 
@@ -134,9 +134,9 @@ module _ (keys cs fs : List ℕ) (n x : ℕ) (C : Classes cs n) (h : x < n) (F :
       let v : getD fs c 0 ≡ firstOf keys f c (suc x) = F .at c (omega arith) e ∙ sym (first-other keys f c x (λ u. s (sym u))) in
       picked (λ (r : List ℕ). getD r c 0 ≡ firstOf keys f c (suc x)) b (set fs (f x) x) fs (λ _. getD-set-other fs (f x) c x 0 s ∙ v) (λ _. v))
 
-  pub firsts-next : n ≤ length fs → (gs : List ℕ) → gs ≡ entered keys (getD cs x 0) x fs → Firsts keys cs (x + 1) gs
+  pub leaders-next : n ≤ length fs → (gs : List ℕ) → gs ≡ entered keys (getD cs x 0) x fs → Leaders keys cs (x + 1) gs
   unfolding entered
-  firsts-next k gs q = rw q (record {
+  leaders-next k gs q = rw q (record {
     at = λ c l e. rw add-one (by-test (eqb (f x) x)
         (λ t. rw t (own-next (eqb-true (f x) x t) k c (omega arith) e))
         (λ t. rw t (later-next (eqb-false (f x) x t) k c (omega arith) e)));

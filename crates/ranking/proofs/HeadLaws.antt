@@ -22,7 +22,7 @@ use Rattle.sorting.specs.Sorting.{rankIn, stable, keyAt, StandsByRank}
 use Rattle.sorting.proofs.Counts.{lex-le}
 use Rattle.sorting.proofs.RankLaws.{rank-low, rank-next, rank-onto, stable-inj}
 use Rattle.joiner.specs.Job.{Kind, Face, Curve, Point, Tables}
-use Rattle.joiner.specs.Entries.{notAfter, classOf, isOne, leads, heads, rank, headOf}
+use Rattle.joiner.specs.Outcomes.{notAfter, classOf, isOne, leads, heads, rank, headOf}
 use Rattle.ranking.specs.Ranking.{firstOf, firstsOf}
 use Rattle.ranking.proofs.FirstLaws.{first-below}
 use Rattle.ranking.proofs.Places.{place-in}

@@ -15,23 +15,23 @@ use Rattle.union_find.specs.Links.{root}
 use Rattle.union_find.proofs.LinkLaws.{root-low, root-idem}
 use Rattle.sorting.specs.Sorting.{keyAt, stable, Listed, StandsByRank}
 use Rattle.joiner.specs.Job.{Kind, Face, Tables}
-use Rattle.joiner.specs.Entries.{classOf, heads, rank, headOf}
-use Rattle.ranking.specs.Ranking.{Different, Firsts, Found, Ordered, Placed, Ranked, Standing, firstOf, firstsOf, part, standing, stands}
+use Rattle.joiner.specs.Outcomes.{classOf, heads, rank, headOf}
+use Rattle.ranking.specs.Ranking.{Different, Leaders, Found, Ordered, Placed, Ranked, LeadersListed, firstOf, firstsOf, part, leadersBelow, isLeader}
 use Rattle.ranking.proofs.Places.{length-part, part-at, part-written, part-lent, part-back}
 use Rattle.ranking.proofs.HeadLaws.{head-read, heads-found, rank-read, sorted-apart, sorted-below}
 use Rattle.ranking.proofs.FirstLaws.{first-ext}
-use Rattle.ranking.proofs.StandingLaws.{standing-long, standing-most}
+use Rattle.ranking.proofs.LeaderLists.{leaders-long, leaders-most}
 
 -- ---- `gather`
 
 module _ (links keys xs cs ss fs gs : List ℕ) (n r : ℕ) (lx : n ≤ length xs) (ls : 2 * n ≤ length ss) (C : cs ≡ overlay xs 0 (root links) n)
-    (F : Firsts keys cs n fs) (lf : length fs ≡ length ss) (S : Standing cs n n r fs gs) where
+    (F : Leaders keys cs n fs) (lf : length fs ≡ length ss) (S : LeadersListed cs n n r fs gs) where
   read : (x : ℕ) → x < n → getD cs x 0 ≡ root links x
   read = written-read xs (root links) n cs C lx
 
-  standing-firsts : standing cs fs n ≡ firstsOf keys (root links) n
-  unfolding standing stands firstsOf
-  standing-firsts =
+  leaders-first : leadersBelow cs fs n ≡ firstsOf keys (root links) n
+  unfolding leadersBelow isLeader firstsOf
+  leaders-first =
       keep-same _ _ (consecutive 0 n)
       (λ x m.
       let hx : x < n = omega (arith, consecutive-out 0 n m) in
@@ -43,10 +43,10 @@ module _ (links keys xs cs ss fs gs : List ℕ) (n r : ℕ) (lx : n ≤ length x
   pub found-of : Found links keys n r xs cs ss gs
   found-of = record {
     classes = C;
-    total = S .total ∙ ap length standing-firsts;
-    few = standing-most S;
-    listed = part-written fs (standing cs fs n) gs n r (S .total) (omega (arith, standing-most S)) (S .listed) ∙ standing-firsts;
-    long = standing-long S ∙ lf;
+    total = S .total ∙ ap length leaders-first;
+    few = leaders-most S;
+    listed = part-written fs (leadersBelow cs fs n) gs n r (S .total) (omega (arith, leaders-most S)) (S .listed) ∙ leaders-first;
+    long = leaders-long S ∙ lf;
   }
 
 -- ---- `arrange`
@@ -105,9 +105,9 @@ table-class : (links keys : List ℕ) (x : ℕ) → classOf (tableOf links keys)
 unfolding classOf tableOf
 table-class links keys x = refl
 
-firsts-below : (keys : List ℕ) (f : ℕ → ℕ) (n j : ℕ) → j < length (firstsOf keys f n) → getD (firstsOf keys f n) j 0 < n
+leaders-below : (keys : List ℕ) (f : ℕ → ℕ) (n j : ℕ) → j < length (firstsOf keys f n) → getD (firstsOf keys f n) j 0 < n
 unfolding firstsOf
-firsts-below keys f n j l =
+leaders-below keys f n j l =
     omega (arith, consecutive-out 0 n (keep-out (λ x. eqb (firstOf keys f (f x) n) x) (consecutive 0 n) (getD-in (firstsOf keys f n) j l) .0))
 
 module _ {links keys xs cs ss₀ ss₁ : List ℕ} {n r : ℕ} (lx : n ≤ length xs) (lk : n ≤ length keys) (ls : 2 * n ≤ length ss₀)
@@ -115,7 +115,7 @@ module _ {links keys xs cs ss₀ ss₁ : List ℕ} {n r : ℕ} (lx : n ≤ lengt
   pub found-listed : n < 2 ^ 32 → Listed (part ss₁ n r) keys
   found-listed b = rw (G .listed) (record {
     few = omega (arith, G .total, G .few);
-    keyed = λ j l. omega (arith, firsts-below keys (root links) n j l);
+    keyed = λ j l. omega (arith, leaders-below keys (root links) n j l);
   })
 
   module _ {ds ss₂ : List ℕ} (O : Ordered links keys n r cs ds ss₁ ss₂) where

@@ -2,6 +2,6 @@
 pub mod Places
 pub mod FirstLaws
 pub mod HeadLaws
-pub mod StandingLaws
+pub mod LeaderLists
 pub mod NumberLaws
 pub mod KindLaws

@@ -10,7 +10,7 @@ use Rattle.lists.specs.Lists.{consecutive, keep, overlay}
 use Rattle.union_find.specs.Links.{root}
 use Rattle.sorting.specs.Sorting.{keyAt, stable, StandsByRank}
 use Rattle.joiner.specs.Job.{Kind, Tables}
-use Rattle.joiner.specs.Entries.{classOf, heads, rank, headOf}
+use Rattle.joiner.specs.Outcomes.{classOf, heads, rank, headOf}
 
 -- ---- the whole
 
@@ -19,10 +19,10 @@ abbrev pub anyKind : List ℕ → List ℕ → (Tables → Kind → Type 0) → 
 anyKind links keys P = (t : Tables) (κ : Kind) → t .keys κ ≡ keys → ((x : ℕ) → classOf t κ x ≡ root links x) → P t κ
 
 -- The first n components numbered: how many first ones there are, all numbers, and the places of the first ones by number.
-pub record Ranked (t : Tables) (κ : Kind) (n r : ℕ) (numbers numbers′ firsts firsts′ : List ℕ) : Type 0 where
+pub record Ranked (t : Tables) (κ : Kind) (n r : ℕ) (numbers numbers′ leaders leaders′ : List ℕ) : Type 0 where
   pub total : r ≡ length (heads t κ n)
   pub ranks : numbers′ ≡ overlay numbers 0 (rank t κ n) n
-  pub places : firsts′ ≡ overlay firsts 0 (λ i. headOf t κ n (suc i)) r
+  pub places : leaders′ ≡ overlay leaders 0 (λ i. headOf t κ n (suc i)) r
 
 -- ---- classes and their first ones
 
@@ -50,22 +50,22 @@ pub record Classes (cs : List ℕ) (n : ℕ) : Type 0 where
 unfoldable pub entered : List ℕ → ℕ → ℕ → List ℕ → List ℕ
 entered keys c x fs = cond (eqb c x) (set fs x x) (cond (ltb (getD keys x 0) (getD keys (getD fs c 0) 0)) (set fs c x) fs)
 
--- At each class stands its first one of n places. What stands elsewhere is free.
-pub record Firsts (keys cs : List ℕ) (n : ℕ) (fs : List ℕ) : Type 0 where
+-- At each class isLeader its first one of n places. What isLeader elsewhere is free.
+pub record Leaders (keys cs : List ℕ) (n : ℕ) (fs : List ℕ) : Type 0 where
   pub at : (c : ℕ) → c < n → getD cs c 0 ≡ c → getD fs c 0 ≡ firstOf keys (λ x. getD cs x 0) c n
 
--- x stands in the table as the first one of its class.
-unfoldable pub stands : List ℕ → List ℕ → ℕ → Bool
-stands cs fs x = eqb (getD fs (getD cs x 0) 0) x
+-- x isLeader in the table as the first one of its class.
+unfoldable pub isLeader : List ℕ → List ℕ → ℕ → Bool
+isLeader cs fs x = eqb (getD fs (getD cs x 0) 0) x
 
 -- The places below x that do, ascending.
-unfoldable pub standing : List ℕ → List ℕ → ℕ → List ℕ
-standing cs fs x = keep (stands cs fs) (consecutive 0 x)
+unfoldable pub leadersBelow : List ℕ → List ℕ → ℕ → List ℕ
+leadersBelow cs fs x = keep (isLeader cs fs) (consecutive 0 x)
 
 -- They are listed from place n on.
-pub record Standing (cs : List ℕ) (n x r : ℕ) (fs fs′ : List ℕ) : Type 0 where
-  pub total : r ≡ length (standing cs fs x)
-  pub listed : fs′ ≡ overlay fs n (λ i. getD (standing cs fs x) i 0) r
+pub record LeadersListed (cs : List ℕ) (n x r : ℕ) (fs fs′ : List ℕ) : Type 0 where
+  pub total : r ≡ length (leadersBelow cs fs x)
+  pub listed : fs′ ≡ overlay fs n (λ i. getD (leadersBelow cs fs x) i 0) r
 
 -- The classes of the links, and their first ones from place n on.
 pub record Found (links keys : List ℕ) (n r : ℕ) (numbers numbers′ spare spare′ : List ℕ) : Type 0 where

@@ -1,3 +1,3 @@
 -- The definitions that the contract of `read_record` cites, and those of its inner functions.
-pub mod Reading
+pub mod Loaded
 pub mod Parts

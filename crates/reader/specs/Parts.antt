@@ -8,7 +8,7 @@ use lib.Dec.{eqb}
 use lib.ListN.{length, take}
 use Rattle.lists.specs.Lists.{tabulate}
 use Rattle.records.specs.Fields.{fieldAt}
-use Rattle.records.specs.Record.{bitmapLength, standing, numberOf}
+use Rattle.records.specs.Record.{bitmapLength, bitsBefore, numberOf}
 
 -- The bit map of n cells is there, and n is at most the 127 × 127 × 127 of the largest block.
 pub record Mapped (r : List ℕ) (n : ℕ) : Type 0 where
@@ -25,5 +25,5 @@ numberAt r b p = cond (eqb b 1) (fieldAt r p 4) 0
 
 -- The first c of n cells are read into m, and the next listed number stands at place p.
 pub record ReadTo (r : List ℕ) (n c p : ℕ) (m : List ℕ) : Type 0 where
-  pub place : p ≡ 12 + bitmapLength n + 4 * standing r c
+  pub place : p ≡ 12 + bitmapLength n + 4 * bitsBefore r c
   pub front : take c m ≡ tabulate c (numberOf n r)

@@ -15,9 +15,9 @@ ghost use Rattle.cells.specs.Grid.{cells, order};
 ghost use Rattle.labels.specs.Components.{ofOrder};
 ghost use Rattle.lines.specs.Lines.{lineCount};
 ghost use Rattle.records.specs.Fields.{fieldAt};
-ghost use Rattle.records.specs.Record.{extentsOf, originOf, bitAt, standing, bitmapLength, lengthOf, decodeRecord, damaged};
+ghost use Rattle.records.specs.Record.{extentsOf, originOf, bitAt, bitsBefore, bitmapLength, lengthOf, decodeRecord, damaged};
 ghost use Rattle.reader.specs.Parts.{Mapped, ReadTo, bitCount, numberAt};
-ghost use Rattle.reader.specs.Reading.{refusalOf, outcome, headOf, reading};
+ghost use Rattle.reader.specs.Loaded.{refusalOf, outcome, headOf, reading};
 
 // What a reading answers: the number of its refusal, 0 for none, and the extents and the origin of the block.
 pub struct Head {
@@ -74,7 +74,7 @@ fn ones(b: u8) -> usize
 // How many bits of the first `whole` bytes stand.
 fn whole_bits(bytes: &[u8], whole: usize) -> usize
     requires { ⌜ Mapped (now bytes) (8 * whole) ⌝ }
-    ensures { λ r. ⌜ r ≡ standing (now (bytes .entry)) (8 * whole) ⌝ }
+    ensures { λ r. ⌜ r ≡ bitsBefore (now (bytes .entry)) (8 * whole) ⌝ }
 {
     let mut count: usize = 0;
     let mut i: usize = 0;
@@ -86,9 +86,9 @@ fn whole_bits(bytes: &[u8], whole: usize) -> usize
 }
 
 // How many bits of n cells stand: those of the whole bytes, then the rest.
-fn standing_bits(bytes: &[u8], n: usize) -> usize
+fn count_bits(bytes: &[u8], n: usize) -> usize
     requires { ⌜ Mapped (now bytes) n ⌝ }
-    ensures { λ r. ⌜ r ≡ standing (now (bytes .entry)) n ⌝ }
+    ensures { λ r. ⌜ r ≡ bitsBefore (now (bytes .entry)) n ⌝ }
 {
     let whole = n / 8;
     let mut count = whole_bits(bytes, whole);
@@ -181,7 +181,7 @@ fn is_damaged(bytes: &[u8], nx: usize, ny: usize, nz: usize) -> bool
     if bytes.len() < at {
         return true;
     }
-    let count = standing_bits(bytes, n);
+    let count = count_bits(bytes, n);
     if bytes.len() != at + 4 * count {
         return true;
     }

@@ -9,7 +9,7 @@ use lib.Dec.{eqb, ltb}
 use lib.ListN.{getD}
 use borrow.Author.Tests.{eqb-false, eq-eqb, ne-eqb, lt-ltb, le-ltb}
 use Rattle.lists.proofs.Cases.{by-test}
-use Rattle.joiner.specs.Entries.{bisect, pointNumber}
+use Rattle.joiner.specs.Outcomes.{bisect, pointNumber}
 use Rattle.reading_cell.specs.declared.Span.{Span}
 use Rattle.reading_cell.specs.Inner.{halvedOf}
 

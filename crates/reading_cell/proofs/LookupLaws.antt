@@ -17,12 +17,12 @@ use Rattle.joiner.specs.Job.{Kind, Closed, State}
 use Rattle.joiner.specs.Stages.{hasCell, local}
 use Rattle.joiner.specs.Calls.{Call, look, answer, full}
 use Rattle.joiner.specs.Declines.{adds, lookStands, refusal, standsFor, stray, talliesFit}
-use Rattle.joiner.specs.Entries.{CallStep, lookedUp}
+use Rattle.joiner.specs.Outcomes.{CallStep, lookedUp}
 use Rattle.blocks.specs.Blocks.{anyExtents, sizeOf, Tells, hasIn}
 use Rattle.blocks.specs.declared.Block.{Block}
 use Rattle.blocks.proofs.BlockLaws.{has-told}
 use Rattle.job.specs.declared.Job.{Job}
-use Rattle.job.specs.Jobs.{anyCuts, jobOf, toldOf, stateOf}
+use Rattle.job.specs.JobState.{anyCuts, jobOf, toldOf, stateOf}
 use Rattle.judge.specs.declared.CallName.{CallName}
 use Rattle.judge.specs.declared.Entry.{Entry}
 use Rattle.judge.specs.declared.Lengths.{Lengths}

@@ -16,13 +16,13 @@ use Rattle.cutting.specs.Cutting.{Cutting, blocks, blockExtents, goodCut}
 use Rattle.joiner.specs.Job.{fromOf, node}
 use Rattle.joiner.specs.Stages.{local}
 use Rattle.joiner.specs.Declines.{finalOf, handedStands, lookStands, numberStands}
-use Rattle.joiner.specs.Entries.{pointNumber, cellNumber, lookedUp}
+use Rattle.joiner.specs.Outcomes.{pointNumber, cellNumber, lookedUp}
 use Rattle.blocks.specs.Blocks.{originOf, sizeOf, Tells, hasIn, localIn, shiftIn, embedIn}
 use Rattle.blocks.specs.declared.Block.{Block}
 use Rattle.blocks.proofs.BlockLaws.{in-low, in-high, local-told, shift-inside-told}
 use Rattle.job.specs.declared.Job.{Job}
-use Rattle.job.specs.Jobs.{toldOf, stateOf}
-use Rattle.pass_point.specs.Findings.{finalIn}
+use Rattle.job.specs.JobState.{toldOf, stateOf}
+use Rattle.pass_point.specs.FoundPoints.{finalIn}
 use Rattle.judge.specs.declared.Entry.{Entry}
 use Rattle.judge.specs.Judge.{entryOf, numberStandsIn}
 use Rattle.reading_cell.specs.Inner.{lent, orderAt, HasPlace, numberIn, handedIn, lookIn}

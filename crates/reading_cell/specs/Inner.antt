@@ -12,12 +12,12 @@ use Rattle.cells.specs.Grid.{sides}
 use Rattle.cutting.specs.Cutting.{Cutting, blocks, blockExtents}
 use Rattle.joiner.specs.Job.{Closed, State, Tables}
 use Rattle.joiner.specs.Stages.{hasCell}
-use Rattle.joiner.specs.Entries.{pointNumber}
+use Rattle.joiner.specs.Outcomes.{pointNumber}
 use Rattle.blocks.specs.Blocks.{hasIn}
 use Rattle.blocks.specs.declared.Block.{Block}
 use Rattle.job.specs.declared.Job.{Job}
 use Rattle.job.specs.Lent.{noTables, lookLent}
-use Rattle.pass_point.specs.Findings.{finalIn}
+use Rattle.pass_point.specs.FoundPoints.{finalIn}
 use Rattle.judge.specs.declared.CallName.{CallName}
 use Rattle.judge.specs.declared.Entry.{Entry}
 use Rattle.judge.specs.Judge.{firstRefusal, openedOf, lengthsOf, blockFits, entryOf, mapJudged, numberStandsIn}

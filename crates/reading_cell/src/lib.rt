@@ -32,9 +32,9 @@ ghost use Rattle.cells.specs.Grid.{sides};
 ghost use Rattle.cutting.specs.Cutting.{blocks};
 ghost use Rattle.joiner.specs.Stages.{hasCell};
 ghost use Rattle.joiner.specs.Calls.{look, answer};
-ghost use Rattle.joiner.specs.Entries.{CallStep, bisect, pointNumber};
+ghost use Rattle.joiner.specs.Outcomes.{CallStep, bisect, pointNumber};
 ghost use Rattle.blocks.specs.Blocks.{anyExtents};
-ghost use Rattle.job.specs.Jobs.{stateOf};
+ghost use Rattle.job.specs.JobState.{stateOf};
 ghost use Rattle.reading_cell.specs.Inner.{lent, lookJudged, halvedOf, orderAt, HasPlace, numberIn, handedIn, lookIn};
 
 // What a lookup answers: the number of its refusal, 0 for none, and the final number of the cell.

@@ -11,7 +11,7 @@ use Rattle.joiner.specs.Job.{Closed, Tables, sameStage, width, lengthsFit}
 use Rattle.joiner.specs.Job as joiner
 use Rattle.joiner.specs.Declines.{talliesFit}
 use Rattle.job.specs.declared.Job.{Job}
-use Rattle.job.specs.Jobs.{byKind, stageOf, jobOf}
+use Rattle.job.specs.JobState.{byKind, stageOf, jobOf}
 use Rattle.job.specs.Lent.{noTables, rowLent}
 use Rattle.judge.specs.declared.CallName.{CallName}
 use Rattle.judge.specs.declared.Lengths.{Lengths}

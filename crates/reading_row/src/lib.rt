@@ -18,8 +18,8 @@ ghost use mathlib.Core.Path.{_≡_};
 ghost use Prim.Native.Nat.{_-_, _*_, _≤_, _<_};
 ghost use lib.ListN.{length, take, drop};
 ghost use Rattle.joiner.specs.Calls.{reading, answer};
-ghost use Rattle.joiner.specs.Entries.{CallStep};
-ghost use Rattle.job.specs.Jobs.{anyCuts, stateOf};
+ghost use Rattle.joiner.specs.Outcomes.{CallStep};
+ghost use Rattle.job.specs.JobState.{anyCuts, stateOf};
 ghost use Rattle.reading_row.specs.Inner.{kindOf, lent, numberedOf, refusalOf, HasRow, rowIn};
 
 // What the tables hold.

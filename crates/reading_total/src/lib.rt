@@ -23,11 +23,11 @@ ghost use Rattle.cells.specs.Box.{triple};
 ghost use Rattle.cells.specs.Extents.{Sized};
 ghost use Rattle.joiner.specs.Job.{Tables};
 ghost use Rattle.stages.specs.Ticks.{tickedIn};
-ghost use Rattle.job.specs.Jobs.{anyCuts, jobOf, stateOf};
+ghost use Rattle.job.specs.JobState.{anyCuts, jobOf, stateOf};
 ghost use Rattle.totals.specs.Totals.{Holds};
 ghost use Rattle.strain_calls.specs.Tables.{totalTables};
 ghost use Rattle.strain_calls.specs.Calls.{total, strainAnswer, noSide};
-ghost use Rattle.strain_calls.specs.Entries.{StrainStep};
+ghost use Rattle.strain_calls.specs.Outcomes.{StrainStep};
 ghost use Rattle.reading_total.specs.Inner.{standIn, refusalOf};
 
 // What the reading of a total answers: the number of its refusal, 0 for none, and the totals.

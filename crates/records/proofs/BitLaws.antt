@@ -14,7 +14,7 @@ use Rattle.lists.proofs.Cases.{by-test}
 use Rattle.closure.proofs.Numbers.{count-hit, count-miss, count-bound}
 use Rattle.records.specs.Fields.{value, fieldAt}
 use Rattle.records.proofs.ReadLaws.{bit-at-lt, bit-at-byte}
-use Rattle.records.specs.Record.{bitAt, standing}
+use Rattle.records.specs.Record.{bitAt, bitsBefore}
 
 -- ---- fields
 
@@ -42,27 +42,27 @@ field-four r p h =
 
 module _ (r : List ℕ) where
   -- One cell more.
-  pub standing-more : (c : ℕ) → standing r (c + 1) ≡ standing r c + bitAt r c
-  unfolding standing
-  standing-more c =
+  pub bits-more : (c : ℕ) → bitsBefore r (c + 1) ≡ bitsBefore r c + bitAt r c
+  unfolding bitsBefore
+  bits-more c =
       rw add-one
       (by-test (eqb (bitAt r c) 1) (λ t. count-hit (λ d. eqb (bitAt r d) 1) c t ∙ omega (arith, eqb-true (bitAt r c) 1 t))
       (λ t. let d : bitAt r c ≢ 1 = eqb-false (bitAt r c) 1 t in count-miss (λ d. eqb (bitAt r d) 1) c t ∙ omega (arith, bit-at-lt r c)))
 
-  pub standing-bound : (c : ℕ) → standing r c ≤ c
-  unfolding standing
-  standing-bound c = count-bound _ c
+  pub bits-bound : (c : ℕ) → bitsBefore r c ≤ c
+  unfolding bitsBefore
+  bits-bound c = count-bound _ c
 
   -- The eight cells of byte i, one more and all.
-  byte-more : (i k : ℕ) → k < 8 → standing r (8 * i + suc k) ≡ standing r (8 * i + k) + getD r (12 + i) 0 / 2 ^ k % 2
+  byte-more : (i k : ℕ) → k < 8 → bitsBefore r (8 * i + suc k) ≡ bitsBefore r (8 * i + k) + getD r (12 + i) 0 / 2 ^ k % 2
   byte-more i k h =
       let e : 8 * i + suc k ≡ 8 * i + k + 1 = omega arith in
-      ap (standing r) e ∙ standing-more (8 * i + k) ∙ ap (λ x. standing r (8 * i + k) + x) (bit-at-byte r i k h)
+      ap (bitsBefore r) e ∙ bits-more (8 * i + k) ∙ ap (λ x. bitsBefore r (8 * i + k) + x) (bit-at-byte r i k h)
 
-  pub standing-byte : (i b : ℕ) → b ≡ getD r (12 + i) 0
-      → standing r (8 * (i + 1)) ≡ standing r (8 * i) + (b % 2 + b / 2 % 2 + b / 4 % 2 + b / 8 % 2 + b / 16 % 2 + b / 32 % 2 + b / 64 % 2 + b / 128 % 2)
-  standing-byte i b e =
+  pub bits-byte : (i b : ℕ) → b ≡ getD r (12 + i) 0
+      → bitsBefore r (8 * (i + 1)) ≡ bitsBefore r (8 * i) + (b % 2 + b / 2 % 2 + b / 4 % 2 + b / 8 % 2 + b / 16 % 2 + b / 32 % 2 + b / 64 % 2 + b / 128 % 2)
+  bits-byte i b e =
       let w : 8 * (i + 1) ≡ 8 * i + 8 = omega arith in
       let z : 8 * i ≡ 8 * i + 0 = omega arith in
       rw (e, w)
-      (omega (arith, ap (standing r) z, byte-more i 0 (omega arith), byte-more i 1 (omega arith), byte-more i 2 (omega arith), byte-more i 3 (omega arith), byte-more i 4 (omega arith), byte-more i 5 (omega arith), byte-more i 6 (omega arith), byte-more i 7 (omega arith)))
+      (omega (arith, ap (bitsBefore r) z, byte-more i 0 (omega arith), byte-more i 1 (omega arith), byte-more i 2 (omega arith), byte-more i 3 (omega arith), byte-more i 4 (omega arith), byte-more i 5 (omega arith), byte-more i 6 (omega arith), byte-more i 7 (omega arith)))

@@ -16,7 +16,7 @@ use Rattle.labels.specs.Components.{ofOrder}
 use Rattle.lists.proofs.Cases.{neither}
 use Rattle.lists.proofs.Tests.{some-none, none-some}
 use Rattle.records.specs.Fields.{fieldAt}
-use Rattle.records.specs.Record.{bitmapLength, bitAt, standing, lengthOf, damaged}
+use Rattle.records.specs.Record.{bitmapLength, bitAt, bitsBefore, lengthOf, damaged}
 use Rattle.records.proofs.ReadLaws.{bit-at-lt}
 
 -- The four parts of refusal 11, each the other way round.
@@ -24,7 +24,7 @@ pub record Whole (e : Triple) (r : List ℕ) : Type 0 where
   pub sized : length r ≡ lengthOf (cells e) r
   pub spared : (c : ℕ) → cells e ≤ c → c < 8 * bitmapLength (cells e) → bitAt r c ≡ 0
   pub voxels : (c : ℕ) → List·Memᴰ c (ofOrder e 3) → bitAt r c ≡ 1
-  pub nonzero : (k : ℕ) → k < standing r (cells e) → fieldAt r (12 + bitmapLength (cells e) + 4 * k) 4 ≡ 0 → ⊥
+  pub nonzero : (k : ℕ) → k < bitsBefore r (cells e) → fieldAt r (12 + bitmapLength (cells e) + 4 * k) 4 ≡ 0 → ⊥
 
 pub whole-damaged : (e : Triple) (r : List ℕ) → Whole e r → damaged e r ≡ false
 unfolding damaged
@@ -37,8 +37,8 @@ whole-damaged e r w =
     v : someOf (λ c. eqb (bitAt r c) 0) (ofOrder e 3) ≡ false
     v = none-some _ _ (λ c k. rw (w .voxels c k))
 
-    n : someOf (λ k. eqb (fieldAt r (12 + bitmapLength (cells e) + 4 * k) 4) 0) (consecutive 0 (standing r (cells e))) ≡ false
-    n = none-some _ _ (λ k h. let b = consecutive-out 0 (standing r (cells e)) h in ne-eqb (fieldAt r (12 + bitmapLength (cells e) + 4 * k) 4) 0 (w .nonzero k (omega arith)))
+    n : someOf (λ k. eqb (fieldAt r (12 + bitmapLength (cells e) + 4 * k) 4) 0) (consecutive 0 (bitsBefore r (cells e))) ≡ false
+    n = none-some _ _ (λ k h. let b = consecutive-out 0 (bitsBefore r (cells e)) h in ne-eqb (fieldAt r (12 + bitmapLength (cells e) + 4 * k) 4) 0 (w .nonzero k (omega arith)))
 
 pub damaged-whole : (e : Triple) (r : List ℕ) → damaged e r ≡ false → Whole e r
 unfolding damaged
@@ -48,7 +48,7 @@ damaged-whole e r d =
     let clear : ℕ → Bool = λ c. eqb (bitAt r c) 0 in
     let empty : ℕ → Bool = λ k. eqb (fieldAt r (12 + bitmapLength n + 4 * k) 4) 0 in
     let sp : List ℕ = consecutive n (8 * bitmapLength n - n) in
-    let st : List ℕ = consecutive 0 (standing r n) in
+    let st : List ℕ = consecutive 0 (bitsBefore r n) in
     let d₁ : (someOf spare sp || (someOf clear (ofOrder e 3) || someOf empty st)) ≡ false = neither (not (eqb (length r) (lengthOf n r))) _ d .1 in
     let d₂ : (someOf clear (ofOrder e 3) || someOf empty st) ≡ false = neither (someOf spare sp) _ d₁ .1 in
     record {
@@ -59,5 +59,5 @@ damaged-whole e r d =
       voxels = λ c k.
           let f : bitAt r c ≡ 0 → ⊥ = eqb-false (bitAt r c) 0 (some-none clear (ofOrder e 3) (neither (someOf clear (ofOrder e 3)) _ d₂ .0) k) in
           omega (arith, bit-at-lt r c);
-      nonzero = λ k h. eqb-false (fieldAt r (12 + bitmapLength n + 4 * k) 4) 0 (some-none empty st (neither (someOf clear (ofOrder e 3)) _ d₂ .1) (consecutive-in 0 (standing r n) (omega arith) (omega arith)));
+      nonzero = λ k h. eqb-false (fieldAt r (12 + bitmapLength n + 4 * k) 4) 0 (some-none empty st (neither (someOf clear (ofOrder e 3)) _ d₂ .1) (consecutive-in 0 (bitsBefore r n) (omega arith) (omega arith)));
     }

@@ -1,4 +1,4 @@
--- The bits, the count of standing bits and the numbers of any record.
+-- The bits, the count of bitsBefore bits and the numbers of any record.
 -- Assumes nothing.
 use mathlib.Core.Path.{_≡_}
 use mathlib.Core.List.{List}
@@ -11,7 +11,7 @@ use Rattle.lists.proofs.Cases.{by-test}
 use Rattle.lists.proofs.Lists.{length-tabulate, getD-tabulate}
 use Rattle.closure.proofs.Numbers.{count-hit, count-miss, count-mono}
 use Rattle.records.specs.Fields.{fieldAt}
-use Rattle.records.specs.Record.{bitmapLength, bitAt, standing, numberOf, decodeRecord}
+use Rattle.records.specs.Record.{bitmapLength, bitAt, bitsBefore, numberOf, decodeRecord}
 use Rattle.records.proofs.FieldLaws.{EntriesBelow, field-four}
 
 pub bit-at-lt : (r : List ℕ) (c : ℕ) → bitAt r c < 2
@@ -27,21 +27,21 @@ pub number-off : (n : ℕ) (r : List ℕ) (c : ℕ) → bitAt r c ≡ 0 → numb
 unfolding numberOf
 number-off n r c h = rw h
 
-pub number-on : (n : ℕ) (r : List ℕ) (c : ℕ) → bitAt r c ≡ 1 → numberOf n r c ≡ fieldAt r (12 + bitmapLength n + 4 * standing r c) 4
+pub number-on : (n : ℕ) (r : List ℕ) (c : ℕ) → bitAt r c ≡ 1 → numberOf n r c ≡ fieldAt r (12 + bitmapLength n + 4 * bitsBefore r c) 4
 unfolding numberOf
 number-on n r c h = rw h
 
-pub standing-off : (r : List ℕ) (c : ℕ) → bitAt r c ≡ 0 → standing r (suc c) ≡ standing r c
-unfolding standing
-standing-off r c h = count-miss (λ d. eqb (bitAt r d) 1) c (rw h)
+pub bits-off : (r : List ℕ) (c : ℕ) → bitAt r c ≡ 0 → bitsBefore r (suc c) ≡ bitsBefore r c
+unfolding bitsBefore
+bits-off r c h = count-miss (λ d. eqb (bitAt r d) 1) c (rw h)
 
-pub standing-on : (r : List ℕ) (c : ℕ) → bitAt r c ≡ 1 → standing r (suc c) ≡ suc (standing r c)
-unfolding standing
-standing-on r c h = count-hit (λ d. eqb (bitAt r d) 1) c (rw h)
+pub bits-on : (r : List ℕ) (c : ℕ) → bitAt r c ≡ 1 → bitsBefore r (suc c) ≡ suc (bitsBefore r c)
+unfolding bitsBefore
+bits-on r c h = count-hit (λ d. eqb (bitAt r d) 1) c (rw h)
 
-pub standing-mono : (r : List ℕ) (c d : ℕ) → c ≤ d → standing r c ≤ standing r d
-unfolding standing
-standing-mono r c d h = count-mono (λ i. eqb (bitAt r i) 1) c d h
+pub bits-mono : (r : List ℕ) (c d : ℕ) → c ≤ d → bitsBefore r c ≤ bitsBefore r d
+unfolding bitsBefore
+bits-mono r c d h = count-mono (λ i. eqb (bitAt r i) 1) c d h
 
 pub length-decode : (n : ℕ) (r : List ℕ) → length (decodeRecord n r) ≡ n
 unfolding decodeRecord
@@ -54,7 +54,7 @@ decode-at n r c h = getD-tabulate n (numberOf n r) c h
 pub decode-numbers : (n : ℕ) (r : List ℕ) → EntriesBelow 256 r → EntriesBelow 4294967296 (decodeRecord n r)
 decode-numbers n r b c h =
     rw (decode-at n r c (omega (arith, length-decode n r)))
-    (by-bit r c (λ z. rw (number-off n r c z) (omega arith)) (λ z. rw (number-on n r c z) (field-four r (12 + bitmapLength n + 4 * standing r c) b)))
+    (by-bit r c (λ z. rw (number-off n r c z) (omega arith)) (λ z. rw (number-on n r c z) (field-four r (12 + bitmapLength n + 4 * bitsBefore r c) b)))
 
 pub bit-at-byte : (r : List ℕ) (i k : ℕ) → k < 8 → bitAt r (8 * i + k) ≡ getD r (12 + i) 0 / 2 ^ k % 2
 unfolding bitAt

@@ -18,9 +18,9 @@ use Rattle.cells.specs.Grid.{cells}
 use Rattle.labels.specs.Components.{ofOrder, blankVoxel}
 use Rattle.labels.proofs.ComponentLaws.{of-order-out}
 use Rattle.records.specs.Fields.{bytes, fieldAt}
-use Rattle.records.specs.Record.{headBytes, bit, mapByte, bitmapLength, bitmap, listed, encodeRecord, extentsOf, originOf, bitAt, standing, numberOf, decodeRecord, lengthOf, damaged}
+use Rattle.records.specs.Record.{headBytes, bit, mapByte, bitmapLength, bitmap, listed, encodeRecord, extentsOf, originOf, bitAt, bitsBefore, numberOf, decodeRecord, lengthOf, damaged}
 use Rattle.records.proofs.FieldLaws.{EntriesBelow, below-nil, below-append, below-bytes, value-two, value-four, bytes-field, byte-bits}
-use Rattle.records.proofs.ReadLaws.{by-bit, number-off, number-on, standing-off, standing-on, standing-mono, length-decode, decode-at, bit-at-byte}
+use Rattle.records.proofs.ReadLaws.{by-bit, number-off, number-on, bits-off, bits-on, bits-mono, length-decode, decode-at, bit-at-byte}
 use Rattle.records.proofs.DamageLaws.{Whole, whole-damaged, damaged-whole}
 use Rattle.records.proofs.MapLaws.{by-zero, bit-zero, bit-one, map-byte-bit, map-byte-lt, length-bitmap, bitmap-at, below-bitmap, listed-suc, listed-zero, listed-one, below-listed, listed-split, shown, listed-place}
 use Rattle.records.proofs.LaidLaws.{length-head, encode-length}
@@ -68,19 +68,19 @@ module _ (e o : Triple) (m : List ℕ) where
   pub encode-spare : (c : ℕ) → length m ≤ c → c < 8 * bitmapLength (length m) → bitAt (encodeRecord e o m) c ≡ 0
   encode-spare c h b = encode-bit c b ∙ bit-zero (getD m c 0) (List·getD-eq-default m 0 h)
 
-  pub encode-standing : (c : ℕ) → c ≤ length m → standing (encodeRecord e o m) c ≡ countBelow (shown m) c
-  unfolding standing
-  encode-standing c h = count-same (λ d. eqb (bitAt (encodeRecord e o m) d) 1) (shown m) c (λ d l. rw (encode-bits d (omega arith)))
+  pub encode-bits-before : (c : ℕ) → c ≤ length m → bitsBefore (encodeRecord e o m) c ≡ countBelow (shown m) c
+  unfolding bitsBefore
+  encode-bits-before c h = count-same (λ d. eqb (bitAt (encodeRecord e o m) d) 1) (shown m) c (λ d l. rw (encode-bits d (omega arith)))
 
   pub encode-length-of : length (encodeRecord e o m) ≡ lengthOf (length m) (encodeRecord e o m)
   unfolding lengthOf
   encode-length-of =
       let l : length (listed m) ≡ 4 * countBelow (shown m) (length m) = rw (take-length m) at (listed-place m (length m) (omega arith)) in
-      omega (arith, encode-length e o m, encode-standing (length m) (omega arith))
+      omega (arith, encode-length e o m, encode-bits-before (length m) (omega arith))
 
   -- the place of the number of cell c, where it is listed
   pub encode-place : (c : ℕ) → c < length m → (getD m c 0 ≡ 0 → ⊥) → getD m c 0 < 4294967296
-      → fieldAt (encodeRecord e o m) (12 + bitmapLength (length m) + 4 * standing (encodeRecord e o m) c) 4 ≡ getD m c 0
+      → fieldAt (encodeRecord e o m) (12 + bitmapLength (length m) + 4 * bitsBefore (encodeRecord e o m) c) 4 ≡ getD m c 0
   unfolding fieldAt encodeRecord bytes
   encode-place c h z b =
       let p : ℕ = 12 + bitmapLength (length m) + 4 * countBelow (shown m) c in
@@ -88,7 +88,7 @@ module _ (e o : Triple) (m : List ℕ) where
       let back : List ℕ = bytes 4 (getD m c 0) ++ listed (drop (suc c) m) in
       let r : headBytes e o ++ bitmap m ++ listed m ≡ front ++ back = ap (λ l. headBytes e o ++ bitmap m ++ l) (listed-split m c h z) ∙ sym (append-assoc (headBytes e o ++ bitmap m) (listed (take c m)) back) in
       let l : length front ≡ p = rw (length-append, length-append, length-head, length-bitmap, listed-place m c (omega arith)) in
-      rw (encode-standing c (omega arith), r, drop-at front back p l) (value-four (getD m c 0) b)
+      rw (encode-bits-before c (omega arith), r, drop-at front back p l) (value-four (getD m c 0) b)
 
   encode-number : (c : ℕ) → c < length m → getD m c 0 < 4294967296 → numberOf (length m) (encodeRecord e o m) c ≡ getD m c 0
   unfolding numberOf
@@ -104,8 +104,8 @@ module _ (e o : Triple) (m : List ℕ) where
       (λ c l. decode-at (length m) (encodeRecord e o m) c (omega arith) ∙ encode-number c (omega arith) (b c (omega arith)))
 
   -- the k-th listed number is not 0
-  encode-nonzero : EntriesBelow 4294967296 m → (k : ℕ) → k < standing (encodeRecord e o m) (length m) → fieldAt (encodeRecord e o m) (12 + bitmapLength (length m) + 4 * k) 4 ≡ 0 → ⊥
-  unfolding standing
+  encode-nonzero : EntriesBelow 4294967296 m → (k : ℕ) → k < bitsBefore (encodeRecord e o m) (length m) → fieldAt (encodeRecord e o m) (12 + bitmapLength (length m) + 4 * k) 4 ≡ 0 → ⊥
+  unfolding bitsBefore
   encode-nonzero b k h z =
       let q : Nth (λ d. eqb (bitAt (encodeRecord e o m) d) 1) (length m) k = nth-passes (λ d. eqb (bitAt (encodeRecord e o m) d) 1) (length m) k h in
       let c : ℕ = q .at in
@@ -131,7 +131,7 @@ module _ (e o : Triple) (m : List ℕ) where
 
 module _ (e : Triple) (r : List ℕ) (w : Whole e r) where
   number-listed : (c : ℕ) → c < cells e → bitAt r c ≡ 1 → numberOf (cells e) r c ≡ 0 → ⊥
-  number-listed c h t z = w .nonzero (standing r c) (omega (arith, standing-on r c t, standing-mono r (suc c) (cells e) h)) (sym (number-on (cells e) r c t) ∙ z)
+  number-listed c h t z = w .nonzero (bitsBefore r c) (omega (arith, bits-on r c t, bits-mono r (suc c) (cells e) h)) (sym (number-on (cells e) r c t) ∙ z)
 
   decode-bit : (c : ℕ) → c < 8 * bitmapLength (cells e) → bit (getD (decodeRecord (cells e) r) c 0) ≡ bitAt r c
   decode-bit c h =
@@ -156,26 +156,26 @@ module _ (e : Triple) (r : List ℕ) (w : Whole e r) where
       (λ k j. map-byte-bit m i k j ∙ decode-bit (8 * i + k) (omega arith) ∙ bit-at-byte r i k j)))
 
   -- the bytes of one number
-  listed-next : EntriesBelow 256 r → (c : ℕ) → c < cells e → bitAt r c ≡ 1 → listed (getD (decodeRecord (cells e) r) c 0 ∷ []) ≡ take 4 (drop (4 * standing r c) (drop (12 + bitmapLength (cells e)) r))
+  listed-next : EntriesBelow 256 r → (c : ℕ) → c < cells e → bitAt r c ≡ 1 → listed (getD (decodeRecord (cells e) r) c 0 ∷ []) ≡ take 4 (drop (4 * bitsBefore r c) (drop (12 + bitmapLength (cells e)) r))
   unfolding lengthOf listed
   listed-next b c h t =
-      let p : ℕ = 12 + bitmapLength (cells e) + 4 * standing r c in
-      let l : p + 4 ≤ length r = omega (arith, w .sized, standing-on r c t, standing-mono r (suc c) (cells e) h) in
+      let p : ℕ = 12 + bitmapLength (cells e) + 4 * bitsBefore r c in
+      let l : p + 4 ≤ length r = omega (arith, w .sized, bits-on r c t, bits-mono r (suc c) (cells e) h) in
       rw (decode-at (cells e) r c h, drop-drop)
       (listed-one (numberOf (cells e) r c) [] (number-listed c h t) ∙ append-nil (bytes 4 (numberOf (cells e) r c)) ∙ ap (bytes 4) (number-on (cells e) r c t) ∙ bytes-field r p 4 b l)
 
   -- the bytes of the first c numbers
-  decode-listed : EntriesBelow 256 r → (c : ℕ) → c ≤ cells e → listed (take c (decodeRecord (cells e) r)) ≡ take (4 * standing r c) (drop (12 + bitmapLength (cells e)) r)
-  unfolding listed standing countBelow
+  decode-listed : EntriesBelow 256 r → (c : ℕ) → c ≤ cells e → listed (take c (decodeRecord (cells e) r)) ≡ take (4 * bitsBefore r c) (drop (12 + bitmapLength (cells e)) r)
+  unfolding listed bitsBefore countBelow
   decode-listed b zero h = refl
   decode-listed b (suc c) h =
       let m : List ℕ = decodeRecord (cells e) r in
       let t : List ℕ = drop (12 + bitmapLength (cells e)) r in
-      let ih : listed (take c m) ≡ take (4 * standing r c) t = decode-listed b c (omega arith) in
+      let ih : listed (take c m) ≡ take (4 * bitsBefore r c) t = decode-listed b c (omega arith) in
       listed-suc m c (omega (arith, length-decode (cells e) r)) ∙ ap (λ l. l ++ listed (getD m c 0 ∷ [])) ih ∙
       by-bit r c
-      (λ z. ap (λ l. take (4 * standing r c) t ++ l) (listed-zero (getD m c 0) [] (decode-at (cells e) r c h ∙ number-off (cells e) r c z)) ∙ append-nil (take (4 * standing r c) t) ∙ ap (λ k. take (4 * k) t) (sym (standing-off r c z)))
-      (λ z. ap (λ l. take (4 * standing r c) t ++ l) (listed-next b c h z) ∙ sym (take-add (4 * standing r c) 4 t) ∙ (let k : 4 * standing r c + 4 ≡ 4 * standing r (suc c) = omega (arith, standing-on r c z) in ap (λ j. take j t) k))
+      (λ z. ap (λ l. take (4 * bitsBefore r c) t ++ l) (listed-zero (getD m c 0) [] (decode-at (cells e) r c h ∙ number-off (cells e) r c z)) ∙ append-nil (take (4 * bitsBefore r c) t) ∙ ap (λ k. take (4 * k) t) (sym (bits-off r c z)))
+      (λ z. ap (λ l. take (4 * bitsBefore r c) t ++ l) (listed-next b c h z) ∙ sym (take-add (4 * bitsBefore r c) 4 t) ∙ (let k : 4 * bitsBefore r c + 4 ≡ 4 * bitsBefore r (suc c) = omega (arith, bits-on r c z) in ap (λ j. take j t) k))
 
   decode-tail : EntriesBelow 256 r → listed (decodeRecord (cells e) r) ≡ drop (12 + bitmapLength (cells e)) r
   unfolding lengthOf
@@ -183,7 +183,7 @@ module _ (e : Triple) (r : List ℕ) (w : Whole e r) where
       let m : List ℕ = decodeRecord (cells e) r in
       let t : List ℕ = drop (12 + bitmapLength (cells e)) r in
       ap listed (sym (take-all (cells e) m (omega (arith, length-decode (cells e) r)))) ∙ decode-listed b (cells e) (omega arith) ∙
-      take-all (4 * standing r (cells e)) t (omega (arith, length-drop (12 + bitmapLength (cells e)) r, w .sized))
+      take-all (4 * bitsBefore r (cells e)) t (omega (arith, length-drop (12 + bitmapLength (cells e)) r, w .sized))
 
 head-bytes : (r : List ℕ) → EntriesBelow 256 r → 12 ≤ length r → headBytes (extentsOf r) (originOf r) ≡ take 12 r
 unfolding headBytes extentsOf originOf

@@ -54,12 +54,12 @@ unfoldable pub bitAt : List ℕ → ℕ → ℕ
 bitAt r c = getD r (12 + c / 8) 0 / 2 ^ (c % 8) % 2
 
 -- How many bits stand before cell c.
-unfoldable pub standing : List ℕ → ℕ → ℕ
-standing r c = countBelow (λ d. eqb (bitAt r d) 1) c
+unfoldable pub bitsBefore : List ℕ → ℕ → ℕ
+bitsBefore r c = countBelow (λ d. eqb (bitAt r d) 1) c
 
 -- The number of cell c in a record of n cells.
 unfoldable pub numberOf : ℕ → List ℕ → ℕ → ℕ
-numberOf n r c = cond (eqb (bitAt r c) 1) (fieldAt r (12 + bitmapLength n + 4 * standing r c) 4) 0
+numberOf n r c = cond (eqb (bitAt r c) 1) (fieldAt r (12 + bitmapLength n + 4 * bitsBefore r c) 4) 0
 
 -- The map of a record of n cells.
 unfoldable pub decodeRecord : ℕ → List ℕ → List ℕ
@@ -67,9 +67,9 @@ decodeRecord n r = tabulate n (numberOf n r)
 
 -- ---- the cases of the refusals
 
--- "The length is 12 + ceil(cells/8) + 4 × (standing bits)."
+-- "The length is 12 + ceil(cells/8) + 4 × (bitsBefore bits)."
 unfoldable pub lengthOf : ℕ → List ℕ → ℕ
-lengthOf n r = 12 + bitmapLength n + 4 * standing r n
+lengthOf n r = 12 + bitmapLength n + 4 * bitsBefore r n
 
 -- Refusal 11, with a whole head: "wrong length, spare bit set, voxel bit clear, a listed number 0".
 unfoldable pub damaged : Triple → List ℕ → Bool
@@ -77,4 +77,4 @@ damaged e r =
     not (eqb (length r) (lengthOf (cells e) r)) ||
     (someOf (λ c. eqb (bitAt r c) 1) (consecutive (cells e) (8 * bitmapLength (cells e) - cells e)) ||
     (someOf (λ c. eqb (bitAt r c) 0) (ofOrder e 3) ||
-    someOf (λ k. eqb (fieldAt r (12 + bitmapLength (cells e) + 4 * k) 4) 0) (consecutive 0 (standing r (cells e)))))
+    someOf (λ k. eqb (fieldAt r (12 + bitmapLength (cells e) + 4 * k) 4) 0) (consecutive 0 (bitsBefore r (cells e)))))

@@ -18,7 +18,7 @@ use Rattle.labels.specs.OrderCounts.{cellsOfOrder}
 use Rattle.writer.specs.declared.Written.{Written}
 use Rattle.writer.specs.Writing.{Outcome as Writing·Outcome, outcome as Writing·outcome}
 use Rattle.reader.specs.declared.Head.{Head}
-use Rattle.reader.specs.Reading.{Outcome as Reading·Outcome, outcome as Reading·outcome}
+use Rattle.reader.specs.Loaded.{Outcome as Reading·Outcome, outcome as Reading·outcome}
 use Rattle.labeller.specs.declared.Labelled.{Labelled}
 use Rattle.labeller.specs.Labelling.{Outcome, outcome}
 use Rattle.maxima.specs.declared.Most.{Most}
@@ -27,15 +27,15 @@ use Rattle.maxima.proofs.MaximaLaws.{most-accepted, most-refused}
 use Rattle.service.specs.Exports.{exported, export, ExportedMost, exportedMost, exportMost, exportedWriting, exportWriting, exportedReading, exportReading}
 use Rattle.joiner.specs.Job.{Kind, Tables}
 use Rattle.joiner.specs.Calls.{Call, reading, answer}
-use Rattle.joiner.specs.Entries.{CallStep}
+use Rattle.joiner.specs.Outcomes.{CallStep}
 use Rattle.job.specs.declared.Job.{Job}
 use Rattle.job.specs.declared.Stage.{Stage}
-use Rattle.job.specs.Jobs.{anyCuts, jobOf, stateOf, anyTables}
+use Rattle.job.specs.JobState.{anyCuts, jobOf, stateOf, anyTables}
 use Rattle.job.specs.Lent.{rowLent}
 use Rattle.job_numbers.specs.Numbers.{jobIn, keptNumbers}
 use Rattle.totals.specs.declared.Totals.{Totals}
 use Rattle.strain_calls.specs.Tables.{TotalTables}
-use Rattle.strain_calls.specs.Entries.{StrainPromise, TotalPromise}
+use Rattle.strain_calls.specs.Outcomes.{StrainPromise, TotalPromise}
 use Rattle.exports.specs.Exports.{ExportedStep, ExportedLookup, ExportedStrain, ExportedTotal, RowExported, sixOf}
 
 pub label-exported : (r : Labelled) (m w c c′ : List ℕ) (o : Outcome) → outcome r m w ≡ o → c′ ≡ storedCounts (r .refusal) (r .faces) (r .curves) (r .points) c

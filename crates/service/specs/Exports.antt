@@ -9,7 +9,7 @@ use Rattle.counts.specs.Counts.{storedCounts}
 use Rattle.labeller.specs.Labelling.{Outcome}
 use Rattle.maxima.specs.declared.Most.{Most}
 use Rattle.writer.specs.Writing.{Outcome as Writing·Outcome}
-use Rattle.reader.specs.Reading.{Outcome as Reading·Outcome}
+use Rattle.reader.specs.Loaded.{Outcome as Reading·Outcome}
 
 -- Of a labelling: the number given back, and what the trays and the three counts hold.
 pub record Exported : Type 0 where

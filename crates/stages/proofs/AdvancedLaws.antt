@@ -7,11 +7,11 @@ use Rattle.joiner.specs.Job.{Kind, Face, Curve, Point, Tables}
 use Rattle.joiner.specs.Stages.{nextAfter}
 use Rattle.joiner.specs.Calls.{Call}
 use Rattle.joiner.specs.Declines.{adds}
-use Rattle.joiner.specs.Entries.{Ticked}
+use Rattle.joiner.specs.Outcomes.{Ticked}
 use Rattle.blocks.specs.Blocks.{anyExtents}
 use Rattle.job.specs.declared.Job.{Job}
 use Rattle.job.specs.declared.Stage.{Stage}
-use Rattle.job.specs.Jobs.{byKind, stageOf, jobOf, toldOf, stateOf}
+use Rattle.job.specs.JobState.{byKind, stageOf, jobOf, toldOf, stateOf}
 use Rattle.stages.specs.Ticks.{tickedIn}
 use Rattle.stages.specs.Advanced.{movedOn, Advanced}
 use Rattle.stages.proofs.StageLaws.{next-told}

@@ -18,7 +18,7 @@ use Rattle.joiner.specs.Stages.{stepsOf, nextStage, finished, nextAfter}
 use Rattle.stages.specs.Ticks.{tickedIn, tickedTo, hasNext, seamTicked, seamsTicked, seamsTickedTo}
 use Rattle.blocks.specs.Blocks.{cutOf, anyExtents}
 use Rattle.job.specs.declared.Stage.{Stage}
-use Rattle.job.specs.Jobs.{stageOf}
+use Rattle.job.specs.JobState.{stageOf}
 use Rattle.lists.proofs.Cases.{by-test, and-both}
 use Rattle.stages.proofs.TickLaws.{enrol-finished, crossing-finished, points-finished, seam-finished, seams-none}
 use Rattle.blocks.proofs.CodeLaws.{blocks-are}

@@ -6,7 +6,7 @@ use lib.ListN.{set}
 use Rattle.joiner.specs.Stages.{nextAfter}
 use Rattle.job.specs.declared.Job.{Job}
 use Rattle.job.specs.declared.Stage.{Stage}
-use Rattle.job.specs.Jobs.{stageOf, toldOf}
+use Rattle.job.specs.JobState.{stageOf, toldOf}
 use Rattle.stages.specs.Ticks.{tickedIn}
 
 -- The job in a stage, with more faces, curves and points.

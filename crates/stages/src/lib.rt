@@ -17,7 +17,7 @@ ghost use Rattle.joiner.specs.Stages.{nextStage, finished, nextAfter};
 ghost use Rattle.stages.specs.Ticks.{tickedIn, tickedTo, seamsTicked, seamsTickedTo};
 ghost use Rattle.stages.specs.Advanced.{Advanced};
 ghost use Rattle.blocks.specs.Blocks.{anyExtents};
-ghost use Rattle.job.specs.Jobs.{stageOf};
+ghost use Rattle.job.specs.JobState.{stageOf};
 
 // Whether step i is ticked. Not an entry.
 pub fn is_ticked(ticks: &[u32], i: usize) -> bool

@@ -15,14 +15,14 @@ use Rattle.joiner.specs.Job.{Kind, Face, Curve, Point, Points, Tables, State, t
 use Rattle.joiner.specs.Stages.{crossingStep}
 use Rattle.joiner.specs.Calls.{cross, answer}
 use Rattle.joiner.specs.Declines.{adds, lentTo, mapStands, refusal}
-use Rattle.joiner.specs.Entries.{CrossingDone, NumberedKind, CallStep, Merged, AtCrossing, Ticked, classOf, rowFinal}
+use Rattle.joiner.specs.Outcomes.{CrossingDone, NumberedKind, CallStep, Merged, AtCrossing, Ticked, classOf, rowFinal}
 use Rattle.joiner.proofs.Passed.{is-stage, not-stage, Passed, passed, fits-at, tally-fits, faces-stand, curves-stand}
 use Rattle.joiner.proofs.Kept.{found-kept, numbers-kept}
 use Rattle.pass_cross.proofs.MergeLaws.{crossing-merged}
 use Rattle.kind_numbers.proofs.NumberedLaws.{numbered-kind}
 use Rattle.job.specs.declared.Job.{Job}
-use Rattle.job.specs.Jobs.{byKind, toldOf, jobOf, stateOf}
-use Rattle.job.specs.Jobs as job
+use Rattle.job.specs.JobState.{byKind, toldOf, jobOf, stateOf}
+use Rattle.job.specs.JobState as job
 use Rattle.judge.specs.Judge.{lengthsOf, entryOf}
 use Rattle.stages.proofs.AdvancedLaws.{ticked-by, numbered-kept}
 use Rattle.judge.proofs.JudgeLaws.{few-of, step-refused, step-accepted}

@@ -10,8 +10,8 @@ use store_cross::number_both;
 ghost use mathlib.Core.Path.{_≡_};
 ghost use mathlib.Core.List.{[]};
 ghost use Rattle.joiner.specs.Calls.{cross, answer};
-ghost use Rattle.joiner.specs.Entries.{CallStep, CrossingDone};
-ghost use Rattle.job.specs.Jobs.{stateOf};
+ghost use Rattle.joiner.specs.Outcomes.{CallStep, CrossingDone};
+ghost use Rattle.job.specs.JobState.{stateOf};
 ghost use Rattle.step_cross.specs.Inner.{lent, Ready};
 
 // What a crossing step answers: the number of its refusal, 0 for none, and the job.

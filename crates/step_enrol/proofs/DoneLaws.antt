@@ -21,16 +21,16 @@ use Rattle.joiner.specs.Job.{Kind, Face, Curve, Point, Enrol, Tables, State, bl
 use Rattle.joiner.specs.Stages.{enrolStep}
 use Rattle.joiner.specs.Calls.{enrol, answer, full, overfull}
 use Rattle.joiner.specs.Declines.{lentTo, adds, refusal}
-use Rattle.joiner.specs.Entries.{enrolledRow, EnrolDone, blockEntry, CallStep}
+use Rattle.joiner.specs.Outcomes.{enrolledRow, EnrolDone, blockEntry, CallStep}
 use Rattle.joiner.proofs.Passed.{Passed, passed, fits-at}
 use Rattle.joiner.proofs.Kept.{found-kept, numbers-kept}
 use Rattle.blocks.specs.Blocks.{anyExtents, sizeOf, Tells}
 use Rattle.blocks.specs.declared.Block.{Block}
-use Rattle.pass_enrol.specs.Enrolment.{Lies, keyIn, Firsts}
+use Rattle.pass_enrol.specs.EnrolledRows.{Lies, keyIn, FirstKeys}
 use Rattle.pass_enrol.proofs.KeyLaws.{lies-told, enrolled-keys, stored-firsts}
 use Rattle.pass_enrol.proofs.RowLaws.{enrolled-faces, enrolled-curves}
 use Rattle.job.specs.declared.Job.{Job}
-use Rattle.job.specs.Jobs.{byKind, toldOf, jobOf, stateOf}
+use Rattle.job.specs.JobState.{byKind, toldOf, jobOf, stateOf}
 use Rattle.job.specs.Lent.{noTables, enrolLent}
 use Rattle.judge.specs.declared.CallName.{CallName}
 use Rattle.judge.specs.declared.Lengths.{Lengths}
@@ -73,7 +73,7 @@ has-room entries sofar more e κ = go κ
 -- what `store_rows` requires
 pub kind-rows : (v : Triple) (r : Block) (b : ℕ) (m : List ℕ) (j shift from count l n : ℕ) (ks : List ℕ) → KindReady v r b m j shift from count l (length ks) n
     → (ks′ : List ℕ) → ks′ ≡ overlay ks from (λ i. keyIn v r b m j (suc i)) count
-    → Lies v r × (length m ≡ cells (sizeOf r)) × (j ≤ 2) × Firsts v r m j ks′ from count × ((6 - 2 * j) * (from + count) ≤ n) × ((shift ≡ 0) ⊎ (shift + largest (sizeOf r) m (suc j) < 4294967296))
+    → Lies v r × (length m ≡ cells (sizeOf r)) × (j ≤ 2) × FirstKeys v r m j ks′ from count × ((6 - 2 * j) * (from + count) ≤ n) × ((shift ≡ 0) ⊎ (shift + largest (sizeOf r) m (suc j) < 4294967296))
 kind-rows v r b m j shift from count l n ks R ks′ e =
     let s : length ks′ ≡ length ks = ap length e ∙ length-overlay ks from (λ i. keyIn v r b m j (suc i)) count in
     (R .lies, R .size, R .below, stored-firsts v r b m j from count ks ks′ (R .block) (omega (arith, R .on-keys)) s e, R .on-rows, R .shifts)

@@ -15,7 +15,7 @@ use Rattle.joiner.specs.Calls.{enrol}
 use Rattle.joiner.specs.Declines.{refusal}
 use Rattle.blocks.specs.Blocks.{sizeOf}
 use Rattle.blocks.specs.declared.Block.{Block}
-use Rattle.pass_enrol.specs.Enrolment.{Lies, keyIn, rowIn}
+use Rattle.pass_enrol.specs.EnrolledRows.{Lies, keyIn, rowIn}
 use Rattle.judge_enrol.specs.declared.Plan.{Plan}
 use Rattle.judge_enrol.specs.Tests.{Planned}
 

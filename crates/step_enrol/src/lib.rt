@@ -20,8 +20,8 @@ ghost use Rattle.cells.specs.Box.{triple};
 ghost use Rattle.cutting.specs.Cutting.{mostBlocks};
 ghost use Rattle.joiner.specs.Job.{numbersPerBlock};
 ghost use Rattle.joiner.specs.Calls.{enrol, answer};
-ghost use Rattle.joiner.specs.Entries.{EnrolDone, CallStep};
-ghost use Rattle.job.specs.Jobs.{stateOf};
+ghost use Rattle.joiner.specs.Outcomes.{EnrolDone, CallStep};
+ghost use Rattle.job.specs.JobState.{stateOf};
 ghost use Rattle.job.specs.Lent.{noTables, enrolLent};
 ghost use Rattle.step_enrol.specs.Inner.{KindReady, KindDone, blockNumbers, Ready};
 

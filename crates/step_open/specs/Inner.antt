@@ -6,7 +6,7 @@ use Rattle.cells.specs.Extents.{offSize}
 use Rattle.cutting.specs.Cutting.{blocks, goodCut}
 use Rattle.joiner.specs.Job.{Kind, Face, Told, lengthsFit}
 use Rattle.job.specs.declared.Job.{Job}
-use Rattle.job.specs.Jobs.{totalLengths}
+use Rattle.job.specs.JobState.{totalLengths}
 use Rattle.judge.specs.declared.CallName.{CallName}
 use Rattle.judge.specs.declared.Lengths.{Lengths}
 use Rattle.judge.specs.Judge.{lentBy}

@@ -21,10 +21,10 @@ ghost use Prim.Native.Nat.{_≤_};
 ghost use lib.ListN.{length};
 ghost use Rattle.lists.specs.Lists.{zeros};
 ghost use Rattle.cutting.specs.Cutting.{mostBlocks};
-ghost use Rattle.job.specs.Jobs.{toldBy, toldOf, tablesOf, stateOf, NoJob};
+ghost use Rattle.job.specs.JobState.{toldBy, toldOf, tablesOf, stateOf, NoJob};
 ghost use Rattle.judge.specs.Judge.{entriesOf};
 ghost use Rattle.strain_calls.specs.Tables.{totalTables, zeroed};
-ghost use Rattle.strain_calls.specs.Entries.{TotalsOpening};
+ghost use Rattle.strain_calls.specs.Outcomes.{TotalsOpening};
 ghost use Rattle.step_open.specs.Inner.{tablesFit, refusalOf, accepted};
 
 // What an opening answers: the number of its refusal, 0 for none, and the job.

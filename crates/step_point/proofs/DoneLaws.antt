@@ -19,20 +19,20 @@ use Rattle.joiner.specs.Job as joiner
 use Rattle.joiner.specs.Stages.{pointStep}
 use Rattle.joiner.specs.Calls.{point, answer}
 use Rattle.joiner.specs.Declines.{adds, lentTo, pointCells, refusal}
-use Rattle.joiner.specs.Entries.{PointDone, CallStep, Ticked, rowFinal}
+use Rattle.joiner.specs.Outcomes.{PointDone, CallStep, Ticked, rowFinal}
 use Rattle.joiner.proofs.Passed.{stage-same, Passed, passed, fits-at, tally-fits, points-room}
 use Rattle.joiner.proofs.Kept.{found-kept, numbers-kept}
 use Rattle.ranking.proofs.HeadLaws.{class-point}
 use Rattle.blocks.specs.Blocks.{Tells, sizeOf, anyExtents}
 use Rattle.blocks.specs.declared.Block.{Block}
-use Rattle.pass_enrol.specs.Enrolment.{Lies, positionIn}
+use Rattle.pass_enrol.specs.EnrolledRows.{Lies, positionIn}
 use Rattle.pass_enrol.proofs.KeyLaws.{lies-told}
-use Rattle.pass_point.specs.Findings.{foundCells, foundRow, Room}
+use Rattle.pass_point.specs.FoundPoints.{foundCells, foundRow, Room}
 use Rattle.pass_point.proofs.FoundLaws.{found-room, found-keys, found-rows}
 use Rattle.kind_numbers.specs.Numbered.{Numbered, anyCopied}
 use Rattle.kind_numbers.proofs.NumberedLaws.{numbered-kind}
 use Rattle.job.specs.declared.Job.{Job}
-use Rattle.job.specs.Jobs.{byKind, stageOf, toldOf, jobOf, stateOf}
+use Rattle.job.specs.JobState.{byKind, stageOf, toldOf, jobOf, stateOf}
 use Rattle.judge.specs.declared.Entry.{Entry}
 use Rattle.stages.specs.Advanced.{Advanced}
 use Rattle.judge.specs.Judge.{lengthsOf, entryOf}

@@ -9,7 +9,7 @@ use Rattle.joiner.specs.Calls.{point}
 use Rattle.joiner.specs.Declines.{adds, refusal}
 use Rattle.kind_numbers.specs.Numbered.{Numbered}
 use Rattle.job.specs.declared.Job.{Job}
-use Rattle.job.specs.Jobs.{stageOf, stateOf}
+use Rattle.job.specs.JobState.{stageOf, stateOf}
 use Rattle.job.specs.Lent.{noTables, pointLent}
 
 -- The tables that a point step is lent. The others go unread.

@@ -17,8 +17,8 @@ ghost use mathlib.Core.List.{[]};
 ghost use Prim.Native.Nat.{_+_, _*_, _≤_};
 ghost use lib.ListN.{length};
 ghost use Rattle.joiner.specs.Calls.{point, answer};
-ghost use Rattle.joiner.specs.Entries.{PointDone, CallStep};
-ghost use Rattle.job.specs.Jobs.{stateOf};
+ghost use Rattle.joiner.specs.Outcomes.{PointDone, CallStep};
+ghost use Rattle.job.specs.JobState.{stateOf};
 ghost use Rattle.step_point.specs.Inner.{lent, Ready, Closes};
 
 // What a point step answers: the number of its refusal, 0 for none, and the job.

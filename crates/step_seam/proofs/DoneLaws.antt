@@ -19,7 +19,7 @@ use Rattle.joiner.specs.Job.{Kind, Face, Curve, Point, State, orderOf, fromOf, 
 use Rattle.joiner.specs.Stages.{seamAxis, seamStep}
 use Rattle.joiner.specs.Calls.{join, answer}
 use Rattle.joiner.specs.Declines.{adds, lentTo, mapStands, refusal}
-use Rattle.joiner.specs.Entries.{SeamDone, CallStep, Merged, AtSeam}
+use Rattle.joiner.specs.Outcomes.{SeamDone, CallStep, Merged, AtSeam}
 use Rattle.joiner.proofs.Shared.{seam-listed}
 use Rattle.joiner.proofs.SeamSteps.{axis-bound}
 use Rattle.joiner.proofs.Passed.{Passed, passed, fits-at, tally-fits, Standing, faces-stand, curves-stand}
@@ -29,7 +29,7 @@ use Rattle.pass_seam.proofs.SeamWalks.{seam-joined}
 use Rattle.blocks.specs.Blocks.{Tells, sizeOf}
 use Rattle.blocks.specs.declared.Block.{Block}
 use Rattle.job.specs.declared.Job.{Job}
-use Rattle.job.specs.Jobs.{byKind, toldOf, stateOf}
+use Rattle.job.specs.JobState.{byKind, toldOf, stateOf}
 use Rattle.judge.specs.declared.Entry.{Entry}
 use Rattle.stages.specs.Advanced.{Advanced}
 use Rattle.judge.specs.Judge.{entryOf}

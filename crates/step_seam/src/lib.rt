@@ -17,9 +17,9 @@ ghost use Rattle.closure.specs.Joined.{joins};
 ghost use Rattle.union_find.specs.Links.{root, Rooted};
 ghost use Rattle.joiner.specs.Calls.{join, answer};
 ghost use Rattle.joiner.specs.Declines.{refusal};
-ghost use Rattle.joiner.specs.Entries.{CallStep, SeamDone};
+ghost use Rattle.joiner.specs.Outcomes.{CallStep, SeamDone};
 ghost use Rattle.pass_seam.specs.Walks.{layerEdges};
-ghost use Rattle.job.specs.Jobs.{stateOf};
+ghost use Rattle.job.specs.JobState.{stateOf};
 ghost use Rattle.judge_seam.specs.Tests.{lent};
 ghost use Rattle.step_seam.specs.Inner.{Linked};
 

@@ -12,14 +12,14 @@ use Rattle.joiner.specs.Job.{Face, Closed, Tables, State, fromOf}
 use Rattle.blocks.specs.Blocks.{Tells, sizeOf}
 use Rattle.blocks.specs.declared.Block.{Block}
 use Rattle.job.specs.declared.Job.{Job}
-use Rattle.job.specs.Jobs.{jobOf, toldOf, stateOf}
+use Rattle.job.specs.JobState.{jobOf, toldOf, stateOf}
 use Rattle.judge.specs.declared.Entry.{Entry}
 use Rattle.judge.specs.Judge.{reachedOf, entryOf}
 use Rattle.judge.proofs.JudgeLaws.{reached-passed, FirstTests, or-none, six-passed}
 use Rattle.totals.specs.Totals.{sumsWith, countsWith}
 use Rattle.lowest.specs.Lowest.{starts, startOf}
 use Rattle.lowest.specs.declared.Start.{Start}
-use Rattle.pass_strain.specs.Summing.{brought, blockTaken, Whole}
+use Rattle.pass_strain.specs.BlockReadings.{brought, blockTaken, Whole}
 use Rattle.strain_calls.specs.Tables.{totalTables, TotalTables}
 use Rattle.judge_strain.specs.Tests.{sizesOf, traysFit, refusalOf}
 use Rattle.step_strain.specs.Inner.{Ready, addsIn, storedIn}
@@ -29,7 +29,7 @@ use Rattle.pass_strain.proofs.AddingLaws.{block-adds}
 use Rattle.strain_calls.specs.Adding.{blockAdds}
 use Rattle.strain_calls.specs.Calls.{strain, strainAnswer, noTotals}
 use Rattle.strain_calls.specs.Declines.{strainRefusal}
-use Rattle.strain_calls.specs.Entries.{StrainStep, withReadings, anyTablesWith}
+use Rattle.strain_calls.specs.Outcomes.{StrainStep, withReadings, anyTablesWith}
 use Rattle.judge_strain.proofs.TestLaws.{whole-of, refusal-is}
 
 -- ---- what is added

@@ -8,7 +8,7 @@ use Rattle.cutting.specs.Cutting.{Cutting, blockExtents}
 use Rattle.judge.specs.Judge.{entryOf}
 use Rattle.totals.specs.Totals.{Taken, sumsWith, countsWith}
 use Rattle.lowest.specs.Lowest.{starts}
-use Rattle.pass_strain.specs.Summing.{brought, blockTaken, Whole}
+use Rattle.pass_strain.specs.BlockReadings.{brought, blockTaken, Whole}
 use Rattle.strain_calls.specs.Tables.{TotalTables, totalTables}
 
 -- What an accepted step brings: lists of the block's sizes, and a place for its tick.

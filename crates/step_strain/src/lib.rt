@@ -6,10 +6,10 @@ use judge_strain::judge_readings;
 use lowest::starts_of;
 use pass_strain::sum_block;
 ghost use mathlib.Core.Path.{_≡_};
-ghost use Rattle.job.specs.Jobs.{toldOf, stateOf};
+ghost use Rattle.job.specs.JobState.{toldOf, stateOf};
 ghost use Rattle.strain_calls.specs.Tables.{totalTables};
 ghost use Rattle.strain_calls.specs.Calls.{strain, strainAnswer, noTotals};
-ghost use Rattle.strain_calls.specs.Entries.{StrainStep, anyTablesWith};
+ghost use Rattle.strain_calls.specs.Outcomes.{StrainStep, anyTablesWith};
 ghost use Rattle.step_strain.specs.Inner.{Ready, storedIn};
 
 // The step, where it is not refused: the block's readings are added, and have come.

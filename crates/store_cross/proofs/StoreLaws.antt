@@ -8,11 +8,11 @@ use Rattle.union_find.specs.Links.{root}
 use Rattle.cutting.specs.Cutting.{Cutting}
 use Rattle.joiner.specs.Job as joiner
 use Rattle.joiner.specs.Stages.{crossingStep}
-use Rattle.pass_cross.specs.Crossings.{crossEdges, Trays, Crossed}
+use Rattle.pass_cross.specs.CrossEdges.{crossEdges, Trays, Crossed}
 use Rattle.blocks.specs.Blocks.{Tells, sizeOf}
 use Rattle.blocks.specs.declared.Block.{Block}
 use Rattle.job.specs.declared.Job.{Job}
-use Rattle.job.specs.Jobs.{jobOf, toldOf}
+use Rattle.job.specs.JobState.{jobOf, toldOf}
 use Rattle.judge.specs.declared.Entry.{Entry}
 use Rattle.stages.specs.Advanced.{Advanced}
 use Rattle.judge.specs.Judge.{entryOf}

@@ -9,10 +9,10 @@ use Rattle.cutting.specs.Cutting.{Cutting, blockExtents, FewBlocks}
 use Rattle.joiner.specs.Job.{Curve}
 use Rattle.joiner.specs.Job as joiner
 use Rattle.joiner.specs.Stages.{crossingStep}
-use Rattle.pass_cross.specs.Crossings.{crossEdges, Trays, Crossed}
+use Rattle.pass_cross.specs.CrossEdges.{crossEdges, Trays, Crossed}
 use Rattle.kind_numbers.specs.Numbered.{Numbered, anyCopied, anyCurves}
 use Rattle.job.specs.declared.Job.{Job}
-use Rattle.job.specs.Jobs.{toldOf}
+use Rattle.job.specs.JobState.{toldOf}
 use Rattle.stages.specs.Advanced.{Advanced}
 use Rattle.judge.specs.Judge.{entryOf}
 use Rattle.store_cross.specs.declared.Totals.{Totals}

@@ -11,7 +11,7 @@ ghost use mathlib.Core.Path.{_≡_};
 ghost use Prim.Native.Nat.{_+_, _*_, _≤_};
 ghost use lib.ListN.{length};
 ghost use Rattle.blocks.specs.Blocks.{cutOf};
-ghost use Rattle.job.specs.Jobs.{jobOf};
+ghost use Rattle.job.specs.JobState.{jobOf};
 ghost use Rattle.store_cross.specs.Stores.{JoinReady, TalliesFit, CurvesJoined, KindRoom, BothNumbered};
 
 // How many faces and curves there are once numbered.

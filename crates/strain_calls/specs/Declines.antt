@@ -12,7 +12,7 @@ use Rattle.cells.specs.Grid.{cells}
 use Rattle.cutting.specs.Cutting.{Cutting, blocks, blockExtents, goodCut}
 use Rattle.joiner.specs.Job.{Face, Told, Tables, State, Tray, tray, countOf, fromOf, lengthsFit, numberTrays, numbersPerBlock}
 use Rattle.joiner.specs.Declines.{talliesFit, mapStands, numberStands}
-use Rattle.joiner.specs.Entries.{allTrays}
+use Rattle.joiner.specs.Outcomes.{allTrays}
 use Rattle.totals.specs.Totals.{bothStand}
 use Rattle.strain_calls.specs.Tables.{TotalTables, totalTrays}
 use Rattle.strain_calls.specs.Calls.{StrainCall, strain, total, inStage, hasPlace, again, listsFit, badReading}

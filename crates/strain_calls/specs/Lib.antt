@@ -3,4 +3,4 @@ pub mod Tables
 pub mod Adding
 pub mod Calls
 pub mod Declines
-pub mod Entries
+pub mod Outcomes

@@ -23,10 +23,10 @@ use Rattle.joiner.specs.Job.{Stage, sameStage, ticked, countOf, fromOf, node, k
 use Rattle.joiner.specs.Stages.{hasOn, hasCell, products, shared, seams, seamAxis, seamStep, stepsOf, nextStage, finished, nextAfter}
 use Rattle.joiner.specs.Calls.{differs, overfull, full, Call, enrol, join, cross, point}
 use Rattle.joiner.specs.Declines.{tallyFits, talliesFit, filled, counted, standing, mapStands, waysStand, linksStand, allLinksStand, rowsStand, numberStands, curvesStand, handedStands, lookStands, lastCrossing, stray, finalOf, finalRow, pointCells, adds, declines, refusal}
-use Rattle.joiner.specs.Entries.{allTrays, openDeclines, openRefusal, nothing, throughLinks, joinedRow, firstOf, enrolledKey, shifted, enrolledRow, blockEntry, notAfter, classOf, isOne, leads, heads, rank, headOf, rowAt, finalFace, rowFinal}
+use Rattle.joiner.specs.Outcomes.{allTrays, openDeclines, openRefusal, nothing, throughLinks, joinedRow, firstOf, enrolledKey, shifted, enrolledRow, blockEntry, notAfter, classOf, isOne, leads, heads, rank, headOf, rowAt, finalFace, rowFinal}
 use Rattle.theory_examples.specs.Large.{handle}
 use Rattle.theory_model.specs.Model.{relinked, atSeam, seamEdge, seamEdges, atCrossing, crossEdge, crossEdgesAt, crossEdges, instead, numberKind, moved, enrolTables, seamTables, crossTables, crossLast, crossed, pointTables, pointLast, pointed, acceptedState, after, freshJob, cleared, openedState}
-use Rattle.theory_model.specs.Scripts.{run, used, mapOf, steps, held, outcome, joinedUp}
+use Rattle.theory_model.specs.Scripts.{run, used, mapOf, steps, contents, outcome, joinedUp}
 use Rattle.theory_examples.proofs.Images.{Image, threeKinds, imageOf, stateOf, runImage, accepted-left, run-by-image}
 
 -- ---- the maps of the two blocks
@@ -179,7 +179,7 @@ runs =
     ∙ points
 
 closed-is : outcome (stateOf (handle .told) closed) ≡ handle .listed
-unfolding handle closed outcome held stateOf
+unfolding handle closed outcome contents stateOf
 closed-is = refl
 
 pub handle-joined : joinedUp (handle .told) (handle .codes) ≡ handle .listed

@@ -9,7 +9,7 @@ use borrow.Author.Tests.{eq-eqb, eqb-false, eqb-true}
 use Rattle.joiner.specs.Job.{Kind, Face, Curve, Point, Stage, Told, State, column}
 use Rattle.joiner.specs.Calls.{Call, enrol, join, cross, point, look, reading, Answer}
 use Rattle.joiner.specs.Declines.{refusal}
-use Rattle.joiner.specs.Entries.{Done, CallStep}
+use Rattle.joiner.specs.Outcomes.{Done, CallStep}
 use Rattle.lists.proofs.Cases.{by-test}
 use Rattle.theory_model.specs.Model.{after, answerOf, acceptedState}
 use Rattle.theory_model.specs.Scripts.{run}

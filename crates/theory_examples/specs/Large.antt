@@ -3,7 +3,7 @@
 use mathlib.Core.List.{[], _∷_}
 use Rattle.cells.specs.Box.{triple}
 use Rattle.joiner.specs.Job.{Closed}
-use Rattle.theory_model.specs.Jobs.{Example, told}
+use Rattle.theory_model.specs.Volumes.{Example, told}
 
 -- 4×4×2, all cut, two holes that touch at an edge: the middle block calls its point active, and in the volume it is not.
 unfoldable pub rings : Example

@@ -11,7 +11,7 @@ use Rattle.joiner.specs.Job.{Kind, Face, Curve, Point, Job, Tables, State, tick
 use Rattle.joiner.specs.Stages.{nextAfter}
 use Rattle.joiner.specs.Calls.{Call, enrol, join, cross, point, look, reading, Answer, answer, full, overfull}
 use Rattle.joiner.specs.Declines.{refusal, declines, stray, mapStands, waysStand, linksStand, allLinksStand, numberStands, curvesStand, handedStands, lookStands, counted, standing, rowsStand, lastCrossing, adds, finalOf, finalRow, pointCells}
-use Rattle.joiner.specs.Entries.{CallStep, Done, Ticked, EnrolDone, SeamDone, CrossingDone, PointDone, KeptFound, NumberedKind, Merged, AtSeam, AtCrossing, blockEntry, throughLinks, joinedRow, notAfter, classOf, isOne, leads, heads, rank, headOf, rowAt, finalFace, rowFinal, cellNumber, lookedUp, rowTaken}
+use Rattle.joiner.specs.Outcomes.{CallStep, Done, Ticked, EnrolDone, SeamDone, CrossingDone, PointDone, KeptFound, NumberedKind, Merged, AtSeam, AtCrossing, blockEntry, throughLinks, joinedRow, notAfter, classOf, isOne, leads, heads, rank, headOf, rowAt, finalFace, rowFinal, cellNumber, lookedUp, rowTaken}
 use Rattle.joiner.proofs.Roots.{together-map}
 use Rattle.joiner.proofs.Kept.{found-kept, numbers-kept}
 use Rattle.theory_frames.specs.Frames.{around}

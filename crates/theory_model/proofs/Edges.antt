@@ -16,7 +16,7 @@ use Rattle.labels.specs.Components.{ofOrder}
 use Rattle.cutting.specs.Cutting.{Cutting, blockExtents}
 use Rattle.joiner.specs.Job.{Kind, orderOf, Tables}
 use Rattle.joiner.specs.Stages.{products, shared}
-use Rattle.joiner.specs.Entries.{AtCrossing, AtSeam, joinedRow}
+use Rattle.joiner.specs.Outcomes.{AtCrossing, AtSeam, joinedRow}
 use Rattle.lists.proofs.Cases.{and-both, and-first, and-second}
 use Rattle.lists.proofs.Lists.{keep-in, keep-out}
 use Rattle.cells.proofs.RowLaws.{row-same, same-row}

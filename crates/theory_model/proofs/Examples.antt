@@ -22,7 +22,7 @@ use Rattle.joiner.specs.Job.{sameStage, ticked, countOf, fromOf, node, keyOf, f
 use Rattle.joiner.specs.Stages.{hasOn, hasCell, local, products, shared, seams, seamAxis, seamStep, stepsOf, nextStage, finished, nextAfter}
 use Rattle.joiner.specs.Calls.{differs, overfull, full, Call, answer, enrol, join, cross, point, look, reading}
 use Rattle.joiner.specs.Declines.{tallyFits, talliesFit, filled, counted, standing, mapStands, waysStand, linksStand, allLinksStand, rowsStand, numberStands, curvesStand, handedStands, lookStands, lastCrossing, stray, finalOf, finalRow, pointCells, adds, declines, refusal}
-use Rattle.joiner.specs.Entries.{allTrays, openDeclines, openRefusal, nothing, throughLinks, joinedRow, firstOf, enrolledKey, shifted, enrolledRow, blockEntry, notAfter, classOf, isOne, leads, heads, rank, headOf, rowAt, finalFace, rowFinal, bisect, pointNumber, cellNumber, lookedUp, rowTaken}
+use Rattle.joiner.specs.Outcomes.{allTrays, openDeclines, openRefusal, nothing, throughLinks, joinedRow, firstOf, enrolledKey, shifted, enrolledRow, blockEntry, notAfter, classOf, isOne, leads, heads, rank, headOf, rowAt, finalFace, rowFinal, bisect, pointNumber, cellNumber, lookedUp, rowTaken}
 use Rattle.joiner.specs.Book.{begun, labelled, voxelCodes}
 use Rattle.joiner.specs.Statement.{Measured}
 use Rattle.cells.specs.Codes.{blank}
@@ -30,13 +30,13 @@ use Rattle.lists.proofs.Lists.{consecutive-in}
 use Rattle.lists.proofs.Tests.{all-out}
 use Rattle.joiner.proofs.Own.{labelled-labelling}
 use Rattle.theory_model.specs.Model.{relinked, atSeam, seamEdge, seamEdges, atCrossing, crossEdge, crossEdgesAt, crossEdges, instead, numberKind, moved, enrolTables, seamTables, crossTables, crossLast, crossed, pointTables, pointLast, pointed, acceptedState, after, freshJob, cleared, openedState, answerOf, acceptedAnswer}
-use Rattle.theory_model.specs.Scripts.{run, written, used, mapOf, steps, held, outcome, joinedUp}
-use Rattle.theory_model.specs.Jobs.{line, columns, slab, told}
+use Rattle.theory_model.specs.Scripts.{run, written, used, mapOf, steps, contents, outcome, joinedUp}
+use Rattle.theory_model.specs.Volumes.{line, columns, slab, told}
 use Rattle.theory_model.proofs.Runs.{model-volume}
 
 -- What comes of a volume is what is listed of it.
 pub small-jobs : map (λ v. joinedUp (v .told) (v .codes)) (line ∷ columns ∷ slab ∷ []) ≡ map (λ v. v .listed) (line ∷ columns ∷ slab ∷ [])
-unfolding line columns slab consecutive tabulate zeros overlay mergeIds join-roots joins rep countBelow leader numberBy label ancestor rootOf parent root soundAt soundWay soundFrom soundBelow soundRange stepsWithin depth depths soundWays refusal-number table first givenBy standsIn stride volume index place isExtent offSize sides cells parity order voxel along upperNeighbours rowOf row occupied active pairs alike edgesAt orderBelow edges activeOf number numberedAt numbered-of codeAt mapDown labels ofOrder largest component rowAtFirst componentRow ascends cutList intervals lowEnd highEnd blockSides blocks goodCut interval origin blockExtents embed blockCodes follows sameInterval seam sameStage ticked countOf fromOf node keyOf firstAt lengthsFit blockTrays linkTrays foundTrays numberTrays firstTrays listedTrays kindTrays hasOn hasCell products shared seams seamAxis seamStep stepsOf nextStage finished nextAfter differs overfull full tallyFits talliesFit filled counted standing mapStands waysStand linksStand allLinksStand rowsStand numberStands curvesStand handedStands lookStands lastCrossing stray finalOf finalRow pointCells adds declines refusal allTrays openDeclines openRefusal nothing throughLinks joinedRow firstOf enrolledKey shifted enrolledRow blockEntry notAfter classOf isOne leads heads rank headOf rowAt finalFace rowFinal relinked atSeam seamEdge seamEdges atCrossing crossEdge crossEdgesAt crossEdges instead numberKind moved enrolTables seamTables crossTables crossLast crossed pointTables pointLast pointed acceptedState after freshJob cleared openedState run used mapOf steps held outcome joinedUp blankVoxel
+unfolding line columns slab consecutive tabulate zeros overlay mergeIds join-roots joins rep countBelow leader numberBy label ancestor rootOf parent root soundAt soundWay soundFrom soundBelow soundRange stepsWithin depth depths soundWays refusal-number table first givenBy standsIn stride volume index place isExtent offSize sides cells parity order voxel along upperNeighbours rowOf row occupied active pairs alike edgesAt orderBelow edges activeOf number numberedAt numbered-of codeAt mapDown labels ofOrder largest component rowAtFirst componentRow ascends cutList intervals lowEnd highEnd blockSides blocks goodCut interval origin blockExtents embed blockCodes follows sameInterval seam sameStage ticked countOf fromOf node keyOf firstAt lengthsFit blockTrays linkTrays foundTrays numberTrays firstTrays listedTrays kindTrays hasOn hasCell products shared seams seamAxis seamStep stepsOf nextStage finished nextAfter differs overfull full tallyFits talliesFit filled counted standing mapStands waysStand linksStand allLinksStand rowsStand numberStands curvesStand handedStands lookStands lastCrossing stray finalOf finalRow pointCells adds declines refusal allTrays openDeclines openRefusal nothing throughLinks joinedRow firstOf enrolledKey shifted enrolledRow blockEntry notAfter classOf isOne leads heads rank headOf rowAt finalFace rowFinal relinked atSeam seamEdge seamEdges atCrossing crossEdge crossEdgesAt crossEdges instead numberKind moved enrolTables seamTables crossTables crossLast crossed pointTables pointLast pointed acceptedState after freshJob cleared openedState run used mapOf steps contents outcome joinedUp blankVoxel
 small-jobs = refl
 
 -- ---- the line, call by call
@@ -60,7 +60,7 @@ narrow = told (line .told .cutting) 1 0 0
 
 -- Blocks that come the other way round are numbered the same.
 other-way : outcome (at (enrol 1 map₁ ∷ enrol 0 map₀ ∷ join 0 1 map₀ map₁ ∷ cross 1 map₁ ∷ cross 0 map₀ ∷ point 1 map₁ ∷ point 0 map₀ ∷ [])) ≡ line .listed
-unfolding map₀ map₁ at line consecutive tabulate zeros overlay mergeIds join-roots joins ancestor rootOf parent root soundAt soundWay soundFrom soundBelow soundRange stepsWithin depth depths soundWays refusal-number table first givenBy standsIn stride volume index place isExtent offSize sides cells parity order along upperNeighbours rowOf row occupied ofOrder largest component rowAtFirst componentRow ascends cutList intervals lowEnd highEnd blockSides blocks goodCut interval origin blockExtents embed follows sameInterval seam sameStage ticked countOf fromOf node keyOf firstAt lengthsFit blockTrays linkTrays foundTrays numberTrays firstTrays listedTrays kindTrays hasOn hasCell products shared seams seamAxis seamStep stepsOf nextStage finished nextAfter differs overfull full tallyFits talliesFit filled counted standing mapStands waysStand linksStand allLinksStand rowsStand numberStands curvesStand handedStands lookStands lastCrossing stray finalOf finalRow pointCells adds declines refusal allTrays openDeclines openRefusal nothing throughLinks joinedRow firstOf enrolledKey shifted enrolledRow blockEntry notAfter classOf isOne leads heads rank headOf rowAt finalFace rowFinal relinked atSeam seamEdge seamEdges atCrossing crossEdge crossEdgesAt crossEdges instead numberKind moved enrolTables seamTables crossTables crossLast crossed pointTables pointLast pointed acceptedState after freshJob cleared openedState run used held outcome blankVoxel
+unfolding map₀ map₁ at line consecutive tabulate zeros overlay mergeIds join-roots joins ancestor rootOf parent root soundAt soundWay soundFrom soundBelow soundRange stepsWithin depth depths soundWays refusal-number table first givenBy standsIn stride volume index place isExtent offSize sides cells parity order along upperNeighbours rowOf row occupied ofOrder largest component rowAtFirst componentRow ascends cutList intervals lowEnd highEnd blockSides blocks goodCut interval origin blockExtents embed follows sameInterval seam sameStage ticked countOf fromOf node keyOf firstAt lengthsFit blockTrays linkTrays foundTrays numberTrays firstTrays listedTrays kindTrays hasOn hasCell products shared seams seamAxis seamStep stepsOf nextStage finished nextAfter differs overfull full tallyFits talliesFit filled counted standing mapStands waysStand linksStand allLinksStand rowsStand numberStands curvesStand handedStands lookStands lastCrossing stray finalOf finalRow pointCells adds declines refusal allTrays openDeclines openRefusal nothing throughLinks joinedRow firstOf enrolledKey shifted enrolledRow blockEntry notAfter classOf isOne leads heads rank headOf rowAt finalFace rowFinal relinked atSeam seamEdge seamEdges atCrossing crossEdge crossEdgesAt crossEdges instead numberKind moved enrolTables seamTables crossTables crossLast crossed pointTables pointLast pointed acceptedState after freshJob cleared openedState run used contents outcome blankVoxel
 other-way = refl
 
 -- What a call is refused with after others.

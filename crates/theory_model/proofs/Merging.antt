@@ -10,7 +10,7 @@ use lib.ListN.{length, List·getD-eq-default}
 use borrow.Author.Tests.{ltb-false, ltb-true}
 use Rattle.closure.specs.Joined.{Edge, edge, joinClasses, joins}
 use Rattle.union_find.specs.Links.{parent, root, soundAt, Rooted}
-use Rattle.joiner.specs.Entries.{Merged, Together, back, joined, same, via}
+use Rattle.joiner.specs.Outcomes.{Merged, Together, back, joined, same, via}
 use Rattle.lists.proofs.Cases.{by-test}
 use Rattle.lists.proofs.Lists.{getD-tabulate, length-tabulate}
 use Rattle.closure.proofs.Classes.{Closed, join-low, joins-edge, joins-idem, joins-low, joins-mono, joins-sound, merge-miss}

@@ -6,9 +6,9 @@ use native.Mathlib.Omega.{arith}
 use lib.ListN.{getD, length, take}
 use Rattle.lists.specs.Lists.{overlay}
 use Rattle.joiner.specs.Job.{Kind, Face, Curve, Point, State, firstAt, width}
-use Rattle.joiner.specs.Entries.{NumberedKind, headOf, heads, rank, rowFinal}
+use Rattle.joiner.specs.Outcomes.{NumberedKind, headOf, heads, rank, rowFinal}
 use Rattle.lists.proofs.Overlay.{length-overlay, overlay-front}
-use Rattle.joiner.proofs.Crossings.{heads-most}
+use Rattle.joiner.proofs.LaterKeeps.{heads-most}
 
 -- The tables of one kind, written as `NumberedKind` says.
 pub numbered-by : (s t : State) (κ : Kind) (n : ℕ) → t .job .numbered κ ≡ length (heads (t .tables) κ n)

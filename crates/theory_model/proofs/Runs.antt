@@ -8,7 +8,7 @@ use Rattle.cutting.specs.Cutting.{blocks, blockExtents, Cutting}
 use Rattle.joiner.specs.Job.{State, Tables, Told}
 use Rattle.joiner.specs.Stages.{seams}
 use Rattle.joiner.specs.Calls.{Call, enrol, join, cross, point}
-use Rattle.joiner.specs.Entries.{openRefusal}
+use Rattle.joiner.specs.Outcomes.{openRefusal}
 use Rattle.joiner.specs.Book.{begun}
 use Rattle.joiner.specs.Statement.{Brings, Fair, Labelling, Measured, Run}
 use Rattle.joiner.proofs.Statement3.{statement3}

@@ -16,7 +16,7 @@ use Rattle.joiner.specs.Job.{Kind, Face, Curve, Point, orderOf, Stage, Points, 
 use Rattle.joiner.specs.Stages.{nextAfter}
 use Rattle.joiner.specs.Calls.{Call, enrol, join, cross, point, look, reading}
 use Rattle.joiner.specs.Declines.{adds, mapStands, refusal, lentTo}
-use Rattle.joiner.specs.Entries.{AtCrossing, AtSeam, CrossingDone, Done, EnrolDone, Merged, NumberedKind, Opened, Unopened, PointDone, SeamDone, CallStep, openRefusal, nothing, heads, leads, isOne, classOf, notAfter, rank, headOf, rowAt, rowFinal, finalFace}
+use Rattle.joiner.specs.Outcomes.{AtCrossing, AtSeam, CrossingDone, Done, EnrolDone, Merged, NumberedKind, Opened, Unopened, PointDone, SeamDone, CallStep, openRefusal, nothing, heads, leads, isOne, classOf, notAfter, rank, headOf, rowAt, rowFinal, finalFace}
 use Rattle.lists.proofs.Cases.{and-first, and-second, by-test, picked}
 use Rattle.cells.proofs.GridLaws.{upper-neighbour}
 use Rattle.union_find.proofs.LinkLaws.{rooted-refl}

@@ -1,4 +1,4 @@
 -- The definitions of the crate, in reading order.
 pub mod Model
 pub mod Scripts
-pub mod Jobs
+pub mod Volumes

@@ -17,7 +17,7 @@ use Rattle.joiner.specs.Job.{Kind, Face, Curve, Point, orderOf, width, Enrol, P
 use Rattle.joiner.specs.Stages.{products, shared, enrolStep, seamStep, crossingStep, pointStep, nextAfter}
 use Rattle.joiner.specs.Calls.{Call, enrol, join, cross, point, look, reading, Answer, answer}
 use Rattle.joiner.specs.Declines.{finalRow, pointCells, adds, refusal}
-use Rattle.joiner.specs.Entries.{openRefusal, nothing, joinedRow, enrolledKey, enrolledRow, blockEntry, heads, rank, headOf, rowFinal, lookedUp, rowTaken}
+use Rattle.joiner.specs.Outcomes.{openRefusal, nothing, joinedRow, enrolledKey, enrolledRow, blockEntry, heads, rank, headOf, rowFinal, lookedUp, rowTaken}
 
 -- ---- links
 

@@ -45,23 +45,23 @@ steps k own =
     map (λ b. cross b (own b)) (consecutive 0 (blocks k)) ++ map (λ b. point b (own b)) (consecutive 0 (blocks k))
 
 -- What a closed job's tables hold of a kind: how many components there are, their first positions and their rows.
-pub record Held : Type 0 where
+pub record Contents : Type 0 where
   pub many : ℕ
   pub firsts : List ℕ
   pub rows : List ℕ
 
-unfoldable pub held : State → Kind → Held
-held s κ =
+unfoldable pub contents : State → Kind → Contents
+contents s κ =
     record { many = s .job .numbered κ; firsts = take (s .job .numbered κ) (s .tables .firsts κ); rows = take (width κ * s .job .numbered κ) (s .tables .listed κ) }
 
 pub record Outcome : Type 0 where
   pub stage : Stage
-  pub faces : Held
-  pub curves : Held
-  pub points : Held
+  pub faces : Contents
+  pub curves : Contents
+  pub points : Contents
 
 unfoldable pub outcome : State → Outcome
-outcome s = record { stage = s .job .stage; faces = held s Face; curves = held s Curve; points = held s Point }
+outcome s = record { stage = s .job .stage; faces = contents s Face; curves = contents s Curve; points = contents s Point }
 
 -- A volume of these codes, cut and joined as told.
 unfoldable pub joinedUp : Told → List ℕ → Outcome

@@ -24,7 +24,7 @@ use Rattle.records.proofs.LaidLaws.{encode-length}
 use Rattle.writer.specs.declared.Written.{Written}
 use Rattle.writer.specs.Writing as w
 use Rattle.reader.specs.declared.Head.{Head}
-use Rattle.reader.specs.Reading as r
+use Rattle.reader.specs.Loaded as r
 
 -- ---- the writer
 

@@ -11,7 +11,7 @@ use Rattle.labels.specs.Components.{largest, firstCell, componentRow}
 use Rattle.cutting.specs.Cutting.{Cutting, blocks, blockExtents, blockCodes, embed}
 use Rattle.joiner.specs.Stages.{seams}
 use Rattle.theory_model.specs.Scripts.{Outcome, mapOf, joinedUp}
-use Rattle.theory_model.specs.Jobs.{Example}
+use Rattle.theory_model.specs.Volumes.{Example}
 
 -- How many components of an order there are, the first cell of each and its row.
 pub record Components : Type 0 where

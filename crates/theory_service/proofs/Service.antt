@@ -6,12 +6,12 @@ use Prim.Native.Nat.{ℕ, _<_}
 use Rattle.cutting.specs.Cutting.{blocks, blockExtents}
 use Rattle.joiner.specs.Job.{Told, Tables}
 use Rattle.joiner.specs.Calls.{Call, Answer, enrol, join, cross, point, look, reading}
-use Rattle.joiner.specs.Entries.{CallStep}
+use Rattle.joiner.specs.Outcomes.{CallStep}
 use Rattle.joiner.specs.Book.{begun}
 use Rattle.joiner.specs.Statement.{Entry, Run, Fair, Labelling, Measured}
 use Rattle.joiner.proofs.Statement3.{statement3}
 use Rattle.strain_calls.specs.Tables.{TotalTables}
-use Rattle.strain_calls.specs.Entries.{TotalsOpening}
+use Rattle.strain_calls.specs.Outcomes.{TotalsOpening}
 use Rattle.job.specs.Lent.{noTables}
 use Rattle.theory_frames.specs.Frames.{}
 use Rattle.theory_frames.proofs.FrameLaws.{framed}

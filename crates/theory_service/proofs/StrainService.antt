@@ -12,7 +12,7 @@ use Rattle.totals.specs.declared.Totals.{Totals}
 use Rattle.extended.specs.Extended.{LongRun, added}
 use Rattle.strain_calls.specs.Tables.{TotalTables}
 use Rattle.strain_calls.specs.Calls.{StrainCall, total, StrainAnswer, strainAnswer}
-use Rattle.strain_calls.specs.Entries.{StrainStep}
+use Rattle.strain_calls.specs.Outcomes.{StrainStep}
 use Rattle.theory_totals.specs.Book.{noReadings}
 use Rattle.theory_totals.specs.Statement.{StrainEntry, LongFair, StrainMeasured, BringsLists, TotalRead}
 use Rattle.theory_totals.proofs.StrainStatement.{strain-statement}

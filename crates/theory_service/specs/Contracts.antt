@@ -6,13 +6,13 @@ use Prim.Native.Nat.{ℕ}
 use Rattle.cells.specs.Box.{Triple}
 use Rattle.joiner.specs.Job.{Kind, Told, Tables, State}
 use Rattle.joiner.specs.Calls.{Call, enrol, join, cross, point, look, reading, Answer, answer}
-use Rattle.joiner.specs.Entries.{CallStep}
+use Rattle.joiner.specs.Outcomes.{CallStep}
 use Rattle.joiner.specs.Statement.{Entry}
 use Rattle.job.specs.declared.Job.{Job}
-use Rattle.job.specs.Jobs.{toldBy, tablesOf, stateOf, anyCuts}
+use Rattle.job.specs.JobState.{toldBy, tablesOf, stateOf, anyCuts}
 use Rattle.job.specs.Lent.{noTables, crossLent, enrolLent, lookLent, pointLent, rowLent, seamLent}
 use Rattle.strain_calls.specs.Tables.{TotalTables}
-use Rattle.strain_calls.specs.Entries.{TotalsOpening}
+use Rattle.strain_calls.specs.Outcomes.{TotalsOpening}
 
 -- The job as the code has it, the three cut lists and the nineteen tables: ticks, blocks, and by two letters the tables of faces (f), curves (c)
 -- and points (p), their links (l), keys (k), rows (r), numbers (n), first positions (f) and the closed tables of rows (s).

@@ -5,12 +5,12 @@ use Prim.Native.Nat.{ℕ}
 use lib.Ieee.{Float}
 use Rattle.joiner.specs.Calls.{Call, Answer}
 use Rattle.job.specs.declared.Job.{Job}
-use Rattle.job.specs.Jobs.{jobOf}
+use Rattle.job.specs.JobState.{jobOf}
 use Rattle.totals.specs.declared.Totals.{Totals}
 use Rattle.extended.specs.Extended.{base, added}
 use Rattle.strain_calls.specs.Tables.{TotalTables}
 use Rattle.strain_calls.specs.Calls.{StrainCall, strain, total, StrainAnswer, strainAnswer, noTotals}
-use Rattle.strain_calls.specs.Entries.{StrainPromise, TotalPromise}
+use Rattle.strain_calls.specs.Outcomes.{StrainPromise, TotalPromise}
 use Rattle.theory_totals.specs.Statement.{StrainEntry}
 use Rattle.theory_service.specs.Contracts.{Held, held, stateIn, CalledEntry}
 

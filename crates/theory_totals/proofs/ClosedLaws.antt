@@ -29,20 +29,20 @@ use Rattle.cutting.specs.Cutting.{Cutting, blocks, goodCut, blockExtents, embed
 use Rattle.cutting.proofs.CutLaws.{embed-order}
 use Rattle.joiner.specs.Book.{Book, uncut}
 use Rattle.joiner.specs.Declines.{finalOf}
-use Rattle.joiner.specs.Entries.{cellNumber, lookedUp}
+use Rattle.joiner.specs.Outcomes.{cellNumber, lookedUp}
 use Rattle.joiner.specs.Job.{Face, Point, State, Told, Tables, stageNumber, Closed}
 use Rattle.joiner.specs.Stages.{hasCell, local, lowestBlock}
 use Rattle.joiner.specs.Statement.{Labelling}
-use Rattle.joiner.proofs.Codes.{has-held, lowest-has}
+use Rattle.joiner.proofs.Codes.{cell-in-block, lowest-has}
 use Rattle.joiner.proofs.Readings.{cell-read}
 use Rattle.joiner.proofs.Simulation.{Sim, finals-at}
-use Rattle.pass_point.specs.Findings.{finalIn}
+use Rattle.pass_point.specs.FoundPoints.{finalIn}
 use Rattle.strains.specs.Units.{plusZero, floatOf}
 use Rattle.strains.specs.Readings.{isGood, unitsSum, Reordered, ofKind}
 use Rattle.totals.specs.Totals.{slotOf, readingsFor, standsAt}
 use Rattle.lowest.specs.Lowest.{ownCell, starts, startsBy}
 use Rattle.lowest.proofs.LowestLaws.{own-lowest}
-use Rattle.pass_strain.specs.Summing.{Brought, faceAt, ownFace}
+use Rattle.pass_strain.specs.BlockReadings.{Brought, faceAt, ownFace}
 use Rattle.pass_strain.proofs.AddingLaws.{final-is}
 use Rattle.theory_totals.specs.Volume.{Parted, Shows, broughtTo, volumeTaken, sumsOver, countsOver}
 use Rattle.theory_totals.proofs.OwnCells.{lowest-true}
@@ -135,7 +135,7 @@ module _ (o : Told) (own : ℕ → List ℕ) (ext : offSize 1024 (o .cutting .ex
       w = lowest-has k good t ht
 
       h : (p < cells (blockExtents k b)) × (embed k b p ≡ index (sides (k .extents)) c)
-      h = has-held k good b (w .0) c (w .1)
+      h = cell-in-block k good b (w .0) c (w .1)
 
       is : embed k b p ≡ t
       is = h .1 ∙ index-place (sides (k .extents)) t

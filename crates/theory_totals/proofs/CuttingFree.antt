@@ -13,7 +13,7 @@ use Rattle.labels.specs.Number.{labels}
 use Rattle.cutting.specs.Cutting.{Cutting, blocks, goodCut, blockExtents, embed}
 use Rattle.cutting.proofs.CutLaws.{embed-order, embed-up}
 use Rattle.joiner.specs.Stages.{hasCell, local, lowestBlock}
-use Rattle.joiner.proofs.Codes.{has-held, lowest-has}
+use Rattle.joiner.proofs.Codes.{cell-in-block, lowest-has}
 use Rattle.joiner.proofs.Sheets.{codes-back}
 use Rattle.joiner.proofs.Statement3.{opened-passed}
 use Rattle.strains.specs.declared.Reading.{Reading}
@@ -47,7 +47,7 @@ module _ (k : Cutting) (good : goodCut k ≡ true) (reading : ℕ → Reading) (
       p = local k b (place (sides (k .extents)) t)
 
       h : (p < cells (blockExtents k b)) × (embed k b p ≡ index (sides (k .extents)) (place (sides (k .extents)) t))
-      h = has-held k good b hb (place (sides (k .extents)) t) (w .1)
+      h = cell-in-block k good b hb (place (sides (k .extents)) t) (w .1)
 
       is : embed k b p ≡ t
       is = h .1 ∙ index-place (sides (k .extents)) t

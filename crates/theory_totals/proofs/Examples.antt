@@ -32,7 +32,7 @@ use Rattle.strain_calls.specs.Tables.{TotalTables, totalTables, totalTrays, zer
 use Rattle.strain_calls.specs.Adding.{gathered, voxelTaken, faceTaken, isLowest, countedCells, cellAdds, blockAdds}
 use Rattle.strain_calls.specs.Calls.{StrainCall, strain, total, allCome}
 use Rattle.strain_calls.specs.Declines.{hasCome, totalStands, faceStands, facesStand, strainDeclines, strainRefusal}
-use Rattle.strain_calls.specs.Entries.{withReadings}
+use Rattle.strain_calls.specs.Outcomes.{withReadings}
 use Rattle.theory_totals.specs.Book.{onSide, sideReadings, sideTotals, faceTotals, readingFrom}
 use Rattle.theory_totals.specs.Statement.{uncutFrom}
 

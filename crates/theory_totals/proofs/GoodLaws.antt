@@ -16,13 +16,13 @@ use Rattle.labels.proofs.ComponentLaws.{of-order-out}
 use Rattle.labels.specs.Components.{ofOrder}
 use Rattle.cutting.specs.Cutting.{Cutting, blocks, goodCut, blockExtents}
 use Rattle.joiner.specs.Stages.{local, lowestBlock}
-use Rattle.joiner.proofs.Codes.{has-held, lowest-has}
+use Rattle.joiner.proofs.Codes.{cell-in-block, lowest-has}
 use Rattle.strains.specs.Readings.{isGood}
 use Rattle.strains.specs.declared.Reading.{Reading}
 use Rattle.totals.specs.Totals.{Taken, taken, slotOf, readingAt, readingsFor}
 use Rattle.lowest.specs.Lowest.{starts}
 use Rattle.strain_calls.specs.Adding.{gathered, voxelTaken, faceTaken}
-use Rattle.pass_strain.specs.Summing.{Brought, ownFace, cellTaken}
+use Rattle.pass_strain.specs.BlockReadings.{Brought, ownFace, cellTaken}
 use Rattle.theory_totals.specs.Volume.{takenAt, volumeTaken}
 
 -- every reading of a list that is taken is one
@@ -74,4 +74,4 @@ readings-good k good g h s =
     let c : Triple = place (sides (k .extents)) t in
     let b : ℕ = lowestBlock k c in
     let w = lowest-has k good t (o .0) in
-    good-cell (blockExtents k b) (starts k b) (g b) (local k b c) (has-held k good b (w .0) c (w .1) .0) (λ v l. h b v (w .0) l)))
+    good-cell (blockExtents k b) (starts k b) (g b) (local k b c) (cell-in-block k good b (w .0) c (w .1) .0) (λ v l. h b v (w .0) l)))

@@ -19,7 +19,7 @@ use Rattle.strains.proofs.Sums.{units-reordered, length-reordered, good-reorder
 use Rattle.totals.specs.Totals.{Taken, after, sumsWith, countsWith, readingsFor}
 use Rattle.strain_calls.specs.Adding.{gathered}
 use Rattle.lowest.specs.Lowest.{starts}
-use Rattle.pass_strain.specs.Summing.{Brought, blockTaken}
+use Rattle.pass_strain.specs.BlockReadings.{Brought, blockTaken}
 use Rattle.pass_strain.proofs.TakenLaws.{after-append}
 use Rattle.theory_totals.specs.Volume.{takenBy, takenAt, volumeTaken, sumsOver, countsOver}
 use Rattle.theory_totals.proofs.SlotLaws.{sum-exact, count-at}

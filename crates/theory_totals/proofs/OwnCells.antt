@@ -19,13 +19,13 @@ use Rattle.labels.proofs.ComponentLaws.{of-order-in, of-order-out}
 use Rattle.cutting.specs.Cutting.{Cutting, blocks, goodCut, blockExtents, embed}
 use Rattle.cutting.proofs.CutLaws.{embed-inside, embed-order, embed-same}
 use Rattle.joiner.specs.Stages.{local, lowestBlock}
-use Rattle.joiner.proofs.Codes.{has-held, held-has, lowest-held}
+use Rattle.joiner.proofs.Codes.{cell-in-block, block-has-cell, lowest-has-cell}
 use Rattle.strains.specs.Readings.{Reordered}
 use Rattle.totals.specs.Totals.{Taken}
 use Rattle.strain_calls.specs.Adding.{isLowest, gathered}
 use Rattle.lowest.specs.Lowest.{ownCell, starts}
 use Rattle.lowest.proofs.LowestLaws.{own-lowest}
-use Rattle.pass_strain.specs.Summing.{Brought, ownFace, cellTaken, blockTaken}
+use Rattle.pass_strain.specs.BlockReadings.{Brought, ownFace, cellTaken, blockTaken}
 use Rattle.pass_strain.proofs.TakenLaws.{gathered-append}
 use Rattle.theory_totals.specs.Volume.{takenBy, takenAt}
 use Rattle.theory_totals.proofs.Reordering.{NoRepeats, re-unique, unique-ascends, unique-map, spread, spread-out, unique-spread}
@@ -80,7 +80,7 @@ module _ (k : Cutting) (good : goodCut k ≡ true) where
   -- a cell of a block stands there at `local`
   pub embed-local : (b : ℕ) → b < blocks k → (p : ℕ) → p < cells (blockExtents k b) → local k b (at (embed k b p)) ≡ p
   embed-local b hb p hp =
-      let h = has-held k good b hb (at (embed k b p)) (held-has k good b hb (embed k b p) (record { p = p; within = hp; is = refl })) in
+      let h = cell-in-block k good b hb (at (embed k b p)) (block-has-cell k good b hb (embed k b p) (record { p = p; within = hp; is = refl })) in
       embed-same k good b hb (local k b (at (embed k b p))) p (h .0) hp (h .1 ∙ index-place (sides (k .extents)) (embed k b p))
 
   pub own-cells : Reordered (spread cellsOf allBlocks) (ofOrder (k .extents) 2)
@@ -117,7 +117,7 @@ module _ (k : Cutting) (good : goodCut k ≡ true) where
       back : (z : ℕ) → List·Memᴰ z (ofOrder (k .extents) 2) → List·Memᴰ z (spread cellsOf allBlocks)
       back z m =
           let o = of-order-out (k .extents) 2 m in
-          let w = lowest-held k good z (o .0) in
+          let w = lowest-has-cell k good z (o .0) in
           let b : ℕ = lowestBlock k (at z) in
           let p : ℕ = w .1 .p in
           let own : ownCell k b p ≡ true =

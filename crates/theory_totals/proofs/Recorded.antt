@@ -36,10 +36,10 @@ use Rattle.totals.specs.declared.Side.{Side}
 use Rattle.strain_calls.specs.Tables.{TotalTables, totalTrays, zeroed}
 use Rattle.strain_calls.specs.Calls.{allCome}
 use Rattle.strain_calls.specs.Declines.{hasCome, totalStands, faceStands, facesStand}
-use Rattle.strain_calls.specs.Entries.{OpenedTotals}
+use Rattle.strain_calls.specs.Outcomes.{OpenedTotals}
 use Rattle.theory_totals.specs.Book.{ReadingBook, sideReadings, sideTotals, faceTotals, readingFrom, bookTotals}
-use Rattle.strain_calls.proofs.OpeningLaws.{opening-fits}
-use Rattle.pass_strain.specs.Summing.{Brought}
+use Rattle.strain_calls.proofs.OpenLaws.{opening-fits}
+use Rattle.pass_strain.specs.BlockReadings.{Brought}
 use Rattle.theory_totals.specs.Volume.{broughtTo, volumeTaken, sumsOver, countsOver}
 use Rattle.theory_totals.proofs.Reordering.{NoRepeats, re-unique, unique-ascends, unique-append}
 use Rattle.theory_totals.proofs.GoodLaws.{readings-good}

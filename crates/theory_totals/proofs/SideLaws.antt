@@ -24,7 +24,7 @@ use Rattle.strains.specs.declared.Reading.{Reading}
 use Rattle.totals.specs.Totals.{Taken, taken, slotOf, readingAt, readingsFor}
 use Rattle.lowest.specs.Lowest.{starts}
 use Rattle.strain_calls.specs.Adding.{gathered, voxelTaken, faceTaken}
-use Rattle.pass_strain.specs.Summing.{Brought, ownFace, cellTaken}
+use Rattle.pass_strain.specs.BlockReadings.{Brought, ownFace, cellTaken}
 use Rattle.theory_totals.specs.Volume.{takenAt, volumeTaken, Parted, Shows}
 
 -- ---- the row of two different codes

@@ -31,7 +31,7 @@ use Rattle.joiner.specs.Book.{Book, uncut}
 use Rattle.joiner.specs.Job.{Closed, State, Told, stageNumber}
 use Rattle.joiner.specs.Stages.{codesOf, hasCell, local, lowestBlock}
 use Rattle.joiner.specs.Statement.{Labelling}
-use Rattle.joiner.proofs.Codes.{has-held, lowest-has}
+use Rattle.joiner.proofs.Codes.{cell-in-block, lowest-has}
 use Rattle.joiner.proofs.Final.{part-is, uncut-is}
 use Rattle.joiner.proofs.Simulation.{Sim}
 use Rattle.strains.specs.declared.Reading.{Reading}
@@ -39,7 +39,7 @@ use Rattle.totals.specs.Totals.{Taken, taken, slotOf, readingAt, readingsFor}
 use Rattle.lowest.specs.Lowest.{starts}
 use Rattle.strain_calls.specs.Adding.{gathered, faceTaken}
 use Rattle.theory_totals.specs.Book.{onSide, sideReadings, readingFrom}
-use Rattle.pass_strain.specs.Summing.{Brought}
+use Rattle.pass_strain.specs.BlockReadings.{Brought}
 use Rattle.theory_totals.specs.Volume.{takenAt, volumeTaken, Parted, Shows, broughtTo}
 use Rattle.theory_totals.proofs.OwnCells.{embed-local}
 use Rattle.theory_totals.proofs.SideLaws.{pair-up, pair-down, slot-side, row-is, face-is, one-each, cell-zero, cell-other, for-split}
@@ -194,7 +194,7 @@ module _ (o : Told) (own : ℕ → List ℕ) (ext : offSize 1024 (o .cutting .ex
     w = lowest-has k good t ht
 
     h : (p < cells (blockExtents k b)) × (embed k b p ≡ index (sides (k .extents)) c)
-    h = has-held k good b (w .0) c (w .1)
+    h = cell-in-block k good b (w .0) c (w .1)
 
     is : embed k b p ≡ t
     is = h .1 ∙ index-place (sides (k .extents)) t

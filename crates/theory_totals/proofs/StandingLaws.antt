@@ -21,7 +21,7 @@ use Rattle.strains.proofs.Sums.{length-reordered, good-reordered, size-summed, 
 use Rattle.strains.proofs.Whole.{float-units}
 use Rattle.totals.specs.Totals.{readingsFor, sideAt, sideStands, standsAt}
 use Rattle.strain_calls.specs.Adding.{gathered}
-use Rattle.pass_strain.specs.Summing.{Brought}
+use Rattle.pass_strain.specs.BlockReadings.{Brought}
 use Rattle.pass_strain.proofs.TakenLaws.{gathered-append, sums-length, counts-length}
 use Rattle.theory_totals.specs.Volume.{takenBy, volumeTaken, sumsOver, countsOver}
 use Rattle.theory_totals.proofs.SlotLaws.{sum-exact, count-at, kind-few}

@@ -16,7 +16,7 @@ use Rattle.cutting.specs.Cutting.{Cutting, blocks, goodCut, blockExtents}
 use Rattle.joiner.specs.Book.{Book, accepts, begun, bookAfter, turned}
 use Rattle.joiner.specs.Calls.{Answer, Call, cross, enrol, join, look, point, reading, stageOf}
 use Rattle.joiner.specs.Declines.{refusal}
-use Rattle.joiner.specs.Entries.{CallStep, Done}
+use Rattle.joiner.specs.Outcomes.{CallStep, Done}
 use Rattle.joiner.specs.Job.{Closed, State, Tables, Told, stageNumber}
 use Rattle.joiner.specs.Statement.{Brings, Entry, Fair, Labelling, Measured}
 use Rattle.joiner.proofs.Simulation.{Sim, OneCall, book-stage, one-call}
@@ -29,10 +29,10 @@ use Rattle.strains.proofs.Sums.{float-none}
 use Rattle.strains.proofs.Whole.{float-units}
 use Rattle.totals.specs.Totals.{readingAt, readingOf}
 use Rattle.strain_calls.specs.Tables.{TotalTables}
-use Rattle.strain_calls.specs.Entries.{OpenedTotals, StrainStep}
+use Rattle.strain_calls.specs.Outcomes.{OpenedTotals, StrainStep}
 use Rattle.theory_totals.specs.Book.{ReadingBook, noReadings, turnedReadings}
 use Rattle.theory_totals.specs.Statement.{StrainEntry, LongFair, StrainMeasured, StrainStatement}
-use Rattle.pass_strain.specs.Summing.{Brought}
+use Rattle.pass_strain.specs.BlockReadings.{Brought}
 use Rattle.theory_totals.specs.Volume.{sumsOver, countsOver}
 use Rattle.theory_totals.proofs.Recorded.{Emptied, opened-empty, Recorded}
 use Rattle.theory_totals.proofs.StrainSteps.{one-reading}

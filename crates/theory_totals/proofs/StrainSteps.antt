@@ -34,11 +34,11 @@ use Rattle.strain_calls.specs.Tables.{TotalTables, totalTrays}
 use Rattle.strain_calls.specs.Adding.{blockAdds, cellAdds, countedCells, gathered}
 use Rattle.strain_calls.specs.Calls.{StrainCall, strain, total, StrainAnswer, strainAnswer, allCome, inStage, hasPlace, again, listsFit, badReading}
 use Rattle.strain_calls.specs.Declines.{hasCome, lentFor, totalStands, facesStand, strainStands, strainDeclines, strainRefusal}
-use Rattle.strain_calls.specs.Entries.{StrainDone, StrainStep, withReadings}
+use Rattle.strain_calls.specs.Outcomes.{StrainDone, StrainStep, withReadings}
 use Rattle.theory_totals.specs.Book.{ReadingBook, strainEarlyCases, strainBookDeclines, strainBookRefusal, strainBookEarly, bringsMap, strainAccepts, readingsAfter, turnedReadings, strainBookAnswer}
 use Rattle.theory_totals.specs.Statement.{StrainBrings, StrainAgrees}
 use Rattle.lowest.specs.Lowest.{starts}
-use Rattle.pass_strain.specs.Summing.{Brought, brought, blockTaken}
+use Rattle.pass_strain.specs.BlockReadings.{Brought, brought, blockTaken}
 use Rattle.pass_strain.proofs.AddingLaws.{block-adds}
 use Rattle.theory_totals.specs.Volume.{broughtTo, takenBy}
 use Rattle.theory_totals.proofs.Reordering.{unique-append}

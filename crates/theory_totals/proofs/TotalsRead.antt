@@ -40,7 +40,7 @@ use Rattle.totals.specs.declared.Totals.{Totals}
 use Rattle.strain_calls.specs.Tables.{TotalTables}
 use Rattle.strain_calls.specs.Adding.{gathered}
 use Rattle.strain_calls.specs.Calls.{StrainCall, strain, total, StrainAnswer, allCome}
-use Rattle.strain_calls.specs.Entries.{StrainStep}
+use Rattle.strain_calls.specs.Outcomes.{StrainStep}
 use Rattle.theory_totals.specs.Book.{ReadingBook, noReadings, strainAccepts, readingsAfter, turnedReadings, onSide, sideReadings, sideTotals, faceTotals, readingFrom, bookTotals}
 use Rattle.theory_totals.specs.Statement.{StrainEntry, LongFair, BringsLists, TotalRead, uncutFrom, IsUnits, SumsExact, TotalsExact, countedOn, TotalsWhole, OrderFree}
 use Rattle.theory_totals.proofs.SlotLaws.{kinds-all}

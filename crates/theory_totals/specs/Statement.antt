@@ -26,7 +26,7 @@ use Rattle.totals.specs.declared.Side.{Side}
 use Rattle.totals.specs.declared.Totals.{Totals}
 use Rattle.strain_calls.specs.Tables.{TotalTables}
 use Rattle.strain_calls.specs.Calls.{StrainCall, strain, total, StrainAnswer, strainAnswer}
-use Rattle.strain_calls.specs.Entries.{OpenedTotals, StrainStep}
+use Rattle.strain_calls.specs.Outcomes.{OpenedTotals, StrainStep}
 use Rattle.theory_totals.specs.Book.{ReadingBook, noReadings, strainBookRefusal, strainBookEarly, bringsMap, strainAccepts, turnedReadings, strainBookAnswer, sideReadings, faceTotals, readingFrom}
 
 -- A call of the longer list.

@@ -15,7 +15,7 @@ use lib.ListN.{getD}
 use Rattle.totals.specs.Totals.{Taken, sumsWith, countsWith}
 use Rattle.lowest.specs.Lowest.{starts}
 use Rattle.strain_calls.specs.Adding.{gathered}
-use Rattle.pass_strain.specs.Summing.{Brought, brought, ownFace, cellTaken, blockTaken}
+use Rattle.pass_strain.specs.BlockReadings.{Brought, brought, ownFace, cellTaken, blockTaken}
 
 -- What block b adds, if it brings g b.
 unfoldable pub takenBy : Cutting → (ℕ → Brought) → ℕ → List Taken

@@ -12,8 +12,8 @@ use Rattle.labels.specs.Components.{largest, componentRow}
 use Rattle.labeller.specs.Labelling.{labelling}
 use Rattle.cutting.specs.Cutting.{Cutting, goodCut, blockExtents, blockCodes}
 use Rattle.joiner.specs.Job.{Told, Closed, sameStage}
-use Rattle.theory_model.specs.Scripts.{Held, Outcome, joinedUp}
-use Rattle.theory_model.specs.Jobs.{told}
+use Rattle.theory_model.specs.Scripts.{Contents, Outcome, joinedUp}
+use Rattle.theory_model.specs.Volumes.{told}
 
 -- What is asked of a volume.
 pub data Question : Type 0 where
@@ -33,7 +33,7 @@ pub data Question : Type 0 where
   joined : Told → List ℕ → Question
 
 -- First positions and rows of a kind.
-unfoldable pub positionsAndRows : Held → List ℕ
+unfoldable pub positionsAndRows : Contents → List ℕ
 positionsAndRows h = h .firsts ++ h .rows
 
 -- What a closed job holds: how many faces, curves and points, then first positions and rows of the faces, of the curves and of the points.

@@ -15,7 +15,7 @@ use borrow.Author.Tests.{eqb-true, eqb-false, eq-eqb, ne-eqb, le-leb, lt-leb, no
 use Rattle.lists.specs.Lists.{consecutive}
 use Rattle.lists.proofs.Cases.{by-test, and-first, and-second}
 use Rattle.lists.proofs.Lists.{consecutive-in}
-use Rattle.lists.proofs.Tests.{all-out, Held, held-broken, held-all}
+use Rattle.lists.proofs.Tests.{all-out, TrueBelow, true-below-broken, true-below-all}
 use Rattle.strains.specs.Units.{isUnits, unitsOf, floatOf, plusZero}
 use Rattle.strains.proofs.Exact.{add-units}
 use Rattle.strains.proofs.Signs.{given-signed}
@@ -136,11 +136,11 @@ module _ (values : List Float) (kinds : List ℕ) (v : ℕ) where
 module _ (values : List Float) (kinds : List ℕ) where
   pub some-unfit : (v : ℕ) (b : Bool) → v < length values → b ≡ fitsAt values kinds v → not b ≡ true → false ≡ readingsFit values kinds
   unfolding readingsFit
-  some-unfit v b h e n = held-broken (fitsAt values kinds) (length values) v b h e n
+  some-unfit v b h e n = true-below-broken (fitsAt values kinds) (length values) v b h e n
 
-  pub all-fitting : (v : ℕ) → length values ≤ v → Held (fitsAt values kinds) v → true ≡ readingsFit values kinds
+  pub all-fitting : (v : ℕ) → length values ≤ v → TrueBelow (fitsAt values kinds) v → true ≡ readingsFit values kinds
   unfolding readingsFit
-  all-fitting v h a = held-all (fitsAt values kinds) (length values) v h a
+  all-fitting v h a = true-below-all (fitsAt values kinds) (length values) v h a
 
 -- where the test is passed, every reading of the lists is one
 pub fit-good : (values : List Float) (kinds : List ℕ) → readingsFit values kinds ≡ true → (v : ℕ) → v < length values → isGood (readingAt values kinds v) ≡ true
@@ -152,8 +152,8 @@ fit-good values kinds t v h =
 -- ---- totals that are read
 
 -- tables that are long enough for n faces are so for fewer
-pub fewer-held : (sums : List Float) (counts : List ℕ) (m n : ℕ) → m ≤ n → Holds sums counts n → Holds sums counts m
-fewer-held sums counts m n h H = record { sums-long = omega (arith, h, H .sums-long); counts-long = omega (arith, h, H .counts-long) }
+pub fewer-holds : (sums : List Float) (counts : List ℕ) (m n : ℕ) → m ≤ n → Holds sums counts n → Holds sums counts m
+fewer-holds sums counts m n h H = record { sums-long = omega (arith, h, H .sums-long); counts-long = omega (arith, h, H .counts-long) }
 
 pub side-is : (sums : List Float) (counts : List ℕ) (s : ℕ) → s < length sums
     → _≡_ {A = Side} (record { sum = getD sums s nan; strains = getD counts (3 * s) 0; clipped = getD counts (3 * s + 1) 0; missing = getD counts (3 * s + 2) 0 }) (sideAt sums counts s)

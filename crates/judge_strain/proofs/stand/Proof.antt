@@ -1,6 +1,6 @@
 -- `judge_strain::stand` meets its contract.
 use borrow.Author.Needs.{needs}
-use Rattle.judge_strain.proofs.TestLaws.{stand-tallies, stand-map, stand-held, stand-faces}
+use Rattle.judge_strain.proofs.TestLaws.{stand-tallies, stand-map, stand-holds, stand-faces}
 use Rattle.judge_strain.proofs.stand.Statement.{statement}
 use Rattle.judge_strain.proofs.stand.Tie as tie
 
@@ -20,7 +20,7 @@ cell-count-requires : tie.Need-cell-count-requires
 cell-count-requires c κs = search needs
 
 faces-stand-requires : tie.Need-faces-stand-requires
-faces-stand-requires c κs = search stand-held
+faces-stand-requires c κs = search stand-holds
 
 returns-3 : tie.Need-returns-3
 returns-3 c = search stand-faces

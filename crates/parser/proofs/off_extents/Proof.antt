@@ -1,7 +1,7 @@
 -- `parser::off_extents` meets its contract.
 use borrow.Author.Needs.{needs}
 use borrow.Author.Tests.{lt-leb}
-use Rattle.parser.specs.Reading.{offExtents}
+use Rattle.parser.specs.Asked.{offExtents}
 use Rattle.parser.proofs.AnswerLaws.{off-told}
 use Rattle.parser.proofs.off_extents.Statement.{statement}
 use Rattle.parser.proofs.off_extents.Tie as tie

@@ -15,7 +15,7 @@ use Rattle.labels.specs.Components.{ofOrder}
 use Rattle.lines.specs.Lines.{lineCount}
 use Rattle.lines.proofs.LineLaws.{lines-high}
 use Rattle.lines.proofs.WalkLaws.{onwards, lines-first, lines-next, lines-last}
-use Rattle.pass_cross.specs.Crossings.{crossAt, crossEdges}
+use Rattle.pass_cross.specs.CrossEdges.{crossAt, crossEdges}
 use Rattle.pass_cross.specs.Inner.{lineEdges}
 use Rattle.pass_cross.proofs.CrossLaws.{StillToCross, rest-all, rest-fewer, rest-none, trays-kept}
 use Rattle.pass_cross.proofs.FlatLaws.{flat-append}

@@ -13,7 +13,7 @@ use Rattle.union_find.specs.Links.{root}
 use Rattle.cells.specs.Box.{Triple, triple}
 use Rattle.cells.specs.Grid.{sides, order}
 use Rattle.lines.proofs.WalkLaws.{Walking, ahead, walk-first, walk-next, walk-fits, odd-tests, cells-first, cells-next, cells-last}
-use Rattle.pass_cross.specs.Crossings.{crossAt}
+use Rattle.pass_cross.specs.CrossEdges.{crossAt}
 use Rattle.pass_cross.specs.Inner.{lineEdges}
 use Rattle.pass_cross.proofs.CrossLaws.{StillToCross, rest-all, rest-fewer, rest-none, trays-kept, line-cross}
 use Rattle.pass_cross.proofs.cross_line.Statement.{statement}

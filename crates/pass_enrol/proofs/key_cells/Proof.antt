@@ -10,7 +10,7 @@ use Rattle.cells.specs.Grid.{order}
 use Rattle.cells.proofs.ExtentLaws.{cells-high}
 use Rattle.lines.proofs.WalkLaws.{Walking, ahead, walk-even}
 use Rattle.blocks.specs.Blocks.{sizeOf}
-use Rattle.pass_enrol.specs.Enrolment.{keyed}
+use Rattle.pass_enrol.specs.EnrolledRows.{keyed}
 use Rattle.pass_enrol.proofs.KeyLaws.{Here, along-fits, along-ends, along-here, along-number, keys-none, keys-next, keys-all}
 use Rattle.pass_enrol.proofs.key_cells.Statement.{statement}
 use Rattle.pass_enrol.proofs.key_cells.Tie as tie

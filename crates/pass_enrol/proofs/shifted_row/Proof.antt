@@ -3,7 +3,7 @@ use mathlib.Core.Path.{ap, sym}
 use mathlib.Core.List.{map}
 use borrow.Author.Needs.{needs}
 use Rattle.rows.proofs.OrderLaws.{six}
-use Rattle.pass_enrol.specs.Enrolment.{shiftBy}
+use Rattle.pass_enrol.specs.EnrolledRows.{shiftBy}
 use Rattle.pass_enrol.proofs.shifted_row.Statement.{statement}
 use Rattle.pass_enrol.proofs.shifted_row.Tie as tie
 

@@ -10,7 +10,7 @@ use Rattle.lines.specs.Lines.{lineCount}
 use Rattle.lines.proofs.LineLaws.{lines-high}
 use Rattle.blocks.specs.Blocks.{sizeOf}
 use Rattle.pass_survey.proofs.SurveyLaws.{fromLine}
-use Rattle.pass_enrol.specs.Enrolment.{keyed}
+use Rattle.pass_enrol.specs.EnrolledRows.{keyed}
 use Rattle.pass_enrol.proofs.KeyLaws.{lines-start, lines-next, lines-end}
 use Rattle.pass_enrol.proofs.store_keys.Statement.{statement}
 use Rattle.pass_enrol.proofs.store_keys.Tie as tie

@@ -7,7 +7,7 @@ use borrow.Author.Needs.{needs}
 use Rattle.lists.specs.Lists.{overlay}
 use Rattle.lists.proofs.Overlay.{rows-none, rows-next, rows-all, row-room}
 use Rattle.blocks.specs.Blocks.{sizeOf}
-use Rattle.pass_enrol.specs.Enrolment.{rowIn}
+use Rattle.pass_enrol.specs.EnrolledRows.{rowIn}
 use Rattle.pass_enrol.proofs.RowLaws.{number-has, number-row, row-fits, row-entry}
 use Rattle.pass_enrol.proofs.store_rows.Statement.{statement}
 use Rattle.pass_enrol.proofs.store_rows.Tie as tie

@@ -27,19 +27,19 @@ returns-2 c = search marks-none
 returns-3 : tie.Need-returns-3
 returns-3 c = search marks-beyond
 
-cast-firsts : tie.Need-cast-firsts
-cast-firsts c =
+cast-marks : tie.Need-cast-marks
+cast-marks c =
     let back4 = c .before .before .before .before in
     omega (arith, cells-high (back4 .before .before .before .before .pre .0 .sized))
 
-sub-firsts : tie.Need-sub-firsts
-sub-firsts c = search needs
+sub-marks : tie.Need-sub-marks
+sub-marks c = search needs
 
-mul-firsts : tie.Need-mul-firsts
-mul-firsts c = search needs
+mul-marks : tie.Need-mul-marks
+mul-marks c = search needs
 
-slice-write-firsts : tie.Need-slice-write-firsts
-slice-write-firsts c = search needs
+slice-write-marks : tie.Need-slice-write-marks
+slice-write-marks c = search needs
 
 same-length : tie.Need-same-length
 same-length c = search needs
@@ -58,9 +58,9 @@ mark-cell-spec =
     wide-requires
     returns-2
     returns-3
-    cast-firsts
-    sub-firsts
-    mul-firsts
-    slice-write-firsts
+    cast-marks
+    sub-marks
+    mul-marks
+    slice-write-marks
     same-length
     returns-4)

@@ -7,7 +7,7 @@ use native.Mathlib.Omega.{arith}
 use lib.ListN.{length, drop, drop-of-length-le}
 use borrow.Author.Needs.{needs}
 use Rattle.union_find.proofs.LinkLaws.{Left, left-all, left-fewer, left-none}
-use Rattle.pass_join.specs.Joining.{alikePairs}
+use Rattle.pass_join.specs.JoinTrays.{alikePairs}
 use Rattle.pass_join.proofs.JoinLaws.{pairs-next}
 use Rattle.pass_join.proofs.join_alike.Statement.{statement}
 use Rattle.pass_join.proofs.join_alike.Tie as tie

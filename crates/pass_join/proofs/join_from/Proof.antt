@@ -13,7 +13,7 @@ use borrow.Author.Needs.{needs}
 use borrow.Author.Tests.{eq-eqb, ne-eqb}
 use Rattle.cells.specs.Row.{occupied, sameRow}
 use Rattle.union_find.proofs.LinkLaws.{Left, left-all, left-united, left-none}
-use Rattle.pass_join.specs.Joining.{alikeTo}
+use Rattle.pass_join.specs.JoinTrays.{alikeTo}
 use Rattle.pass_join.proofs.JoinLaws.{to-none, to-next}
 use Rattle.pass_join.proofs.join_from.Statement.{statement}
 use Rattle.pass_join.proofs.join_from.Tie as tie

@@ -10,8 +10,8 @@ use Rattle.cells.specs.Grid.{cells, order}
 use Rattle.cells.proofs.ExtentLaws.{cells-high}
 use Rattle.lines.proofs.LineLaws.{order-tests}
 use Rattle.lines.proofs.WalkLaws.{Walking, ahead, walk-first, walk-next, walk-inside, walk-order, cells-first, cells-next, cells-last}
-use Rattle.pass_survey.specs.Surveys.{onLine}
-use Rattle.pass_point.specs.Findings.{foundAmong}
+use Rattle.pass_survey.specs.Survey.{onLine}
+use Rattle.pass_point.specs.FoundPoints.{foundAmong}
 use Rattle.pass_point.proofs.PointLaws.{counted-next, counted-all}
 use Rattle.pass_point.proofs.count_line.Statement.{statement}
 use Rattle.pass_point.proofs.count_line.Tie as tie

@@ -10,7 +10,7 @@ use Rattle.cells.specs.Grid.{sides}
 use Rattle.lines.specs.Lines.{lineCount}
 use Rattle.lines.proofs.LineLaws.{lines-high}
 use Rattle.pass_survey.proofs.SurveyLaws.{fromLine}
-use Rattle.pass_point.specs.Findings.{foundAmong, foundCells}
+use Rattle.pass_point.specs.FoundPoints.{foundAmong, foundCells}
 use Rattle.pass_point.proofs.PointLaws.{found-all, lines-next, lines-room, lines-last}
 use Rattle.pass_point.proofs.count_points.Statement.{statement}
 use Rattle.pass_point.proofs.count_points.Tie as tie

@@ -2,7 +2,7 @@
 use mathlib.Core.Path.{ap, sym}
 use borrow.Author.Needs.{needs}
 use Rattle.rows.proofs.OrderLaws.{six}
-use Rattle.pass_point.specs.Findings.{finalsIn}
+use Rattle.pass_point.specs.FoundPoints.{finalsIn}
 use Rattle.pass_point.proofs.finals.Statement.{statement}
 use Rattle.pass_point.proofs.finals.Tie as tie
 

@@ -4,7 +4,7 @@ use lib.ListN.{replicate}
 use borrow.Author.Needs.{needs}
 use Rattle.cells.specs.Row.{rowOf}
 use Rattle.cells.proofs.RowLaws.{same-row}
-use Rattle.pass_point.specs.Findings.{finalsIn}
+use Rattle.pass_point.specs.FoundPoints.{finalsIn}
 use Rattle.pass_point.proofs.PointLaws.{final-zeros}
 use Rattle.pass_point.proofs.row_over.Statement.{statement}
 use Rattle.pass_point.proofs.row_over.Tie as tie

@@ -8,7 +8,7 @@ use Rattle.cells.specs.Grid.{order}
 use Rattle.lines.proofs.LineLaws.{order-tests}
 use Rattle.lines.proofs.WalkLaws.{Walking, ahead, walk-first, walk-next, cells-first, cells-next, cells-last}
 use Rattle.blocks.specs.Blocks.{sizeOf}
-use Rattle.pass_survey.specs.Surveys.{onLine}
+use Rattle.pass_survey.specs.Survey.{onLine}
 use Rattle.pass_enrol.proofs.KeyLaws.{along-fits, along-here}
 use Rattle.pass_point.proofs.StoreLaws.{Left, left-all, left-none, left-room, left-next}
 use Rattle.pass_point.proofs.store_cells.Statement.{statement}

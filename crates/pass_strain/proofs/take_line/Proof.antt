@@ -8,7 +8,7 @@ use Rattle.cells.specs.Box.{triple}
 use Rattle.cells.specs.Grid.{sides}
 use Rattle.lines.proofs.WalkLaws.{walk-room, walk-fits}
 use Rattle.lowest.specs.Lowest.{startOf}
-use Rattle.pass_strain.specs.Summing.{brought}
+use Rattle.pass_strain.specs.BlockReadings.{brought}
 use Rattle.pass_strain.proofs.SumLaws.{bounds, line-beside, line-spot}
 use Rattle.pass_strain.proofs.ShownLaws.{Taking, take-none, listed-cell, take-next, taken-all}
 use Rattle.pass_strain.proofs.take_line.Statement.{statement}

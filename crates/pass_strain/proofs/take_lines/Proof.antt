@@ -10,7 +10,7 @@ use Rattle.cells.specs.Grid.{sides}
 use Rattle.lines.specs.Lines.{lineCount}
 use Rattle.lines.proofs.LineLaws.{lines-high}
 use Rattle.lowest.specs.Lowest.{startOf}
-use Rattle.pass_strain.specs.Summing.{brought, Lying}
+use Rattle.pass_strain.specs.BlockReadings.{brought, Lying}
 use Rattle.pass_strain.proofs.SumLaws.{Gone, gone-none, gone-next, gone-all}
 use Rattle.pass_strain.proofs.take_lines.Statement.{statement}
 use Rattle.pass_strain.proofs.take_lines.Tie as tie

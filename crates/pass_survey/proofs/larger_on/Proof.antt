@@ -9,7 +9,7 @@ use Rattle.cells.specs.Grid.{cells, order}
 use Rattle.cells.proofs.ExtentLaws.{cells-high}
 use Rattle.lines.proofs.LineLaws.{order-tests}
 use Rattle.lines.proofs.WalkLaws.{Walking, ahead, walk-first, walk-next, walk-inside, cells-first, cells-next, cells-last}
-use Rattle.pass_survey.specs.Surveys.{onLine, most}
+use Rattle.pass_survey.specs.Survey.{onLine, most}
 use Rattle.pass_survey.proofs.SurveyLaws.{most-next, most-none}
 use Rattle.pass_survey.proofs.larger_on.Statement.{statement}
 use Rattle.pass_survey.proofs.larger_on.Tie as tie

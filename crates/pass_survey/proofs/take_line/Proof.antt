@@ -2,7 +2,7 @@
 use borrow.Author.Needs.{needs}
 use Rattle.cells.specs.Grid.{sides}
 use Rattle.lines.specs.Lines.{lineY, lineZ}
-use Rattle.pass_survey.specs.Surveys.{lineAdded}
+use Rattle.pass_survey.specs.Survey.{lineAdded}
 use Rattle.pass_survey.proofs.take_line.Statement.{statement}
 use Rattle.pass_survey.proofs.take_line.Tie as tie
 

@@ -14,10 +14,10 @@ use Rattle.printer.proofs.put_lines.Statement.{statement}
 use Rattle.printer.proofs.put_lines.Tie as tie
 
 abbrev Inv-loop : tie.InvT-loop
-Inv-loop out₀ nx ny nz map j firsts count t₀ i₀ out t i = (i ≤ count) × (length out ≡ length out₀) × (state t out ≡ sunk (state t₀ out₀) (linesFor (triple nx ny nz) map j (consecutive 1 i)))
+Inv-loop out₀ nx ny nz map j marks count t₀ i₀ out t i = (i ≤ count) × (length out ≡ length out₀) × (state t out ≡ sunk (state t₀ out₀) (linesFor (triple nx ny nz) map j (consecutive 1 i)))
 
 abbrev μ-loop : tie.MeasureT-loop
-μ-loop out₀ nx ny nz map j firsts count t₀ i₀ out t i = count - i
+μ-loop out₀ nx ny nz map j marks count t₀ i₀ out t i = count - i
 
 loop-holds : tie.Need-loop-holds Inv-loop μ-loop
 unfolding linesFor consecutive

@@ -9,8 +9,8 @@ use Rattle.printer.proofs.put_order.Tie as tie
 count-of-requires : tie.Need-count-of-requires
 count-of-requires c κs = search needs
 
-mark-firsts-requires : tie.Need-mark-firsts-requires
-mark-firsts-requires c κs = search needs
+mark-order-requires : tie.Need-mark-order-requires
+mark-order-requires c κs = search needs
 
 put-lines-requires : tie.Need-put-lines-requires
 put-lines-requires c κs = search needs
@@ -29,14 +29,14 @@ returns c =
     let back4 = c .before .before .before .before in
     let back8 = back4 .before .before .before .before in
     let back12 = back8 .before .before .before .before in
-    (order-put _ _ _ _ _ _ (back12 .before .count-of .ensures) (back4 .before .before .put-lines .ensures), c .before .before .clear .ensures ∙ ap zeros (back8 .before .before .before .mark-firsts .ensures .room))
+    (order-put _ _ _ _ _ _ (back12 .before .count-of .ensures) (back4 .before .before .put-lines .ensures), c .before .before .clear .ensures ∙ ap zeros (back8 .before .before .before .mark-order .ensures .room))
 
 pub put-order-spec : {M : Type 1} → statement M
 put-order-spec =
     tie.close
     (tie.spec
     count-of-requires
-    mark-firsts-requires
+    mark-order-requires
     put-lines-requires
     clear-requires
     same-length

@@ -8,10 +8,10 @@ use Rattle.program_listing.proofs.print_all.Statement.{statement}
 use Rattle.program_listing.proofs.print_all.Tie as tie
 
 abbrev Inv-loop : tie.InvT-loop
-Inv-loop nx ny nz map firsts₀ out₀ from₀ next₀ firsts out from next = (length firsts ≡ length firsts₀) × (next < 2 ^ 64)
+Inv-loop nx ny nz map marks₀ out₀ from₀ next₀ marks out from next = (length marks ≡ length marks₀) × (next < 2 ^ 64)
 
 abbrev μ-loop : tie.MeasureT-loop
-μ-loop nx ny nz map firsts₀ out₀ from₀ next₀ firsts out from next = 2 ^ 64 - from
+μ-loop nx ny nz map marks₀ out₀ from₀ next₀ marks out from next = 2 ^ 64 - from
 
 large-buffer-requires : tie.Need-large-buffer-requires Inv-loop μ-loop
 large-buffer-requires c κs = search needs

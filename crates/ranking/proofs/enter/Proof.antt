@@ -6,11 +6,11 @@ use Rattle.ranking.proofs.FirstLaws.{enter-root, enter-first, enter-lat
 use Rattle.ranking.proofs.enter.Statement.{statement}
 use Rattle.ranking.proofs.enter.Tie as tie
 
-mul-firsts : tie.Need-mul-firsts
-mul-firsts c = search needs
+mul-leaders : tie.Need-mul-leaders
+mul-leaders c = search needs
 
-slice-write-firsts : tie.Need-slice-write-firsts
-slice-write-firsts c = search needs
+slice-write-leaders : tie.Need-slice-write-leaders
+slice-write-leaders c = search needs
 
 same-length : tie.Need-same-length
 same-length c = search needs
@@ -39,11 +39,11 @@ mul-if2-2 c = let e = c .before .before in omega (arith, e .before .pre .1 .1 (e
 shared-slice-read-if2-2 : tie.Need-shared-slice-read-if2-2
 shared-slice-read-if2-2 c = let e = c .before .before .before in omega (arith, e .before .pre .1 .1 (e .if1 .left), e .before .good)
 
-mul-firsts-2 : tie.Need-mul-firsts-2
-mul-firsts-2 c = search needs
+mul-leaders-2 : tie.Need-mul-leaders-2
+mul-leaders-2 c = search needs
 
-slice-write-firsts-2 : tie.Need-slice-write-firsts-2
-slice-write-firsts-2 c = search needs
+slice-write-leaders-2 : tie.Need-slice-write-leaders-2
+slice-write-leaders-2 c = search needs
 
 same-length-2 : tie.Need-same-length-2
 same-length-2 c = search needs
@@ -58,8 +58,8 @@ pub enter-spec : {M : Type 1} → statement M
 enter-spec =
     tie.close
     (tie.spec
-    mul-firsts
-    slice-write-firsts
+    mul-leaders
+    slice-write-leaders
     same-length
     returns
     mul-f
@@ -69,8 +69,8 @@ enter-spec =
     cast-if2
     mul-if2-2
     shared-slice-read-if2-2
-    mul-firsts-2
-    slice-write-firsts-2
+    mul-leaders-2
+    slice-write-leaders-2
     same-length-2
     returns-2
     returns-3)

@@ -10,19 +10,19 @@ use Rattle.ranking.proofs.gather.Tie as tie
 store-classes-requires : tie.Need-store-classes-requires
 store-classes-requires c κs = search needs
 
-find-firsts-requires : tie.Need-find-firsts-requires
-find-firsts-requires c κs =
+find-leaders-requires : tie.Need-find-leaders-requires
+find-leaders-requires c κs =
     let a = c .before .before .before .before in
     let s4 = a .before .before .before .before in
     let s = s4 .before .before in (root-classes _ _ _ _ (s .pre .1) (a .store-classes .ensures), (omega arith, omega arith))
 
-list-firsts-requires : tie.Need-list-firsts-requires
-list-firsts-requires c κs =
+list-leaders-requires : tie.Need-list-leaders-requires
+list-leaders-requires c κs =
     let f = c .before .before .before .before in
     let a4 = f .before .before .before .before in
     let a = a4 .before in
     let s4 = a .before .before .before .before in
-    let s = s4 .before .before in (root-classes _ _ _ _ (s .pre .1) (a .store-classes .ensures), omega (arith, f .find-firsts .ensures .1, s .pre .2))
+    let s = s4 .before .before in (root-classes _ _ _ _ (s .pre .1) (a .store-classes .ensures), omega (arith, f .find-leaders .ensures .1, s .pre .2))
 
 same-length : tie.Need-same-length
 same-length c = search needs
@@ -39,15 +39,15 @@ returns c =
     let a = a4 .before in
     let s4 = a .before .before .before .before in
     let s = s4 .before .before in
-    found-of _ _ _ _ _ _ _ _ _ (s .pre .1) (s .pre .2) (a .store-classes .ensures) (f .find-firsts .ensures .0) (f .find-firsts .ensures .1) (l .list-firsts .ensures)
+    found-of _ _ _ _ _ _ _ _ _ (s .pre .1) (s .pre .2) (a .store-classes .ensures) (f .find-leaders .ensures .0) (f .find-leaders .ensures .1) (l .list-leaders .ensures)
 
 pub gather-spec : {M : Type 1} → statement M
 gather-spec =
     tie.close
     (tie.spec
     store-classes-requires
-    find-firsts-requires
-    list-firsts-requires
+    find-leaders-requires
+    list-leaders-requires
     same-length
     same-length-2
     returns)

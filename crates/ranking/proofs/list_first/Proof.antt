@@ -3,7 +3,7 @@
 use mathlib.Core.Path.{refl}
 use borrow.Author.Needs.{needs}
 use borrow.Author.Tests.{eq-eqb, ne-eqb}
-use Rattle.ranking.specs.Ranking.{stands}
+use Rattle.ranking.specs.Ranking.{isLeader}
 use Rattle.ranking.proofs.list_first.Statement.{statement}
 use Rattle.ranking.proofs.list_first.Tie as tie
 
@@ -38,11 +38,11 @@ same-length : tie.Need-same-length
 same-length c = search needs
 
 returns : tie.Need-returns
-unfolding stands
+unfolding isLeader
 returns c = rw (eq-eqb _ _ (c .if1 .taken)) (refl, refl)
 
 returns-2 : tie.Need-returns-2
-unfolding stands
+unfolding isLeader
 returns-2 c = rw (ne-eqb _ _ (c .if1 .left)) (refl, refl)
 
 pub list-first-spec : {M : Type 1} → statement M

@@ -19,7 +19,7 @@ gathered a =
     let back4 = a .before .before .before .before in
     back4 .before .before .before
 
-abbrev arranged : tie.After-place-firsts → tie.After-arrange
+abbrev arranged : tie.After-place-leaders → tie.After-arrange
 arranged p =
     let back4 = p .before .before .before .before in
     back4 .before .before .before .before
@@ -35,8 +35,8 @@ arrange-requires c κs =
     let G = g .gather .ensures in
     ((G .few, omega (arith, written-long _ _ _ _ (G .classes), s .pre .1), omega (arith, G .long, s .pre .3)), found-listed (s .pre .1) (s .pre .0) (s .pre .3) G (omega arith))
 
-place-firsts-requires : tie.Need-place-firsts-requires
-place-firsts-requires c κs =
+place-leaders-requires : tie.Need-place-leaders-requires
+place-leaders-requires c κs =
     let a4 = c .before .before .before .before in
     let a = a4 .before .before .before in
     let g = gathered a in
@@ -54,7 +54,7 @@ renumber-requires c κs =
     let s = start g in
     let G = g .gather .ensures in
     let A = a .arrange .ensures in
-    (omega (arith, p .place-firsts .ensures .0 .long, A .long, G .long, s .pre .3), root-classes _ _ _ _ (omega (arith, written-long _ _ _ _ (G .classes), s .pre .1)) (A .classes))
+    (omega (arith, p .place-leaders .ensures .0 .long, A .long, G .long, s .pre .3), root-classes _ _ _ _ (omega (arith, written-long _ _ _ _ (G .classes), s .pre .1)) (A .classes))
 
 same-length : tie.Need-same-length
 same-length c = search needs
@@ -75,8 +75,8 @@ returns c =
     let s = start g in
     let G = g .gather .ensures in
     let A = a .arrange .ensures in (
-      λ t κ K M. ranked-of (s .pre .1) (s .pre .0) (s .pre .3) G A t κ K M (p .place-firsts .ensures .0) (p .place-firsts .ensures .1) (d .renumber .ensures),
-      p .place-firsts .ensures .0 .long ∙ A .long ∙ G .long,
+      λ t κ K M. ranked-of (s .pre .1) (s .pre .0) (s .pre .3) G A t κ K M (p .place-leaders .ensures .0) (p .place-leaders .ensures .1) (d .renumber .ensures),
+      p .place-leaders .ensures .0 .long ∙ A .long ∙ G .long,
     )
 
 pub rank-kind-spec : {M : Type 1} → statement M
@@ -85,7 +85,7 @@ rank-kind-spec =
     (tie.spec
     gather-requires
     arrange-requires
-    place-firsts-requires
+    place-leaders-requires
     renumber-requires
     same-length
     same-length-2

@@ -1,6 +1,6 @@
 -- `reader::head_of` meets its contract.
 use borrow.Author.Needs.{needs}
-use Rattle.reader.proofs.ReadingLaws.{head-is}
+use Rattle.reader.proofs.LoadedLaws.{head-is}
 use Rattle.reader.proofs.head_of.Statement.{statement}
 use Rattle.reader.proofs.head_of.Tie as tie
 

@@ -5,9 +5,9 @@ use native.Mathlib.Omega.{arith}
 use borrow.Author.Needs.{needs}
 use Rattle.cells.proofs.ExtentLaws.{cells-high}
 use Rattle.records.specs.Record.{bitmapLength}
-use Rattle.records.proofs.BitLaws.{standing-bound}
+use Rattle.records.proofs.BitLaws.{bits-bound}
 use Rattle.reader.specs.Parts.{Mapped}
-use Rattle.reader.proofs.ReadingLaws.{or-here, or-next, damaged-length, damaged-rest}
+use Rattle.reader.proofs.LoadedLaws.{or-here, or-next, damaged-length, damaged-rest}
 use Rattle.reader.proofs.is_damaged.Statement.{statement}
 use Rattle.reader.proofs.is_damaged.Tie as tie
 
@@ -29,12 +29,12 @@ returns : tie.Need-returns
 unfolding bitmapLength
 returns c = damaged-length _ _ (c .before .cell-count .ensures) refl (λ e. omega arith)
 
-standing-bits-requires : tie.Need-standing-bits-requires
-standing-bits-requires c κs = mapped c
+count-bits-requires : tie.Need-count-bits-requires
+count-bits-requires c κs = mapped c
 
-few-stand : (c : tie.After-standing-bits) → c .standing-bits .result ≤ 2048383
+few-stand : (c : tie.After-count-bits) → c .count-bits .result ≤ 2048383
 few-stand c =
-    omega (arith, c .standing-bits .ensures, standing-bound (c .before .before .before .before .args .bytes .now) (c .before .before .cell-count .result), mapped (c .before) .few)
+    omega (arith, c .count-bits .ensures, bits-bound (c .before .before .before .before .args .bytes .now) (c .before .before .cell-count .result), mapped (c .before) .few)
 
 mul-if2 : tie.Need-mul-if2
 mul-if2 c = omega (arith, few-stand c)
@@ -44,7 +44,7 @@ add-if2 c = omega (arith, few-stand c)
 
 returns-2 : tie.Need-returns-2
 unfolding bitmapLength
-returns-2 c = damaged-length _ _ (c .before .before .before .cell-count .ensures) (c .before .standing-bits .ensures) (c .if2 .taken)
+returns-2 c = damaged-length _ _ (c .before .before .before .cell-count .ensures) (c .before .count-bits .ensures) (c .if2 .taken)
 
 spare-set-requires : tie.Need-spare-set-requires
 spare-set-requires c κs = mapped (c .before .before)
@@ -53,7 +53,7 @@ returns-3 : tie.Need-returns-3
 unfolding bitmapLength
 returns-3 c =
     let back4 = c .before .before .before .before in
-    or-here _ _ _ (c .before .spare-set .ensures) (c .if3 .taken) ∙ sym (damaged-rest _ _ (back4 .before .cell-count .ensures) (c .before .before .before .standing-bits .ensures) (c .before .before .if2 .left))
+    or-here _ _ _ (c .before .spare-set .ensures) (c .if3 .taken) ∙ sym (damaged-rest _ _ (back4 .before .cell-count .ensures) (c .before .before .before .count-bits .ensures) (c .before .before .if2 .left))
 
 voxel-clear-requires : tie.Need-voxel-clear-requires
 voxel-clear-requires c κs =
@@ -64,7 +64,7 @@ returns-4 : tie.Need-returns-4
 unfolding bitmapLength
 returns-4 c =
     let back4 = c .before .before .before .before in
-    or-next _ _ _ (c .before .before .before .spare-set .ensures) (c .before .before .if3 .left) (or-here _ _ _ (c .before .voxel-clear .ensures) (c .if4 .taken)) ∙ sym (damaged-rest _ _ (back4 .before .before .before .cell-count .ensures) (back4 .before .standing-bits .ensures) (c .before .before .before .before .if2 .left))
+    or-next _ _ _ (c .before .before .before .spare-set .ensures) (c .before .before .if3 .left) (or-here _ _ _ (c .before .voxel-clear .ensures) (c .if4 .taken)) ∙ sym (damaged-rest _ _ (back4 .before .before .before .cell-count .ensures) (back4 .before .count-bits .ensures) (c .before .before .before .before .if2 .left))
 
 zero-listed-requires : tie.Need-zero-listed-requires
 zero-listed-requires c κs = omega arith
@@ -73,7 +73,7 @@ returns-5 : tie.Need-returns-5
 unfolding bitmapLength
 returns-5 c =
     let back4 = c .before .before .before .before in
-    or-next _ _ _ (c .before .before .before .before .spare-set .ensures) (c .before .before .before .if3 .left) (or-next _ _ _ (c .before .before .voxel-clear .ensures) (c .before .if4 .left) (c .zero-listed .ensures)) ∙ sym (damaged-rest _ _ (back4 .before .before .before .before .cell-count .ensures) (back4 .before .before .standing-bits .ensures) (back4 .before .if2 .left))
+    or-next _ _ _ (c .before .before .before .before .spare-set .ensures) (c .before .before .before .if3 .left) (or-next _ _ _ (c .before .before .voxel-clear .ensures) (c .before .if4 .left) (c .zero-listed .ensures)) ∙ sym (damaged-rest _ _ (back4 .before .before .before .before .cell-count .ensures) (back4 .before .before .count-bits .ensures) (back4 .before .if2 .left))
 
 pub is-damaged-spec : {M : Type 1} → statement M
 is-damaged-spec =
@@ -83,7 +83,7 @@ is-damaged-spec =
     add-at
     add-at-2
     returns
-    standing-bits-requires
+    count-bits-requires
     mul-if2
     add-if2
     returns-2

@@ -6,7 +6,7 @@ use lib.ListN.{length}
 use borrow.Author.Needs.{needs}
 use Rattle.records.specs.Record.{bitmapLength}
 use Rattle.reader.specs.Parts.{ReadTo}
-use Rattle.reader.proofs.ReadingLaws.{read-none, read-all}
+use Rattle.reader.proofs.LoadedLaws.{read-none, read-all}
 use Rattle.reader.proofs.load.Statement.{statement}
 use Rattle.reader.proofs.load.Tie as tie
 

@@ -5,10 +5,10 @@ use native.Mathlib.Omega.{arith}
 use lib.ListN.{length, getD, length-set}
 use borrow.Author.Needs.{needs}
 use Rattle.records.specs.Record.{bitmapLength, bitAt}
-use Rattle.records.proofs.BitLaws.{standing-bound}
+use Rattle.records.proofs.BitLaws.{bits-bound}
 use Rattle.records.proofs.ReadLaws.{bit-at-byte}
 use Rattle.reader.specs.Parts.{ReadTo}
-use Rattle.reader.proofs.ReadingLaws.{listed-room, read-more}
+use Rattle.reader.proofs.LoadedLaws.{listed-room, read-more}
 use Rattle.reader.proofs.load_byte.Statement.{statement}
 use Rattle.reader.proofs.load_byte.Tie as tie
 
@@ -82,7 +82,7 @@ add-next c =
     let st4 = c .before .before .before .before in
     let st = st4 .before .before in
     let l = c .before .before .loop in
-    omega (arith, inside-map (c .before), standing-bound (st .args .bytes .now) (8 * st .args .i + l .k), st .pre .0 .few, l .inv .2 .place)
+    omega (arith, inside-map (c .before), bits-bound (st .args .bytes .now) (8 * st .args .i + l .k), st .pre .0 .few, l .inv .2 .place)
 
 add-k : tie.Need-add-k Inv-loop μ-loop
 add-k c = search needs

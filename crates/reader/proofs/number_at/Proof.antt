@@ -1,6 +1,6 @@
 -- `reader::number_at` meets its contract.
 use native.Mathlib.Omega.{arith}
-use Rattle.reader.proofs.ReadingLaws.{times-low, times-room, number-times}
+use Rattle.reader.proofs.LoadedLaws.{times-low, times-room, number-times}
 use Rattle.reader.proofs.number_at.Statement.{statement}
 use Rattle.reader.proofs.number_at.Tie as tie
 

@@ -1,7 +1,7 @@
 -- `reader::read_record` meets its contract.
 use mathlib.Core.Path.{_∙_, sym}
 use borrow.Author.Needs.{needs}
-use Rattle.reader.proofs.ReadingLaws.{readable, mapped-of, read-refused, read-accepted}
+use Rattle.reader.proofs.LoadedLaws.{readable, mapped-of, read-refused, read-accepted}
 use Rattle.reader.proofs.read_record.Statement.{statement}
 use Rattle.reader.proofs.read_record.Tie as tie
 

@@ -4,9 +4,9 @@ use mathlib.Core.Bool.{false, cond}
 use borrow.Author.Needs.{needs}
 use Rattle.cells.specs.Box.{triple}
 use Rattle.cells.specs.Extents.{offPlace}
-use Rattle.reader.specs.Reading.{refusalOf}
+use Rattle.reader.specs.Loaded.{refusalOf}
 use Rattle.extents.proofs.SizeLaws.{sized-at}
-use Rattle.reader.proofs.ReadingLaws.{refusal-short, refusal-size, refusal-tray, refusal-last}
+use Rattle.reader.proofs.LoadedLaws.{refusal-short, refusal-size, refusal-tray, refusal-last}
 use Rattle.reader.proofs.refusal.Statement.{statement}
 use Rattle.reader.proofs.refusal.Tie as tie
 

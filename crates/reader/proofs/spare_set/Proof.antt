@@ -10,7 +10,7 @@ use Rattle.lists.specs.Lists.{consecutive, someOf}
 use Rattle.lists.proofs.Lists.{consecutive-left}
 use Rattle.lists.proofs.Tests.{some-here, some-next, some-end}
 use Rattle.records.specs.Record.{bitAt, bitmapLength}
-use Rattle.reader.proofs.ReadingLaws.{none-left}
+use Rattle.reader.proofs.LoadedLaws.{none-left}
 use Rattle.reader.proofs.spare_set.Statement.{statement}
 use Rattle.reader.proofs.spare_set.Tie as tie
 

@@ -1,23 +1,23 @@
--- `reader::whole_bits` meets its contract. The loop's invariant: the standing bits of the first i bytes are counted.
+-- `reader::whole_bits` meets its contract. The loop's invariant: the bitsBefore bits of the first i bytes are counted.
 use Prim.Native.Nat.{_+_, _-_, _*_, _≤_}
 use mathlib.Core.Path.{_≡_, refl, _∙_, sym}
 use native.Mathlib.Omega.{arith}
 use borrow.Author.Needs.{needs}
 use Rattle.closure.specs.Numbered.{countBelow}
-use Rattle.records.specs.Record.{standing, bitmapLength}
-use Rattle.records.proofs.BitLaws.{standing-bound, standing-byte}
+use Rattle.records.specs.Record.{bitsBefore, bitmapLength}
+use Rattle.records.proofs.BitLaws.{bits-bound, bits-byte}
 use Rattle.reader.specs.Parts.{bitCount}
 use Rattle.reader.proofs.whole_bits.Statement.{statement}
 use Rattle.reader.proofs.whole_bits.Tie as tie
 
 abbrev Inv-loop : tie.InvT-loop
-Inv-loop bytes whole count₀ i₀ count i = (i ≤ whole) × (count ≡ standing bytes (8 * i))
+Inv-loop bytes whole count₀ i₀ count i = (i ≤ whole) × (count ≡ bitsBefore bytes (8 * i))
 
 abbrev μ-loop : tie.MeasureT-loop
 μ-loop bytes whole count₀ i₀ count i = whole - i
 
 loop-holds : tie.Need-loop-holds Inv-loop μ-loop
-unfolding standing countBelow
+unfolding bitsBefore countBelow
 loop-holds c = (omega arith, refl)
 
 add-ones : tie.Need-add-ones Inv-loop μ-loop
@@ -32,15 +32,15 @@ ones-requires c κs = search needs
 
 -- the bits of the byte are counted
 counted : (c : tie.After-ones Inv-loop μ-loop)
-    → let s = c .before .before .before in s .loop .count + c .ones .result ≡ standing (s .before .before .args .bytes .now) (8 * (s .loop .i + 1))
+    → let s = c .before .before .before in s .loop .count + c .ones .result ≡ bitsBefore (s .before .before .args .bytes .now) (8 * (s .loop .i + 1))
 unfolding bitCount
-counted c = let l = c .before .before .before .loop in rw (l .inv .1, c .ones .ensures) (sym (standing-byte _ (l .i) _ refl))
+counted c = let l = c .before .before .before .loop in rw (l .inv .1, c .ones .ensures) (sym (bits-byte _ (l .i) _ refl))
 
 add-count : tie.Need-add-count Inv-loop μ-loop
 add-count c =
     let st4 = c .before .before .before .before in
     let st = st4 .before in
-    omega (arith, counted c, standing-bound (st .args .bytes .now) (8 * (c .before .before .before .loop .i + 1)), st .pre .few)
+    omega (arith, counted c, bits-bound (st .args .bytes .now) (8 * (c .before .before .before .loop .i + 1)), st .pre .few)
 
 add-i : tie.Need-add-i Inv-loop μ-loop
 add-i c = search needs

@@ -11,7 +11,7 @@ use Rattle.lists.specs.Lists.{consecutive, someOf}
 use Rattle.lists.proofs.Lists.{consecutive-left}
 use Rattle.lists.proofs.Tests.{some-here, some-next, some-end}
 use Rattle.records.specs.Fields.{fieldAt}
-use Rattle.reader.proofs.ReadingLaws.{none-left}
+use Rattle.reader.proofs.LoadedLaws.{none-left}
 use Rattle.reader.proofs.zero_listed.Statement.{statement}
 use Rattle.reader.proofs.zero_listed.Tie as tie
 

@@ -1,7 +1,7 @@
 -- `reading_row::part` meets its contract.
 use borrow.Author.Needs.{needs}
 use Rattle.reading_row.specs.declared.Kind.{Kind}
-use Rattle.reading_row.proofs.ReadingLaws.{row-there, row-same}
+use Rattle.reading_row.proofs.RowLaws.{row-there, row-same}
 use Rattle.reading_row.proofs.part.Statement.{statement}
 use Rattle.reading_row.proofs.part.Tie as tie
 

@@ -2,7 +2,7 @@
 use borrow.Author.Needs.{needs}
 use Rattle.lists.proofs.Cases.{cond-here, cond-next, cond-not-here, cond-not-next}
 use Rattle.reading_row.specs.Inner.{refusalOf}
-use Rattle.reading_row.proofs.ReadingLaws.{number-told, tallies-off, tallies-on}
+use Rattle.reading_row.proofs.RowLaws.{number-told, tallies-off, tallies-on}
 use Rattle.reading_row.proofs.refuse.Statement.{statement}
 use Rattle.reading_row.proofs.refuse.Tie as tie
 

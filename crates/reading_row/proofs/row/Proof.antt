@@ -1,6 +1,6 @@
 -- `reading_row::row` meets its contract.
 use borrow.Author.Needs.{needs}
-use Rattle.reading_row.proofs.ReadingLaws.{ready, reading-refused, reading-accepted}
+use Rattle.reading_row.proofs.RowLaws.{ready, reading-refused, reading-accepted}
 use Rattle.reading_row.proofs.row.Statement.{statement}
 use Rattle.reading_row.proofs.row.Tie as tie
 

@@ -1,7 +1,7 @@
 -- `reading_row::row_of` meets its contract.
 use borrow.Author.Needs.{needs}
 use native.Mathlib.Omega.{arith}
-use Rattle.reading_row.proofs.ReadingLaws.{row-end, row-part}
+use Rattle.reading_row.proofs.RowLaws.{row-end, row-part}
 use Rattle.reading_row.proofs.row_of.Statement.{statement}
 use Rattle.reading_row.proofs.row_of.Tie as tie
 

@@ -1,6 +1,6 @@
 -- `reading_total::refuse` meets its contract.
 use borrow.Author.Needs.{needs}
-use Rattle.reading_total.proofs.TotalReadingLaws.{refuse-first, refuse-few, refuse-3, refuse-4, refuse-6, refuse-ready, refuse-8, refuse-0}
+use Rattle.reading_total.proofs.TotalLaws.{refuse-first, refuse-few, refuse-3, refuse-4, refuse-6, refuse-ready, refuse-8, refuse-0}
 use Rattle.reading_total.proofs.refuse.Statement.{statement}
 use Rattle.reading_total.proofs.refuse.Tie as tie
 

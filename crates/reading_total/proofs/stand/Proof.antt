@@ -1,6 +1,6 @@
 -- `reading_total::stand` meets its contract.
 use borrow.Author.Needs.{needs}
-use Rattle.reading_total.proofs.TotalReadingLaws.{stand-none, stand-held, stand-both}
+use Rattle.reading_total.proofs.TotalLaws.{stand-none, stand-holds, stand-both}
 use Rattle.reading_total.proofs.stand.Statement.{statement}
 use Rattle.reading_total.proofs.stand.Tie as tie
 
@@ -14,7 +14,7 @@ cell-count-requires : tie.Need-cell-count-requires
 cell-count-requires c κs = search needs
 
 both-stand-requires : tie.Need-both-stand-requires
-both-stand-requires c κs = search stand-held
+both-stand-requires c κs = search stand-holds
 
 returns-2 : tie.Need-returns-2
 returns-2 c = search stand-both

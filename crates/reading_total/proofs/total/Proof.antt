@@ -1,6 +1,6 @@
 -- `reading_total::total` meets its contract.
 use borrow.Author.Needs.{needs}
-use Rattle.reading_total.proofs.TotalReadingLaws.{ready-sized, ready-stands, total-refused, total-accepted}
+use Rattle.reading_total.proofs.TotalLaws.{ready-sized, ready-stands, total-refused, total-accepted}
 use Rattle.reading_total.proofs.total.Statement.{statement}
 use Rattle.reading_total.proofs.total.Tie as tie
 

@@ -1,6 +1,6 @@
 -- `step_open::accept` meets its contract.
 use borrow.Author.Needs.{needs}
-use Rattle.step_open.proofs.OpeningLaws.{all-cleared}
+use Rattle.step_open.proofs.DoneLaws.{all-cleared}
 use Rattle.step_open.proofs.accept.Statement.{statement}
 use Rattle.step_open.proofs.accept.Tie as tie
 

@@ -1,6 +1,6 @@
 -- `step_open::open` meets its contract.
 use borrow.Author.Needs.{needs}
-use Rattle.step_open.proofs.OpeningLaws.{open-refused, open-accepted}
+use Rattle.step_open.proofs.DoneLaws.{open-refused, open-accepted}
 use Rattle.step_open.proofs.open.Statement.{statement}
 use Rattle.step_open.proofs.open.Tie as tie
 

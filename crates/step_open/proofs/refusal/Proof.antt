@@ -3,7 +3,7 @@ use mathlib.Core.Path.{refl}
 use borrow.Author.Needs.{needs}
 use Rattle.lists.proofs.Cases.{cond-here, cond-next, cond-not-here, cond-not-next}
 use Rattle.step_open.specs.Inner.{refusalOf}
-use Rattle.step_open.proofs.OpeningLaws.{few, few-blocks, fitting-of}
+use Rattle.step_open.proofs.DoneLaws.{few, few-blocks, fitting-of}
 use Rattle.step_open.proofs.refusal.Statement.{statement}
 use Rattle.step_open.proofs.refusal.Tie as tie
 

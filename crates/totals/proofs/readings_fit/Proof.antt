@@ -1,7 +1,7 @@
 -- `totals::readings_fit` meets its contract.
 use borrow.Author.Needs.{needs}
 use native.Mathlib.Omega.{arith}
-use Rattle.lists.proofs.Tests.{Held, held-none, held-more}
+use Rattle.lists.proofs.Tests.{TrueBelow, true-below-none, true-below-more}
 use Prim.Native.Nat.{_-_, _≤_}
 use lib.ListN.{length}
 use Rattle.totals.specs.Totals.{fitsAt}
@@ -10,13 +10,13 @@ use Rattle.totals.proofs.readings_fit.Statement.{statement}
 use Rattle.totals.proofs.readings_fit.Tie as tie
 
 abbrev Inv-loop : tie.InvT-loop
-Inv-loop values kinds v₀ v = (v ≤ length values) × Held (fitsAt values kinds) v
+Inv-loop values kinds v₀ v = (v ≤ length values) × TrueBelow (fitsAt values kinds) v
 
 abbrev μ-loop : tie.MeasureT-loop
 μ-loop values kinds v₀ v = length values - v
 
 loop-holds : tie.Need-loop-holds Inv-loop μ-loop
-loop-holds c = (omega arith, held-none _)
+loop-holds c = (omega arith, true-below-none _)
 
 fits-at-requires : tie.Need-fits-at-requires Inv-loop μ-loop
 fits-at-requires c κs = search needs
@@ -31,7 +31,7 @@ loop-less : tie.Need-loop-less Inv-loop μ-loop
 loop-less c = search needs
 
 loop-again : tie.Need-loop-again Inv-loop μ-loop
-loop-again c = (search needs, held-more _ _ _ (c .before .before .before .loop .inv .1) (c .before .fits-at .ensures) (c .if1 .left))
+loop-again c = (search needs, true-below-more _ _ _ (c .before .before .before .loop .inv .1) (c .before .fits-at .ensures) (c .if1 .left))
 
 returns-2 : tie.Need-returns-2 Inv-loop μ-loop
 returns-2 c = search all-fitting

@@ -19,7 +19,7 @@ use Rattle.cutting.specs.Cutting.{blockExtents, blocks, goodCut}
 use Rattle.joiner.specs.Book.{Book, bookAdds, bookAfter, entered}
 use Rattle.joiner.specs.Calls.{Call, cross, point}
 use Rattle.joiner.specs.Declines.{adds}
-use Rattle.joiner.specs.Entries.{AtCrossing, CrossingDone, KeptNumbers, Merged, NumberedKind, PointDone, heads, joinedRow, leads, throughLinks}
+use Rattle.joiner.specs.Outcomes.{AtCrossing, CrossingDone, KeptNumbers, Merged, NumberedKind, PointDone, heads, joinedRow, leads, throughLinks}
 use Rattle.joiner.specs.Job.{Closed, Crossing, Curve, Face, Kind, Point, Points, Seam, Stage, State, Tables, Told, node, stageNumber, ticksPerBlock}
 use Rattle.joiner.specs.Stages.{crossingStep, pointStep, seamStep, stepsOf}
 use Rattle.lists.proofs.Cases.{by-test}

@@ -15,10 +15,10 @@ use Rattle.joiner.specs.Job.{Face, Curve, Point, State, width, listedTrays}
 use Rattle.joiner.specs.Job as joiner
 use Rattle.joiner.specs.Calls.{Call, reading, answer}
 use Rattle.joiner.specs.Declines.{adds, declines, lentTo, refusal, standsFor, talliesFit, tallyFits}
-use Rattle.joiner.specs.Entries.{CallStep, rowTaken}
+use Rattle.joiner.specs.Outcomes.{CallStep, rowTaken}
 use Rattle.joiner.proofs.Passed.{Passed, passed, fits-at, numbered-fits}
 use Rattle.job.specs.declared.Job.{Job}
-use Rattle.job.specs.Jobs.{jobOf, stateOf, anyCuts}
+use Rattle.job.specs.JobState.{jobOf, stateOf, anyCuts}
 use Rattle.judge.specs.Judge.{lengthsOf}
 use Rattle.judge.proofs.JudgeLaws.{lent-is, late-none, step-refused, step-accepted}
 use Rattle.reading_row.specs.declared.Kind.{Kind}

@@ -13,7 +13,7 @@ use Rattle.cells.specs.Extents.{Sized}
 use Rattle.cells.specs.Row.{rowOf}
 use Rattle.lines.specs.Lines.{odds, lineY, firstStride, LineAt}
 use Rattle.labels.specs.Components.{ofOrder}
-use Rattle.pass_point.specs.Findings.{finalIn}
+use Rattle.pass_point.specs.FoundPoints.{finalIn}
 use Rattle.strains.specs.declared.Reading.{Reading}
 use Rattle.totals.specs.Totals.{Taken, taken, slotOf}
 use Rattle.strain_calls.specs.Adding.{gathered, faceTaken}

@@ -11,18 +11,18 @@ use Rattle.lists.specs.Lists.{zeros}
 use Rattle.refusals.specs.Refusals.{number, table, first, givenBy, standsIn}
 use Rattle.cutting.specs.Cutting.{Cutting, blocks, goodCut, mostBlocks, FewBlocks}
 use Rattle.joiner.specs.Job.{Kind, Told, Tables, lengthsFit}
-use Rattle.joiner.specs.Entries.{allTrays}
+use Rattle.joiner.specs.Outcomes.{allTrays}
 use Rattle.strains.specs.Units.{plusZero}
 use Rattle.job.specs.declared.Job.{Job}
-use Rattle.job.specs.Jobs.{toldBy, toldOf, freshJob, stateOf, NoJob}
+use Rattle.job.specs.JobState.{toldBy, toldOf, freshJob, stateOf, NoJob}
 use Rattle.job.proofs.JobLaws.{fresh-of}
 use Rattle.judge.specs.declared.Lengths.{Lengths}
 use Rattle.judge.specs.Judge.{lengthsOf}
 use Rattle.judge.proofs.JudgeLaws.{all-is, few-of, count-few}
 use Rattle.strain_calls.specs.Tables.{TotalTables, totalTables, totalTrays, zeroed}
 use Rattle.strain_calls.specs.Declines.{openingDeclines, openingRefusal}
-use Rattle.strain_calls.specs.Entries.{TotalsOpening}
-use Rattle.strain_calls.proofs.OpeningLaws.{opening-fits}
+use Rattle.strain_calls.specs.Outcomes.{TotalsOpening}
+use Rattle.strain_calls.proofs.OpenLaws.{opening-fits}
 use Rattle.step_open.specs.declared.Opened.{Opened}
 use Rattle.step_open.specs.Inner.{tablesFit, refusalOf, accepted}
 

@@ -1,4 +1,4 @@
--- `ranking::place_firsts` meets its contract. The invariant: the first i of the listed have their numbers and places. The measure is what is left of the list.
+-- `ranking::place_leaders` meets its contract. The invariant: the first i of the listed have their numbers and places. The measure is what is left of the list.
 -- Assumes nothing.
 use Prim.Native.Nat.{_+_, _-_, _≤_, _<_}
 use mathlib.Core.Path.{_≡_, refl}
@@ -8,14 +8,14 @@ use borrow.Author.Needs.{needs}
 use Rattle.lists.specs.Lists.{overlay}
 use Rattle.lists.proofs.Overlay.{overlay-none, written-next, overlay-end}
 use Rattle.ranking.proofs.NumberLaws.{Placing, placing-none, placing-next, placed-end, listed-below, class-below, listed-same}
-use Rattle.ranking.proofs.place_firsts.Statement.{statement}
-use Rattle.ranking.proofs.place_firsts.Tie as tie
+use Rattle.ranking.proofs.place_leaders.Statement.{statement}
+use Rattle.ranking.proofs.place_leaders.Tie as tie
 
 abbrev Inv-loop : tie.InvT-loop
-Inv-loop classes firsts₀ spare₀ n h i₀ firsts spare i = (i ≤ h) × Placing classes spare₀ spare n i × (length firsts ≡ length firsts₀) × (firsts ≡ overlay firsts₀ 0 (λ j. getD spare₀ (n + j) 0) i)
+Inv-loop classes leaders₀ spare₀ n h i₀ leaders spare i = (i ≤ h) × Placing classes spare₀ spare n i × (length leaders ≡ length leaders₀) × (leaders ≡ overlay leaders₀ 0 (λ j. getD spare₀ (n + j) 0) i)
 
 abbrev μ-loop : tie.MeasureT-loop
-μ-loop classes firsts₀ spare₀ n h i₀ firsts spare i = h - i
+μ-loop classes leaders₀ spare₀ n h i₀ leaders spare i = h - i
 
 -- The place that is read, and its class.
 listed : (c : tie.In-loop Inv-loop μ-loop)
@@ -62,17 +62,17 @@ mul-spare c = omega (arith, class (c .before .before))
 slice-write-spare : tie.Need-slice-write-spare Inv-loop μ-loop
 slice-write-spare c = omega (arith, class (c .before .before), c .before .before .before .loop .inv .1 .done .long)
 
-cast-firsts : tie.Need-cast-firsts Inv-loop μ-loop
-cast-firsts c = omega (arith, listed (c .before .before))
+cast-leaders : tie.Need-cast-leaders Inv-loop μ-loop
+cast-leaders c = omega (arith, listed (c .before .before))
 
-cast-firsts-2 : tie.Need-cast-firsts-2 Inv-loop μ-loop
-cast-firsts-2 c = search needs
+cast-leaders-2 : tie.Need-cast-leaders-2 Inv-loop μ-loop
+cast-leaders-2 c = search needs
 
-mul-firsts : tie.Need-mul-firsts Inv-loop μ-loop
-mul-firsts c = search needs
+mul-leaders : tie.Need-mul-leaders Inv-loop μ-loop
+mul-leaders c = search needs
 
-slice-write-firsts : tie.Need-slice-write-firsts Inv-loop μ-loop
-slice-write-firsts c = search needs
+slice-write-leaders : tie.Need-slice-write-leaders Inv-loop μ-loop
+slice-write-leaders c = search needs
 
 add-i : tie.Need-add-i Inv-loop μ-loop
 add-i c = search needs
@@ -101,8 +101,8 @@ returns : tie.Need-returns Inv-loop μ-loop
 returns c = let a = c .before in
     (placed-end (a .loop .inv .0) (c .loop-test .left) (a .loop .inv .1), overlay-end _ _ _ _ _ _ (a .loop .inv .0) (c .loop-test .left) (a .loop .inv .3))
 
-pub place-firsts-spec : {M : Type 1} → statement M
-place-firsts-spec =
+pub place-leaders-spec : {M : Type 1} → statement M
+place-leaders-spec =
     tie.close
     (tie.spec
     Inv-loop
@@ -119,10 +119,10 @@ place-firsts-spec =
     cast-spare
     mul-spare
     slice-write-spare
-    cast-firsts
-    cast-firsts-2
-    mul-firsts
-    slice-write-firsts
+    cast-leaders
+    cast-leaders-2
+    mul-leaders
+    slice-write-leaders
     add-i
     loop-less
     loop-again

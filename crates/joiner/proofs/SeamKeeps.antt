@@ -14,7 +14,7 @@ use Rattle.cutting.specs.Cutting.{blockExtents, blocks, goodCut, seam}
 use Rattle.joiner.specs.Book.{Book, bookAdds, bookAfter, entered}
 use Rattle.joiner.specs.Calls.{Call, differs, join}
 use Rattle.joiner.specs.Declines.{adds}
-use Rattle.joiner.specs.Entries.{AtSeam, Merged, SeamDone, Ticked}
+use Rattle.joiner.specs.Outcomes.{AtSeam, Merged, SeamDone, Ticked}
 use Rattle.joiner.specs.Job.{Curve, Face, Kind, Seam, Stage, State, Told, node, stageNumber, ticksPerBlock}
 use Rattle.joiner.specs.Stages.{crossingStep, seamStep, shared, stepsOf}
 use Rattle.lists.proofs.Table.{at, every}

@@ -69,6 +69,6 @@ unfoldable pub rowFor : Triple → Block → List ℕ → ℕ → List ℕ
 rowFor v r m p = cond (eqb p 0) (rowOf []) (row (sizeOf r) m (localIn r (place (sides v) p)))
 
 -- The keys from `from` on hold the first positions of the numbers of order j.
-pub record Firsts (v : Triple) (r : Block) (m : List ℕ) (j : ℕ) (keys : List ℕ) (from count : ℕ) : Type 0 where
+pub record FirstKeys (v : Triple) (r : Block) (m : List ℕ) (j : ℕ) (keys : List ℕ) (from count : ℕ) : Type 0 where
   pub room : from + count ≤ length keys
   pub at : (i : ℕ) → i < count → keyPosition (getD keys (from + i) 0) ≡ firstIn v r (component (sizeOf r) m j (suc i))

@@ -5,7 +5,7 @@ use Prim.Native.Nat.{ℕ, _*_}
 use Rattle.cells.specs.Box.{triple}
 use Rattle.joiner.specs.Job.{Kind, Face, Curve, Point, Told, Tables, State, Tray, tray, numbersPerBlock, ticksPerBlock}
 use Rattle.joiner.specs.Job as joiner
-use Rattle.joiner.specs.Entries.{Unopened}
+use Rattle.joiner.specs.Outcomes.{Unopened}
 use Rattle.job.specs.declared.Stage.{Stage}
 use Rattle.job.specs.declared.Job.{Job}
 

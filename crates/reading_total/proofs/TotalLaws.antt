@@ -21,7 +21,7 @@ use Rattle.joiner.specs.Job as joiner
 use Rattle.joiner.specs.Declines.{talliesFit}
 use Rattle.blocks.specs.Blocks.{anyExtents}
 use Rattle.job.specs.declared.Job.{Job}
-use Rattle.job.specs.Jobs.{anyCuts, jobOf, stateOf, totalLengths}
+use Rattle.job.specs.JobState.{anyCuts, jobOf, stateOf, totalLengths}
 use Rattle.stages.specs.Ticks.{tickedIn}
 use Rattle.judge.specs.Judge.{firstRefusal, openedOf}
 use Rattle.judge.proofs.JudgeLaws.{or-first, or-then, or-none, opened-passed, few-of, number-of}
@@ -31,8 +31,8 @@ use Rattle.totals.specs.declared.Totals.{Totals}
 use Rattle.strain_calls.specs.Tables.{TotalTables, totalTables, totalTrays}
 use Rattle.strain_calls.specs.Calls.{total, strainAnswer, noSide, noTotals, allCome}
 use Rattle.strain_calls.specs.Declines.{hasCome, totalStands, strainDeclines, strainRefusal}
-use Rattle.strain_calls.specs.Entries.{StrainStep}
-use Rattle.strain_calls.proofs.HeldLaws.{trays-held, face-held}
+use Rattle.strain_calls.specs.Outcomes.{StrainStep}
+use Rattle.strain_calls.proofs.HeldLaws.{trays-hold, face-holds}
 use Rattle.reading_total.specs.Inner.{standIn, refusalOf}
 
 -- ---- the ways of the functions
@@ -43,8 +43,8 @@ module _ (j : Job) (sums : List Float) (counts : List ℕ) (n : ℕ) (t : Bool) 
   stand-none q cx cy cz = rw (sym (e cx cy cz) ∙ not-true t q)
 
   -- what `both_stand` requires
-  pub stand-held : not t ≡ false → n ≤ j .«numbered_faces» → Holds sums counts (j .«face_entries») → Holds sums counts n
-  stand-held q = face-held (jobOf j [] [] []) sums counts n (sym (e [] [] []) ∙ not-false t q)
+  pub stand-holds : not t ≡ false → n ≤ j .«numbered_faces» → Holds sums counts (j .«face_entries») → Holds sums counts n
+  stand-holds q = face-holds (jobOf j [] [] []) sums counts n (sym (e [] [] []) ∙ not-false t q)
 
   pub stand-both : not t ≡ false → (most : ℕ) → most ≡ cells (triple (j .nx) (j .ny) (j .nz)) → (r : Bool) → r ≡ bothStand most sums counts n
       → anyCuts (λ cx cy cz. r ≡ standIn (jobOf j cx cy cz) sums counts n)
@@ -58,7 +58,7 @@ pub refuse-ready : (j : Job) (cx cy cz : List ℕ) (number′ : ℕ) → number�
     → not t6 ≡ false → Sized 1024 (triple (j .nx) (j .ny) (j .nz)) × (0 < n) × (n ≤ j .«numbered_faces») × Holds sums counts (j .«face_entries»)
 refuse-ready j cx cy cz number′ e q n t4 e4 p4 count came sums counts t6 e6 p6 =
     let is = number-of n (j .«numbered_faces») (sym e4 ∙ not-false t4 p4) in
-    (opened-passed (jobOf j cx cy cz) Closed (sym e ∙ q) .sized, is .0, is .1, trays-held count (j .«face_entries») came sums counts (sym e6 ∙ not-false t6 p6))
+    (opened-passed (jobOf j cx cy cz) Closed (sym e ∙ q) .sized, is .0, is .1, trays-hold count (j .«face_entries») came sums counts (sym e6 ∙ not-false t6 p6))
 
 -- the rungs of `refuse`
 module _ (j : Job) (cx cy cz came : List ℕ) (sums : List Float) (counts : List ℕ) (n number′ : ℕ) (e : number′ ≡ openedOf (jobOf j cx cy cz) Closed) where
@@ -169,9 +169,9 @@ module _ (j : joiner.Job) (w : TotalTables) (n number′ : ℕ) (e : number′ �
   ready-stands most s =
       let is = number-of n (j .numbered Face) (rungs .1) in
       let stands = bothStand (cells (j .told .cutting .extents)) (w .sums) (w .counts) n in
-      let held = trays-held (blocks (j .told .cutting)) (j .told .entries Face) (length (w .came)) (w .sums) (w .counts) (rungs .2) in (
+      let held = trays-hold (blocks (j .told .cutting)) (j .told .entries Face) (length (w .came)) (w .sums) (w .counts) (rungs .2) in (
         is .0,
-        face-held j (w .sums) (w .counts) n (and-first (talliesFit j) stands (rungs .3)) (is .1) held,
+        face-holds j (w .sums) (w .counts) n (and-first (talliesFit j) stands (rungs .3)) (is .1) held,
         rw s (and-second (talliesFit j) stands (rungs .3)),
       )
 

@@ -26,12 +26,12 @@ use Rattle.cells.proofs.ExtentLaws.{cells-high}
 use Rattle.extents.proofs.SizeLaws.{sized-at}
 use Rattle.labels.specs.Components.{ofOrder}
 use Rattle.records.specs.Fields.{fieldAt}
-use Rattle.records.specs.Record.{extentsOf, originOf, bitAt, standing, bitmapLength, numberOf, decodeRecord, lengthOf, damaged}
-use Rattle.records.proofs.BitLaws.{standing-more}
-use Rattle.records.proofs.ReadLaws.{standing-mono}
+use Rattle.records.specs.Record.{extentsOf, originOf, bitAt, bitsBefore, bitmapLength, numberOf, decodeRecord, lengthOf, damaged}
+use Rattle.records.proofs.BitLaws.{bits-more}
+use Rattle.records.proofs.ReadLaws.{bits-mono}
 use Rattle.reader.specs.declared.Head.{Head}
 use Rattle.reader.specs.Parts.{Mapped, ReadTo, numberAt}
-use Rattle.reader.specs.Reading.{headed, declines, refusalOf, outcome, headOf, accepted, refused, reading}
+use Rattle.reader.specs.Loaded.{headed, declines, refusalOf, outcome, headOf, accepted, refused, reading}
 
 -- ---- tests
 
@@ -67,25 +67,25 @@ number-times r p (suc zero) x h e = mul-one x ∙ e ∙ rw (mul-one p)
 number-times r p (suc (suc b)) x h e = absurd (omega arith)
 
 -- The number of a cell, by its bit and the place of the next listed number.
-pub number-is : (n : ℕ) (r : List ℕ) (c b p : ℕ) → b ≡ bitAt r c → p ≡ 12 + bitmapLength n + 4 * standing r c → numberAt r b p ≡ numberOf n r c
+pub number-is : (n : ℕ) (r : List ℕ) (c b p : ℕ) → b ≡ bitAt r c → p ≡ 12 + bitmapLength n + 4 * bitsBefore r c → numberAt r b p ≡ numberOf n r c
 unfolding numberAt numberOf
 number-is n r c b p e f = rw (e, f)
 
 -- The number of a cell whose bit stands is there.
-pub listed-room : (n : ℕ) (r : List ℕ) (c : ℕ) → length r ≡ lengthOf n r → c < n → bitAt r c ≡ 1 → 12 + bitmapLength n + 4 * standing r c + 4 ≤ length r
+pub listed-room : (n : ℕ) (r : List ℕ) (c : ℕ) → length r ≡ lengthOf n r → c < n → bitAt r c ≡ 1 → 12 + bitmapLength n + 4 * bitsBefore r c + 4 ≤ length r
 unfolding lengthOf
-listed-room n r c e h b = omega (arith, standing-more r c, standing-mono r (c + 1) n (omega arith))
+listed-room n r c e h b = omega (arith, bits-more r c, bits-mono r (c + 1) n (omega arith))
 
 -- ---- the cells read so far: none, one more, all
 
 module _ (n : ℕ) (r m : List ℕ) where
   pub read-none : ReadTo r n 0 (12 + bitmapLength n) m
-  unfolding standing countBelow tabulate consecutive
+  unfolding bitsBefore countBelow tabulate consecutive
   read-none = record { place = omega arith; front = refl }
 
   pub read-more : {c p b v : ℕ} → ReadTo r n c p m → c < length m → b ≡ bitAt r c → v ≡ numberAt r b p → ReadTo r n (c + 1) (p + 4 * b) (set m c v)
   read-more {c} {p} {b} {v} R h e q = record {
-    place = omega (arith, R .place, e, standing-more r c);
+    place = omega (arith, R .place, e, bits-more r c);
     front = rw (add-one c, tabulate-snoc c (numberOf n r), ← R .front, ← number-is n r c b p e (R .place), ← q) (take-suc-set m c v h);
   }
 
@@ -96,8 +96,8 @@ module _ (n : ℕ) (r m : List ℕ) where
 -- ---- damage
 
 module _ (e : Triple) (r : List ℕ) where
-  -- Where n cells have k standing bits.
-  module _ {n k : ℕ} (i : n ≡ cells e) (j : k ≡ standing r n) where
+  -- Where n cells have k bitsBefore bits.
+  module _ {n k : ℕ} (i : n ≡ cells e) (j : k ≡ bitsBefore r n) where
     pub damaged-length : length r ≢ 12 + bitmapLength n + 4 * k → true ≡ damaged e r
     unfolding damaged lengthOf
     damaged-length d = rw (ne-eqb _ _ (rw (j, i) at d))

@@ -9,7 +9,7 @@ use Rattle.refusals.proofs.RefusalLaws.{given-none}
 use Rattle.cells.specs.Extents.{offSize}
 use Rattle.cutting.specs.Cutting.{goodCut}
 use Rattle.joiner.specs.Job.{Told, Tables, lengthsFit}
-use Rattle.joiner.specs.Entries.{allTrays, openDeclines, openRefusal}
+use Rattle.joiner.specs.Outcomes.{allTrays, openDeclines, openRefusal}
 use Rattle.strain_calls.specs.Tables.{TotalTables, totalTrays}
 use Rattle.strain_calls.specs.Declines.{openingDeclines, openingRefusal}
 

@@ -22,7 +22,7 @@ use Rattle.cutting.specs.Cutting.{Cutting, blockExtents, blocks, cutList, embed
 use Rattle.joiner.specs.Book.{Book, bookAdds, bookAfter, entered}
 use Rattle.joiner.specs.Calls.{Call, enrol}
 use Rattle.joiner.specs.Declines.{adds}
-use Rattle.joiner.specs.Entries.{EnrolDone, EnrolledKind, Ticked, blockEntry, enrolledKey, enrolledRow, firstOf, same}
+use Rattle.joiner.specs.Outcomes.{EnrolDone, EnrolledKind, Ticked, blockEntry, enrolledKey, enrolledRow, firstOf, same}
 use Rattle.joiner.specs.Job.{Curve, Enrol, Face, Kind, Point, Stage, State, Told, column, countOf, firstAt, fromOf, keyPosition, node, numbersPerBlock, orderOf, stageNumber, ticksPerBlock, width}
 use Rattle.joiner.specs.Stages.{crossingStep, enrolStep, seamStep, stepsOf}
 use Rattle.joiner.specs.Statement.{Labelling}

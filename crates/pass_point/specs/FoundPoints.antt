@@ -16,7 +16,7 @@ use Rattle.labels.specs.Components.{ofOrder}
 use Rattle.joiner.specs.Job.{keyOf}
 use Rattle.blocks.specs.Blocks.{sizeOf}
 use Rattle.blocks.specs.declared.Block.{Block}
-use Rattle.pass_enrol.specs.Enrolment.{positionIn}
+use Rattle.pass_enrol.specs.EnrolledRows.{positionIn}
 
 -- The final number of number n of the block: 0 stays 0.
 unfoldable pub finalIn : List ℕ → ℕ → ℕ → ℕ

@@ -16,7 +16,7 @@ use Rattle.cells.specs.Row.{active, row}
 use Rattle.labels.specs.Components.{firstCell, largest, ofOrder}
 use Rattle.cutting.specs.Cutting.{Cutting, blockExtents, blocks, embed, goodCut}
 use Rattle.cutting.specs.Nodes.{uncutMap}
-use Rattle.joiner.specs.Entries.{classOf, rowAt, rowFinal}
+use Rattle.joiner.specs.Outcomes.{classOf, rowAt, rowFinal}
 use Rattle.joiner.specs.Job.{Point, Tables, firstAt, keyOf, keyPosition}
 use Rattle.joiner.specs.Stages.{pointStep, shared}
 use Rattle.lists.proofs.Cases.{by-test}
@@ -28,9 +28,9 @@ use Rattle.labels.proofs.CountLaws.{Somewhere, every-number, firsts-ascend, lar
 use Rattle.labels.proofs.LabelLaws.{labels-numbering, numbered-active, point-alone}
 use Rattle.cutting.proofs.CutLaws.{InBlock, blocks-cover, embed-inside, embed-less, embed-order}
 use Rattle.cutting.proofs.SeamLaws.{point-block}
-use Rattle.joiner.proofs.Enrolling.{blocks-most}
+use Rattle.joiner.proofs.EnrolKeeps.{blocks-most}
 use Rattle.joiner.proofs.Keys.{key-first}
-use Rattle.joiner.proofs.Ranking.{Ranked}
+use Rattle.joiner.proofs.Ranked.{Ranked}
 
 module _ (k : Cutting) (good : goodCut k ≡ true) (codes : List ℕ) where
   -- the points of block b: its point cells that are active in the volume
@@ -222,14 +222,14 @@ module _ (k : Cutting) (good : goodCut k ≡ true) (codes : List ℕ) where
         let q : ℕ = firstCell (k .extents) (uncutMap k codes) 0 N in
         let f : Belongs (k .extents) (uncutMap k codes) 0 N q = belongs-at (k .extents) (uncutMap k codes) 0 N (r .p) (r .there .within) (r .there .level) (r .there .has) in
         let w : InBlock k q = blocks-cover k good q (f .within) in
-        let c : PointCell (w .b) (w .held .p) =
+        let c : PointCell (w .b) (w .has .p) =
         record {
-          within = w .held .within;
-          level = sym (embed-order k good (w .b) (w .listed) (w .held .p) (w .held .within)) ∙ ap (order (k .extents)) (w .held .is) ∙ f .level;
-          act = ap (active (k .extents) (uncutMap k codes)) (w .held .is) ∙ numbered-active (k .extents) codes q (f .within) (omega (arith, f .level)) (omega (arith, f .has));
+          within = w .has .within;
+          level = sym (embed-order k good (w .b) (w .listed) (w .has .p) (w .has .within)) ∙ ap (order (k .extents)) (w .has .is) ∙ f .level;
+          act = ap (active (k .extents) (uncutMap k codes)) (w .has .is) ∙ numbered-active (k .extents) codes q (f .within) (omega (arith, f .level)) (omega (arith, f .has));
         } in
-        let i = P .into (w .b) (w .held .p) (w .listed) (every (w .b) (w .listed)) (cell-in (w .b) (w .held .p) c) in
-        let e : firstAt t Point (i .0) ≡ q = i .2 ∙ w .held .is in
+        let i = P .into (w .b) (w .has .p) (w .listed) (every (w .b) (w .listed)) (cell-in (w .b) (w .has .p) c) in
+        let e : firstAt t Point (i .0) ≡ q = i .2 ∙ w .has .is in
         (i .0, i .1, ap (λ (y : ℕ). getD (uncutMap k codes) y 0) e ∙ f .has, e)
 
     pub ranked-points : Ranked t Point n (volPoint t) (λ N. firstCell (k .extents) (uncutMap k codes) 0 N) (largest (k .extents) (uncutMap k codes) 0)

@@ -14,7 +14,7 @@ use Rattle.union_find.specs.Links.{root}
 use Rattle.labels.specs.Components.{firstCell, largest}
 use Rattle.cutting.specs.Cutting.{Cutting, blockExtents, embed, goodCut}
 use Rattle.cutting.specs.Nodes.{Sees, part, uncutMap}
-use Rattle.joiner.specs.Entries.{classOf}
+use Rattle.joiner.specs.Outcomes.{classOf}
 use Rattle.joiner.specs.Job.{Curve, Face, Kind, Point, Tables, firstAt, node, orderOf}
 use Rattle.labels.proofs.ComponentLaws.{Belongs, belongs-at, least-at}
 use Rattle.labels.proofs.CountLaws.{Somewhere, every-number, firsts-ascend, largest-bound}
@@ -23,7 +23,7 @@ use Rattle.cutting.proofs.BlockLaws.{carried}
 use Rattle.cutting.proofs.CutLaws.{InBlock, blocks-cover, embed-le, embed-order}
 use Rattle.cutting.proofs.NodeLaws.{sees-active, sees-in, sees-order}
 use Rattle.joiner.proofs.Classes.{Layout, NodeAt, first-sees, node-inside, order-small, sees-most, sees-positive, vol, vol-node}
-use Rattle.joiner.proofs.Ranking.{Ranked}
+use Rattle.joiner.proofs.Ranked.{Ranked}
 
 class-root : (t : Tables) (κ : Kind) (x : ℕ) → 0 < orderOf κ → classOf t κ x ≡ root (t .links κ) x
 unfolding classOf
@@ -66,7 +66,7 @@ module _ (k : Cutting) (good : goodCut k ≡ true) (codes : List ℕ) (t : Table
     node t κ b o,
     node-inside k good codes t κ n lo lay s,
     num,
-    le-antisymm (subst (λ (y : ℕ). firstAt t κ (node t κ b o) ≤ y) (w .held .is) low) (subst (λ (y : ℕ). rootAt y ≤ firstAt t κ (node t κ b o)) num (facts (node t κ b o) (node-inside k good codes t κ n lo lay s) .begins)),
+    le-antisymm (subst (λ (y : ℕ). firstAt t κ (node t κ b o) ≤ y) (w .has .is) low) (subst (λ (y : ℕ). rootAt y ≤ firstAt t κ (node t κ b o)) num (facts (node t κ b o) (node-inside k good codes t κ n lo lay s) .begins)),
   )
     where
       r : Somewhere (k .extents) (uncutMap k codes) (orderOf κ) N
@@ -82,27 +82,27 @@ module _ (k : Cutting) (good : goodCut k ≡ true) (codes : List ℕ) (t : Table
       b = w .b
 
       q : ℕ
-      q = w .held .p
+      q = w .has .p
 
       o : ℕ
       o = getD (part k codes b) q 0
 
       level : order (blockExtents k b) q ≡ orderOf κ
-      level = sym (embed-order k good b (w .listed) q (w .held .within)) ∙ ap (order (k .extents)) (w .held .is) ∙ f .level
+      level = sym (embed-order k good b (w .listed) q (w .has .within)) ∙ ap (order (k .extents)) (w .has .is) ∙ f .level
 
       act : active (k .extents) (uncutMap k codes) (rootAt N) ≡ true
       act = numbered-active (k .extents) codes (rootAt N) (f .within) (omega (arith, f .level, order-small κ)) (omega (arith, f .has))
 
       s : Sees k codes (orderOf κ) b o q
-      s = record { listed = w .listed; within = w .held .within; level = level; act = carried k good codes (orderOf κ) lo (order-small κ) b (w .listed) .act q (w .held .within) level ∙ ap (active (k .extents) (uncutMap k codes)) (w .held .is) ∙ act; has = refl }
+      s = record { listed = w .listed; within = w .has .within; level = level; act = carried k good codes (orderOf κ) lo (order-small κ) b (w .listed) .act q (w .has .within) level ∙ ap (active (k .extents) (uncutMap k codes)) (w .has .is) ∙ act; has = refl }
 
       num : vol k codes t κ (node t κ b o) ≡ N
-      num = vol-node k good codes t κ n lo lay s ∙ ap (λ (y : ℕ). getD (uncutMap k codes) y 0) (w .held .is) ∙ f .has
+      num = vol-node k good codes t κ n lo lay s ∙ ap (λ (y : ℕ). getD (uncutMap k codes) y 0) (w .has .is) ∙ f .has
 
       low : firstAt t κ (node t κ b o) ≤ embed k b q
       low =
           subst (λ (y : ℕ). y ≤ embed k b q) (sym (lay .seen b o (w .listed) (sees-positive k good codes (orderOf κ) s) (sees-most k good codes (orderOf κ) s)))
-          (embed-le k good b (w .listed) (firstCell (blockExtents k b) (part k codes b) (orderOf κ) o) q (least-at (blockExtents k b) (part k codes b) (orderOf κ) o q (w .held .within) level refl) (w .held .within))
+          (embed-le k good b (w .listed) (firstCell (blockExtents k b) (part k codes b) (orderOf κ) o) q (least-at (blockExtents k b) (part k codes b) (orderOf κ) o q (w .has .within) level refl) (w .has .within))
 
   pub ranked-joined : Ranked t κ n (vol k codes t κ) (λ N. firstCell (k .extents) (uncutMap k codes) (orderOf κ) N) (largest (k .extents) (uncutMap k codes) (orderOf κ))
   ranked-joined =

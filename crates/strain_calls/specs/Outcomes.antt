@@ -7,7 +7,7 @@ use Prim.Native.Nat.{ℕ}
 use lib.ListN.{set}
 use lib.Ieee.{Float}
 use Rattle.joiner.specs.Job.{Face, Told, Job, Tables, State}
-use Rattle.joiner.specs.Entries.{Opened, Unopened}
+use Rattle.joiner.specs.Outcomes.{Opened, Unopened}
 use Rattle.totals.specs.Totals.{sumsWith, countsWith, totalsOf}
 use Rattle.totals.specs.declared.Totals.{Totals}
 use Rattle.strain_calls.specs.Tables.{TotalTables, totalTables, zeroed}

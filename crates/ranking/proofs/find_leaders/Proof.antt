@@ -1,23 +1,23 @@
--- `ranking::find_firsts` meets its contract. The invariant: each class has the first one of its first x places. The measure is what is left of the places.
+-- `ranking::find_leaders` meets its contract. The invariant: each class has the first one of its first x places. The measure is what is left of the places.
 -- Assumes nothing.
 use Prim.Native.Nat.{_-_, _≤_}
 use mathlib.Core.Path.{_≡_, refl, _∙_}
 use native.Mathlib.Omega.{arith}
 use lib.ListN.{length}
 use borrow.Author.Needs.{needs}
-use Rattle.ranking.proofs.FirstLaws.{firsts-none, firsts-next, length-entered, earlier-first}
-use Rattle.ranking.specs.Ranking.{Firsts}
-use Rattle.ranking.proofs.find_firsts.Statement.{statement}
-use Rattle.ranking.proofs.find_firsts.Tie as tie
+use Rattle.ranking.proofs.FirstLaws.{leaders-none, leaders-next, length-entered, earlier-first}
+use Rattle.ranking.specs.Ranking.{Leaders}
+use Rattle.ranking.proofs.find_leaders.Statement.{statement}
+use Rattle.ranking.proofs.find_leaders.Tie as tie
 
 abbrev Inv-loop : tie.InvT-loop
-Inv-loop keys classes firsts₀ n x₀ firsts x = (x ≤ n) × (length firsts ≡ length firsts₀) × Firsts keys classes x firsts
+Inv-loop keys classes leaders₀ n x₀ leaders x = (x ≤ n) × (length leaders ≡ length leaders₀) × Leaders keys classes x leaders
 
 abbrev μ-loop : tie.MeasureT-loop
-μ-loop keys classes firsts₀ n x₀ firsts x = n - x
+μ-loop keys classes leaders₀ n x₀ leaders x = n - x
 
 loop-holds : tie.Need-loop-holds Inv-loop μ-loop
-loop-holds c = (omega arith, refl, firsts-none _ _ _)
+loop-holds c = (omega arith, refl, leaders-none _ _ _)
 
 cast-c : tie.Need-cast-c Inv-loop μ-loop
 cast-c c = search needs
@@ -44,7 +44,7 @@ loop-again : tie.Need-loop-again Inv-loop μ-loop
 loop-again c = let e = c .before .before in
     let a = e .before .before .before .before in
     let s = a .before .before .before .before in
-    (omega arith, length-entered _ _ _ _ _ (e .enter .ensures) ∙ a .loop .inv .1, firsts-next _ _ _ _ _ (s .pre .0) (e .before .before .before .loop-test .taken) (a .loop .inv .2) (omega arith) _ (e .enter .ensures))
+    (omega arith, length-entered _ _ _ _ _ (e .enter .ensures) ∙ a .loop .inv .1, leaders-next _ _ _ _ _ (s .pre .0) (e .before .before .before .loop-test .taken) (a .loop .inv .2) (omega arith) _ (e .enter .ensures))
 
 same-length : tie.Need-same-length Inv-loop μ-loop
 same-length c = search needs
@@ -53,8 +53,8 @@ returns : tie.Need-returns Inv-loop μ-loop
 returns c = let a = c .before in
     let e : a .before .before .before .before .args .n ≡ a .loop .x = omega arith in (rw e (a .loop .inv .2), a .loop .inv .1)
 
-pub find-firsts-spec : {M : Type 1} → statement M
-find-firsts-spec =
+pub find-leaders-spec : {M : Type 1} → statement M
+find-leaders-spec =
     tie.close
     (tie.spec
     Inv-loop

@@ -1,4 +1,4 @@
--- `pass_first::mark_firsts` meets its contract. The loop's invariant: the first cells from cell p on are marked.
+-- `pass_first::mark_order` meets its contract. The loop's invariant: the first cells from cell p on are marked.
 use Prim.Native.Nat.{_≤_}
 use mathlib.Core.Path.{_≡_, refl}
 use native.Mathlib.Omega.{arith}
@@ -7,14 +7,14 @@ use borrow.Author.Needs.{needs}
 use Rattle.cells.specs.Box.{triple}
 use Rattle.pass_first.specs.Marks.{Marks}
 use Rattle.pass_first.proofs.MarkLaws.{marks-start, marks-down, marks-all}
-use Rattle.pass_first.proofs.mark_firsts.Statement.{statement}
-use Rattle.pass_first.proofs.mark_firsts.Tie as tie
+use Rattle.pass_first.proofs.mark_order.Statement.{statement}
+use Rattle.pass_first.proofs.mark_order.Tie as tie
 
 abbrev Inv-loop : tie.InvT-loop
-Inv-loop map nx ny nz j firsts₀ p₀ firsts p = (p ≤ length map) × (length firsts ≡ length firsts₀) × Marks (triple nx ny nz) map j p firsts
+Inv-loop map nx ny nz j marks₀ p₀ marks p = (p ≤ length map) × (length marks ≡ length marks₀) × Marks (triple nx ny nz) map j p marks
 
 abbrev μ-loop : tie.MeasureT-loop
-μ-loop map nx ny nz j firsts₀ p₀ firsts p = p
+μ-loop map nx ny nz j marks₀ p₀ marks p = p
 
 loop-holds : tie.Need-loop-holds Inv-loop μ-loop
 loop-holds c = (omega arith, refl, search marks-start)
@@ -37,8 +37,8 @@ same-length c = search needs
 returns : tie.Need-returns Inv-loop μ-loop
 returns c = search marks-all
 
-pub mark-firsts-spec : {M : Type 1} → statement M
-mark-firsts-spec =
+pub mark-order-spec : {M : Type 1} → statement M
+mark-order-spec =
     tie.close
     (tie.spec
     Inv-loop

@@ -1,16 +1,16 @@
--- `reader::standing_bits` meets its contract. The loop's invariant: the standing bits of the first c cells are counted.
+-- `reader::count_bits` meets its contract. The loop's invariant: the bitsBefore bits of the first c cells are counted.
 use Prim.Native.Nat.{_-_, _≤_, _<_}
 use mathlib.Core.Path.{_≡_, _∙_}
 use native.Mathlib.Omega.{arith}
 use borrow.Author.Needs.{needs}
-use Rattle.records.specs.Record.{standing, bitmapLength}
-use Rattle.records.proofs.BitLaws.{standing-more, standing-bound}
+use Rattle.records.specs.Record.{bitsBefore, bitmapLength}
+use Rattle.records.proofs.BitLaws.{bits-more, bits-bound}
 use Rattle.records.proofs.ReadLaws.{bit-at-lt}
-use Rattle.reader.proofs.standing_bits.Statement.{statement}
-use Rattle.reader.proofs.standing_bits.Tie as tie
+use Rattle.reader.proofs.count_bits.Statement.{statement}
+use Rattle.reader.proofs.count_bits.Tie as tie
 
 abbrev Inv-loop : tie.InvT-loop
-Inv-loop bytes n whole count₀ c₀ count c = (c ≤ n) × (count ≡ standing bytes c)
+Inv-loop bytes n whole count₀ c₀ count c = (c ≤ n) × (count ≡ bitsBefore bytes c)
 
 abbrev μ-loop : tie.MeasureT-loop
 μ-loop bytes n whole count₀ c₀ count c = n - c
@@ -40,7 +40,7 @@ add-count : tie.Need-add-count Inv-loop μ-loop
 add-count c =
     let st4 = c .before .before .before .before in
     let st = st4 .before in
-    omega (arith, bit c, standing-bound (st .args .bytes .now) (c .before .before .loop .c), st .pre .few)
+    omega (arith, bit c, bits-bound (st .args .bytes .now) (c .before .before .loop .c), st .pre .few)
 
 add-c : tie.Need-add-c Inv-loop μ-loop
 add-c c = search needs
@@ -53,7 +53,7 @@ loop-again c =
     let r4 = c .before .before .before .before in
     let r = r4 .before .args .bytes .now in
     let l = c .before .before .loop in
-    (omega arith, omega (arith, c .bit-at .ensures, standing-more r (l .c)))
+    (omega arith, omega (arith, c .bit-at .ensures, bits-more r (l .c)))
 
 returns : tie.Need-returns Inv-loop μ-loop
 returns c =
@@ -61,8 +61,8 @@ returns c =
     let e : l .c ≡ c .before .before .before .before .args .n = omega arith in
     l .inv .1 ∙ rw e
 
-pub standing-bits-spec : {M : Type 1} → statement M
-standing-bits-spec =
+pub count-bits-spec : {M : Type 1} → statement M
+count-bits-spec =
     tie.close
     (tie.spec
     Inv-loop

@@ -1,29 +1,29 @@
--- `ranking::list_firsts` meets its contract. The invariant: the first ones below x are listed. The measure is what is left of the places.
+-- `ranking::list_leaders` meets its contract. The invariant: the first ones below x are listed. The measure is what is left of the places.
 -- Assumes nothing.
 use Prim.Native.Nat.{ℕ, _-_, _≤_}
 use mathlib.Core.Path.{_≡_, subst}
 use native.Mathlib.Omega.{arith}
 use borrow.Author.Needs.{needs}
-use Rattle.ranking.specs.Ranking.{Standing}
-use Rattle.ranking.proofs.StandingLaws.{standing-none, standing-next, standing-long, standing-most}
-use Rattle.ranking.proofs.list_firsts.Statement.{statement}
-use Rattle.ranking.proofs.list_firsts.Tie as tie
+use Rattle.ranking.specs.Ranking.{LeadersListed}
+use Rattle.ranking.proofs.LeaderLists.{leaders-none, leaders-next, leaders-long, leaders-most}
+use Rattle.ranking.proofs.list_leaders.Statement.{statement}
+use Rattle.ranking.proofs.list_leaders.Tie as tie
 
 abbrev Inv-loop : tie.InvT-loop
-Inv-loop classes spare₀ n h₀ x₀ spare h x = (x ≤ n) × Standing classes n x h spare₀ spare
+Inv-loop classes spare₀ n h₀ x₀ spare h x = (x ≤ n) × LeadersListed classes n x h spare₀ spare
 
 abbrev μ-loop : tie.MeasureT-loop
 μ-loop classes spare₀ n h₀ x₀ spare h x = n - x
 
 loop-holds : tie.Need-loop-holds Inv-loop μ-loop
-loop-holds c = (omega arith, standing-none _ _ _)
+loop-holds c = (omega arith, leaders-none _ _ _)
 
 list-first-requires : tie.Need-list-first-requires Inv-loop μ-loop
 list-first-requires c κs = let a = c .before .before in
     let s = a .before .before .before in
     let l = s .pre .0 .low (a .loop .x) (c .before .loop-test .taken) in
-    let m = standing-long (a .loop .inv .1) in
-    let o = standing-most (a .loop .inv .1) in ((omega arith, omega arith), (omega arith, omega arith))
+    let m = leaders-long (a .loop .inv .1) in
+    let o = leaders-most (a .loop .inv .1) in ((omega arith, omega arith), (omega arith, omega arith))
 
 add-x : tie.Need-add-x Inv-loop μ-loop
 add-x c = search needs
@@ -35,19 +35,19 @@ loop-again : tie.Need-loop-again Inv-loop μ-loop
 loop-again c = let f = c .before .before in
     let a = f .before .before .before in
     let l = f .before .before .loop-test .taken in
-    (omega arith, standing-next _ _ _ _ _ _ (a .loop .inv .1) (omega (arith, a .before .before .before .pre .0 .low (a .loop .x) l)) _ _ (f .list-first .ensures .0) (f .list-first .ensures .1))
+    (omega arith, leaders-next _ _ _ _ _ _ (a .loop .inv .1) (omega (arith, a .before .before .before .pre .0 .low (a .loop .x) l)) _ _ (f .list-first .ensures .0) (f .list-first .ensures .1))
 
 same-length : tie.Need-same-length Inv-loop μ-loop
-same-length c = standing-long (c .before .loop .inv .1)
+same-length c = leaders-long (c .before .loop .inv .1)
 
 returns : tie.Need-returns Inv-loop μ-loop
 returns c = let a = c .before in
     let s = a .before .before .before in
     let e : a .loop .x ≡ s .args .n = omega arith in
-    subst (λ (y : ℕ). Standing (s .args .classes .now) (s .args .n) y (a .loop .h) (s .args .spare .now) (a .loop .spare)) e (a .loop .inv .1)
+    subst (λ (y : ℕ). LeadersListed (s .args .classes .now) (s .args .n) y (a .loop .h) (s .args .spare .now) (a .loop .spare)) e (a .loop .inv .1)
 
-pub list-firsts-spec : {M : Type 1} → statement M
-list-firsts-spec =
+pub list-leaders-spec : {M : Type 1} → statement M
+list-leaders-spec =
     tie.close
     (tie.spec
     Inv-loop

@@ -15,7 +15,7 @@ use borrow.Author.Tests.{eq-eqb, eqb-false, eqb-true, le-leb, leb-false, leb-tru
 use Rattle.lists.specs.Lists.{consecutive, keep}
 use Rattle.cells.specs.Grid.{upperNeighbours}
 use Rattle.cells.specs.Row.{once}
-use Rattle.joiner.specs.Entries.{classOf, headOf, heads, isOne, leads, notAfter, rank}
+use Rattle.joiner.specs.Outcomes.{classOf, headOf, heads, isOne, leads, notAfter, rank}
 use Rattle.joiner.specs.Job.{Kind, Tables, firstAt}
 use Rattle.lists.proofs.Cases.{and-both, and-first, and-second, by-test, or-cases, or-left, or-right}
 use Rattle.lists.proofs.Lists.{Ascends, ascends-consecutive, ascends-keep, ascends-le, consecutive-in, consecutive-out, keep-in, keep-out}
