@@ -35,7 +35,7 @@ use Rattle.job.proofs.JobLaws.{fits-append}
 use Rattle.stages.specs.Ticks.{tickedIn}
 use Rattle.strain_calls.specs.Calls.{strain, listsFit}
 use Rattle.strain_calls.specs.Declines.{hasCome, lentFor, totalStands, faceStands, facesStand, strainDeclines, strainRefusal}
-use Rattle.strain_calls.proofs.HeldLaws.{face-holds}
+use Rattle.strain_calls.proofs.HoldsLaws.{face-holds}
 
 -- ---- the lengths
 

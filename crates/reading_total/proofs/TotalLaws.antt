@@ -32,7 +32,7 @@ use Rattle.strain_calls.specs.Tables.{TotalTables, totalTables, totalTrays}
 use Rattle.strain_calls.specs.Calls.{total, strainAnswer, noSide, noTotals, allCome}
 use Rattle.strain_calls.specs.Declines.{hasCome, totalStands, strainDeclines, strainRefusal}
 use Rattle.strain_calls.specs.Outcomes.{StrainStep}
-use Rattle.strain_calls.proofs.HeldLaws.{trays-hold, face-holds}
+use Rattle.strain_calls.proofs.HoldsLaws.{trays-hold, face-holds}
 use Rattle.reading_total.specs.Inner.{standIn, refusalOf}
 
 -- ---- the ways of the functions
@@ -169,9 +169,9 @@ module _ (j : joiner.Job) (w : TotalTables) (n number′ : ℕ) (e : number′ �
   ready-stands most s =
       let is = number-of n (j .numbered Face) (rungs .1) in
       let stands = bothStand (cells (j .told .cutting .extents)) (w .sums) (w .counts) n in
-      let held = trays-hold (blocks (j .told .cutting)) (j .told .entries Face) (length (w .came)) (w .sums) (w .counts) (rungs .2) in (
+      let holds = trays-hold (blocks (j .told .cutting)) (j .told .entries Face) (length (w .came)) (w .sums) (w .counts) (rungs .2) in (
         is .0,
-        face-holds j (w .sums) (w .counts) n (and-first (talliesFit j) stands (rungs .3)) (is .1) held,
+        face-holds j (w .sums) (w .counts) n (and-first (talliesFit j) stands (rungs .3)) (is .1) holds,
         rw s (and-second (talliesFit j) stands (rungs .3)),
       )
 

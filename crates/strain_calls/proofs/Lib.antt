@@ -1,4 +1,4 @@
 -- The laws of the definitions in specs/.
 pub mod OpenLaws
 pub mod ListedLaws
-pub mod HeldLaws
+pub mod HoldsLaws
