@@ -30,7 +30,7 @@ line-at-requires c κs = search needs
 
 loop-holds : tie.Need-loop-holds Inv-loop μ-loop
 unfolding sides
-loop-holds c = let L = c .line-at .ensures in (walk-first L, ap (some _) (cells-first L (order-tests _ 3 _ (omega arith))))
+loop-holds c = let L = c .line-at .ensures in (walk-first L, ap (someOf _) (cells-first L (order-tests _ 3 _ (omega arith))))
 
 -- The cell at x lies in the grid.
 inside : (c : tie.After-struct-known2 Inv-loop μ-loop) → let turn = c .before .before .before in let a = turn .before .before .before .args in

@@ -42,7 +42,7 @@ mul-lines-3 c = omega (arith, lines-high (c .before .pre .0))
 
 loop-holds : tie.Need-loop-holds Inv-loop μ-loop
 unfolding ofOrder
-loop-holds c = (omega arith, ap (some _) (lines-first _ _))
+loop-holds c = (omega arith, ap (someOf _) (lines-first _ _))
 
 line-clear-requires : tie.Need-line-clear-requires Inv-loop μ-loop
 unfolding lineCount sides
