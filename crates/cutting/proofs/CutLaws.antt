@@ -263,6 +263,30 @@ module _ (k : Cutting) (good : goodCut k ≡ true) (b : ℕ) (hb : b < blocks k)
       by-test (ltb p q) (λ t. absurd (omega (arith, embed-less p q (ltb-true p q t) hq)))
       (λ t. by-test (ltb q p) (λ u. absurd (omega (arith, embed-less q p (ltb-true q p u) hp))) (λ u. omega (arith, ltb-false p q t, ltb-false q p u)))
 
+-- ---- a place of the volume that lies in a block
+
+module _ (k : Cutting) (good : goodCut k ≡ true) (b : ℕ) (hb : b < blocks k) (c : Triple) where
+  -- its place in the block
+  abbrev pub localPlace : Triple
+  localPlace = each (λ a. coord c a - 2 * coord (origin k b) a)
+
+  pub local-in-block : ((a : Axis) → 2 * coord (origin k b) a ≤ coord c a) → ((a : Axis) → coord c a < 2 * coord (origin k b) a + coord (sides (blockExtents k b)) a)
+      → (index (sides (blockExtents k b)) localPlace < cells (blockExtents k b)) × (embed k b (index (sides (blockExtents k b)) localPlace) ≡ index (sides (k .extents)) c)
+  unfolding cells
+  local-in-block low high = (index-inside s localPlace d-in, embed-at k good b hb localPlace d-in ∙ ap (index (sides (k .extents))) back)
+    where
+      s : Triple
+      s = sides (blockExtents k b)
+
+      d-is : (a : Axis) → coord localPlace a ≡ coord c a - 2 * coord (origin k b) a
+      d-is a = coord-each (λ a′. coord c a′ - 2 * coord (origin k b) a′) a
+
+      d-in : Inside s localPlace
+      d-in a = omega (arith, d-is a, low a, high a)
+
+      back : shiftInto k b localPlace ≡ c
+      back = same-triple (shiftInto k b localPlace) c (λ a. omega (arith, shift-on k b localPlace a, d-is a, low a))
+
 -- ---- which block holds which cell of the volume
 
 module _ (k : Cutting) (good : goodCut k ≡ true) (b : ℕ) (hb : b < blocks k) (t : ℕ) where
@@ -283,26 +307,10 @@ module _ (k : Cutting) (good : goodCut k ≡ true) (b : ℕ) (hb : b < blocks k)
       }
 
   pub spans-has : ((a : Axis) → Spans (cuts k a) (interval k b a) (coord (place (sides (k .extents)) t) a)) → BlockHas k b t
-  unfolding cells
-  spans-has r = record { p = index s d; within = index-inside s d d-in; is = embed-at k good b hb d d-in ∙ ap (index (sides (k .extents))) back ∙ index-place (sides (k .extents)) t }
-    where
-      c : Triple
-      c = place (sides (k .extents)) t
-
-      s : Triple
-      s = sides (blockExtents k b)
-
-      d : Triple
-      d = each (λ a. coord c a - 2 * coord (origin k b) a)
-
-      d-is : (a : Axis) → coord d a ≡ coord c a - 2 * coord (origin k b) a
-      d-is a = coord-each (λ a′. coord c a′ - 2 * coord (origin k b) a′) a
-
-      d-in : Inside s d
-      d-in a = omega (arith, d-is a, origin-on k b a, extent-on k b a, side-on (blockExtents k b) a, r a .above, r a .below)
-
-      back : shiftInto k b d ≡ c
-      back = same-triple (shiftInto k b d) c (λ a. omega (arith, shift-on k b d a, d-is a, origin-on k b a, r a .above))
+  spans-has r =
+      let c : Triple = place (sides (k .extents)) t in
+      let h = local-in-block k good b hb c (λ a. omega (arith, origin-on k b a, r a .above)) (λ a. omega (arith, origin-on k b a, extent-on k b a, side-on (blockExtents k b) a, r a .above, r a .below)) in
+      record { p = index (sides (blockExtents k b)) (localPlace k good b hb c); within = h .0; is = h .1 ∙ index-place (sides (k .extents)) t }
 
 -- the block at a place of the grid of blocks
 pub block-in : (k : Cutting) (at : Triple) → Inside (blockSides k) at → index (blockSides k) at < blocks k

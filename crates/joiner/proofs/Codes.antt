@@ -28,7 +28,7 @@ use Rattle.cells.proofs.BoxLaws.{Inside, coord-each, index-inside, index-place,
 use Rattle.cells.proofs.GridLaws.{cell-voxel, side-on, voxel-cell-inside, voxel-inside}
 use Rattle.labels.proofs.LabelLaws.{labels-numbering, numbering-unique}
 use Rattle.cutting.proofs.BlockLaws.{block-code}
-use Rattle.cutting.proofs.CutLaws.{InBlock, Spans, blocks-cover, embed-at, embed-inside, embed-order, embed-same, extent-on, has-spans, its-interval, origin-on, shiftInto, shift-on}
+use Rattle.cutting.proofs.CutLaws.{InBlock, Spans, blocks-cover, embed-at, embed-inside, embed-order, embed-same, extent-on, has-spans, its-interval, origin-on, shiftInto, shift-on, local-in-block}
 use Rattle.cutting.proofs.SeamLaws.{seam-path}
 use Rattle.joiner.proofs.Shared.{Shares, shared-in}
 
@@ -51,23 +51,8 @@ module _ (k : Cutting) (good : goodCut k ≡ true) (b : ℕ) (hb : b < blocks k)
 
   -- a cell that a block has stands in it at `local`
   pub cell-in-block : (c : Triple) → hasCell k b c ≡ true → (local k b c < cells (blockExtents k b)) × (embed k b (local k b c) ≡ index (sides (k .extents)) c)
-  unfolding local cells
-  cell-in-block c t = (index-inside s d d-in, embed-at k good b hb d d-in ∙ ap (index (sides (k .extents))) back)
-    where
-      s : Triple
-      s = sides (blockExtents k b)
-
-      d : Triple
-      d = each (λ a. coord c a - 2 * coord (origin k b) a)
-
-      d-is : (a : Axis) → coord d a ≡ coord c a - 2 * coord (origin k b) a
-      d-is a = coord-each (λ a′. coord c a′ - 2 * coord (origin k b) a′) a
-
-      d-in : Inside s d
-      d-in a = omega (arith, d-is a, has-low c t a, has-high c t a)
-
-      back : shiftInto k b d ≡ c
-      back = same-triple (shiftInto k b d) c (λ a. omega (arith, shift-on k b d a, d-is a, has-low c t a))
+  unfolding local
+  cell-in-block c t = local-in-block k good b hb c (has-low c t) (has-high c t)
 
   pub block-has-cell : (t : ℕ) → BlockHas k b t → hasCell k b (place (sides (k .extents)) t) ≡ true
   unfolding hasCell hasOn

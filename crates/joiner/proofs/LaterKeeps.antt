@@ -30,7 +30,7 @@ use Rattle.joiner.proofs.Inv.{CrossEdge, EdgeDone, In, Inv, SeamEdge}
 use Rattle.joiner.proofs.Later.{Later, after, cross-inside, edge-inside, inv-later, move-cross, move-seam, same-node, same-sofar, seam-there}
 use Rattle.joiner.proofs.Progress.{crossing-level, point-level, seam-level, stepStage}
 use Rattle.joiner.proofs.Roots.{Connected, connected-more, together-map}
-use Rattle.joiner.proofs.Sizes.{Sizes}
+use Rattle.joiner.proofs.Sizes.{Sizes, SameLengths, sizes-after}
 use Rattle.joiner.proofs.Passed.{Passed, stage-same}
 
 pub heads-most : (t : Tables) (κ : Kind) (n : ℕ) → length (heads t κ n) ≤ n
@@ -122,29 +122,16 @@ module _ (o : Told) (own : ℕ → List ℕ) (good : goodCut (o .cutting) ≡ tr
         go Curve (inr n) = left (D .before n .1)
         go Point q = left (D .points)
 
-    record Lengths (κ : Kind) : Type 0 where
-      numbers : length (t .tables .numbers κ) ≡ length (s .tables .numbers κ)
-      firsts : length (t .tables .firsts κ) ≡ length (s .tables .firsts κ)
-      listed : length (t .tables .listed κ) ≡ length (s .tables .listed κ)
-      most : t .job .numbered κ ≤ s .job .sofar κ
+    lengths : (κ : Kind) → Numbers₁ κ → SameLengths (s .tables) (t .tables) κ
+    lengths κ (made N) = record { numbers = ap length (N .numbers) ∙ length-overlay _ _ _ _; firsts = N .firsts-long; listed = N .listed-long }
+    lengths κ (left K) = record { numbers = ap length (K .numbers); firsts = ap length (K .firsts); listed = ap length (K .listed) }
 
-    lengths : (κ : Kind) → Numbers₁ κ → Lengths κ
-    lengths κ (made N) = record { numbers = ap length (N .numbers) ∙ length-overlay _ _ _ _; firsts = N .firsts-long; listed = N .listed-long; most = numbered-most s t κ (s .job .sofar κ) N }
-    lengths κ (left K) = record { numbers = ap length (K .numbers); firsts = ap length (K .firsts); listed = ap length (K .listed); most = omega (arith, K .numbered, I .numbered κ) }
+    most : (κ : Kind) → Numbers₁ κ → t .job .numbered κ ≤ s .job .sofar κ
+    most κ (made N) = numbered-most s t κ (s .job .sofar κ) N
+    most κ (left K) = omega (arith, K .numbered, I .numbered κ)
 
     sizes₁ : Sizes o (t .tables)
-    sizes₁ =
-        record {
-          ticks-long = ap length (D .step .ticks) ∙ length-set (s .tables .ticks) _ 1 ∙ I .sizes .ticks-long;
-          blocks-long = ap length (D .blocks) ∙ I .sizes .blocks-long;
-          face-links = D .faces .size ∙ I .sizes .face-links;
-          curve-links = D .curves .size ∙ I .sizes .curve-links;
-          keys-long = λ κ. ap length (D .found κ .keys) ∙ I .sizes .keys-long κ;
-          rows-long = λ κ. ap length (D .found κ .rows) ∙ I .sizes .rows-long κ;
-          numbers-long = λ κ. lengths κ (numbers₁ κ) .numbers ∙ I .sizes .numbers-long κ;
-          firsts-long = λ κ. lengths κ (numbers₁ κ) .firsts ∙ I .sizes .firsts-long κ;
-          listed-long = λ κ. lengths κ (numbers₁ κ) .listed ∙ I .sizes .listed-long κ;
-        }
+    sizes₁ = sizes-after (I .sizes) (D .step .ticks) (D .blocks) (D .faces .size) (D .curves .size) (D .found) (λ κ. lengths κ (numbers₁ κ))
 
     low₁ : st₁ < ticksPerBlock * blocks (o .cutting)
     low₁ = omega (arith, hb)
@@ -203,7 +190,7 @@ module _ (o : Told) (own : ℕ → List ℕ) (good : goodCut (o .cutting) ≡ tr
     pub cross-keeps : Inv o own (bookAfter B (cross b (own b))) t
     unfolding bookAfter
     cross-keeps =
-        inv-later o own good B s I every t c₁ st₁ L₁ (λ κ. omega (arith, lengths κ (numbers₁ κ) .most, same-sofar o own good B s I every t c₁ st₁ L₁ κ (none₁ κ))) (faces-kept t c₁ st₁ L₁ late₁ (D .faces .roots) (D .faces .sound)) curves₁
+        inv-later o own good B s I every t c₁ st₁ L₁ (λ κ. omega (arith, most κ (numbers₁ κ), same-sofar o own good B s I every t c₁ st₁ L₁ κ (none₁ κ))) (faces-kept t c₁ st₁ L₁ late₁ (D .faces .roots) (D .faces .sound)) curves₁
         (λ d e w m. I .layers d e w (seam-done t c₁ st₁ L₁ late₁ (edge d e) m))
 
   -- ---- a point step

@@ -24,7 +24,7 @@ use Rattle.joiner.proofs.Progress.{crossing-level, seam-level, stepStag
 use Rattle.joiner.proofs.Roots.{Connected, connected-more}
 use Rattle.joiner.proofs.SeamSteps.{axis-bound, seam-in, seam-step-same}
 use Rattle.joiner.proofs.Shared.{seam-listed}
-use Rattle.joiner.proofs.Sizes.{Sizes}
+use Rattle.joiner.proofs.Sizes.{Sizes, sizes-after}
 use Rattle.joiner.proofs.Passed.{Passed}
 
 module _ (o : Told) (own : ℕ → List ℕ) (good : goodCut (o .cutting) ≡ true) (B : Book) (s : State) (I : Inv o own B s) (every : (b : ℕ) → b < blocks (o .cutting) → In o own B b)
@@ -45,17 +45,8 @@ module _ (o : Told) (own : ℕ → List ℕ) (good : goodCut (o .cutting) ≡ tr
 
   sizes′ : Sizes o (t .tables)
   sizes′ =
-      record {
-        ticks-long = ap length (D .step .ticks) ∙ length-set (s .tables .ticks) _ 1 ∙ I .sizes .ticks-long;
-        blocks-long = ap length (D .blocks) ∙ I .sizes .blocks-long;
-        face-links = D .faces .size ∙ I .sizes .face-links;
-        curve-links = D .curves .size ∙ I .sizes .curve-links;
-        keys-long = λ κ. ap length (D .found κ .keys) ∙ I .sizes .keys-long κ;
-        rows-long = λ κ. ap length (D .found κ .rows) ∙ I .sizes .rows-long κ;
-        numbers-long = λ κ. ap length (D .numbers κ .numbers) ∙ I .sizes .numbers-long κ;
-        firsts-long = λ κ. ap length (D .numbers κ .firsts) ∙ I .sizes .firsts-long κ;
-        listed-long = λ κ. ap length (D .numbers κ .listed) ∙ I .sizes .listed-long κ;
-      }
+      sizes-after (I .sizes) (D .step .ticks) (D .blocks) (D .faces .size) (D .curves .size) (D .found)
+      (λ κ. record { numbers = ap length (D .numbers κ .numbers); firsts = ap length (D .numbers κ .firsts); listed = ap length (D .numbers κ .listed) })
 
   step-low′ : st < ticksPerBlock * blocks (o .cutting)
   unfolding seamStep

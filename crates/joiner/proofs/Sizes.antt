@@ -2,16 +2,16 @@
 -- Assumes nothing.
 use mathlib.Core.Bool.{_&&_, true}
 use mathlib.Core.List.{List, [], _++_, _∷_}
-use mathlib.Core.Path.{_≡_, refl}
+use mathlib.Core.Path.{_≡_, refl, ap, _∙_}
 use Prim.Native.Nat.{_*_, ℕ}
 use lib.Dec.{eqb}
-use lib.ListN.{length}
+use lib.ListN.{length, set, length-set}
 use borrow.Author.Tests.{eq-eqb, eqb-true}
 use Rattle.cutting.specs.Cutting.{blocks}
 use Rattle.joiner.specs.Calls.{Call, cross, enrol, join, look, point, reading}
 use Rattle.joiner.specs.Declines.{lentTo}
-use Rattle.joiner.specs.Outcomes.{allTrays}
-use Rattle.joiner.specs.Job.{Curve, Face, Kind, Point, Tables, Told, Tray, blockTrays, firstTrays, lengthsFit, foundTrays, kindTrays, linkTrays, listedTrays, numberTrays, tray, width, ticksPerBlock, numbersPerBlock}
+use Rattle.joiner.specs.Outcomes.{allTrays, KeptFound}
+use Rattle.joiner.specs.Job.{Curve, Face, Kind, Point, State, Tables, Told, Tray, blockTrays, firstTrays, lengthsFit, foundTrays, kindTrays, linkTrays, listedTrays, numberTrays, tray, width, ticksPerBlock, numbersPerBlock}
 use Rattle.lists.proofs.Cases.{and-both, and-first, and-second}
 
 pub record Sizes (o : Told) (t : Tables) : Type 0 where
@@ -24,6 +24,28 @@ pub record Sizes (o : Told) (t : Tables) : Type 0 where
   pub numbers-long : (κ : Kind) → length (t .numbers κ) ≡ o .entries κ
   pub firsts-long : (κ : Kind) → length (t .firsts κ) ≡ o .entries κ
   pub listed-long : (κ : Kind) → length (t .listed κ) ≡ width κ * o .entries κ
+
+-- The sizes after a step that ticks, keeps what is found and writes only behind or over numbers, first positions and closed rows.
+pub record SameLengths (s t : Tables) (κ : Kind) : Type 0 where
+  pub numbers : length (t .numbers κ) ≡ length (s .numbers κ)
+  pub firsts : length (t .firsts κ) ≡ length (s .firsts κ)
+  pub listed : length (t .listed κ) ≡ length (s .listed κ)
+
+pub sizes-after : {o : Told} {s t : State} {i : ℕ} → Sizes o (s .tables) → t .tables .ticks ≡ set (s .tables .ticks) i 1 → t .tables .blocks ≡ s .tables .blocks
+    → length (t .tables .links Face) ≡ length (s .tables .links Face) → length (t .tables .links Curve) ≡ length (s .tables .links Curve)
+    → ((κ : Kind) → KeptFound s t κ) → ((κ : Kind) → SameLengths (s .tables) (t .tables) κ) → Sizes o (t .tables)
+sizes-after {s = s} S ticks blocks faces curves found lengths =
+    record {
+      ticks-long = ap length ticks ∙ length-set (s .tables .ticks) _ 1 ∙ S .ticks-long;
+      blocks-long = ap length blocks ∙ S .blocks-long;
+      face-links = faces ∙ S .face-links;
+      curve-links = curves ∙ S .curve-links;
+      keys-long = λ κ. ap length (found κ .keys) ∙ S .keys-long κ;
+      rows-long = λ κ. ap length (found κ .rows) ∙ S .rows-long κ;
+      numbers-long = λ κ. lengths κ .numbers ∙ S .numbers-long κ;
+      firsts-long = λ κ. lengths κ .firsts ∙ S .firsts-long κ;
+      listed-long = λ κ. lengths κ .listed ∙ S .listed-long κ;
+    }
 
 -- two lists of tables that fit
 pub fits-both : (xs ys : List Tray) → lengthsFit xs ≡ true → lengthsFit ys ≡ true → lengthsFit (xs ++ ys) ≡ true

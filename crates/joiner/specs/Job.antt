@@ -70,6 +70,20 @@ pub record Tables : Type 0 where
   pub firsts : Kind → List ℕ
   pub listed : Kind → List ℕ
 
+-- The tables with other ticks.
+abbrev pub withTicks : Tables → List ℕ → Tables
+withTicks t ticks =
+    record {
+      ticks = ticks;
+      blocks = t .blocks;
+      links = t .links;
+      keys = t .keys;
+      rows = t .rows;
+      numbers = t .numbers;
+      firsts = t .firsts;
+      listed = t .listed;
+    }
+
 -- The job and its tables, as a call finds or leaves them.
 pub record State : Type 0 where
   pub job : Job

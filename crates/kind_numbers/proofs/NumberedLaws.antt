@@ -12,6 +12,7 @@ use Rattle.joiner.specs.Job.{Kind, Face, Curve, width, Tables, State}
 use Rattle.joiner.specs.Outcomes.{classOf, headOf, rowFinal, NumberedKind}
 use Rattle.joiner.proofs.LaterKeeps.{heads-most}
 use Rattle.ranking.specs.Ranking.{anyKind, Ranked}
+use Rattle.ranking.proofs.KindLaws.{tableOf}
 use Rattle.closed_tables.specs.ClosedTables.{positionAt, entryAt, curveRow}
 use Rattle.closed_tables.proofs.ClosedLaws.{closed-firsts-front, closed-copied, closed-curves, closed-front}
 use Rattle.kind_numbers.specs.Numbered.{Numbered, anyCopied, anyCurves}
@@ -38,29 +39,16 @@ times-low w h = mul-le-mul (le-refl w) h
 pub rank-room : (w n l : ℕ) → 2 ≤ w → w * n ≤ l → 2 * n ≤ l
 rank-room w n l h r = omega (arith, mul-le-mul-right n h)
 
--- Tables with these links and keys.
-tablesOf : List ℕ → List ℕ → Tables
-tablesOf links keys = record {
-  ticks = [];
-  blocks = [];
-  links = λ κ. links;
-  keys = λ κ. keys;
-  rows = λ κ. [];
-  numbers = λ κ. [];
-  firsts = λ κ. [];
-  listed = λ κ. [];
-}
-
 -- There are no more numbers than components, so all rows have room.
 module _ (links keys numbers numbers′ firsts places : List ℕ) (n total : ℕ) (R : anyKind links keys (λ t κ. Ranked t κ n total numbers numbers′ firsts places)) where
-  ranked-one : Ranked (tablesOf links keys) Face n total numbers numbers′ firsts places
-  unfolding tablesOf classOf
-  ranked-one = R (tablesOf links keys) Face refl (λ x. refl)
+  ranked-one : Ranked (tableOf links keys) Face n total numbers numbers′ firsts places
+  unfolding tableOf classOf
+  ranked-one = R (tableOf links keys) Face refl (λ x. refl)
 
   pub rows-room : (w : ℕ) {listed spare : ℕ} → spare ≡ listed → n ≤ length firsts → w * n ≤ listed → (total ≤ length places) × (w * total ≤ spare)
   rows-room w same fit room =
-      let few : total ≤ n = omega (arith, ranked-one .total, heads-most (tablesOf links keys) Face n) in
-      (omega (arith, ap length (ranked-one .places), length-overlay firsts 0 (λ i. headOf (tablesOf links keys) Face n (suc i)) total), omega (arith, times-low w few))
+      let few : total ≤ n = omega (arith, ranked-one .total, heads-most (tableOf links keys) Face n) in
+      (omega (arith, ap length (ranked-one .places), length-overlay firsts 0 (λ i. headOf (tableOf links keys) Face n (suc i)) total), omega (arith, times-low w few))
 
 -- ---- what the passes leave
 

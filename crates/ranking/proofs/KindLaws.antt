@@ -89,7 +89,7 @@ module _ (links keys xs cs ss ys ws : List ℕ) (n h : ℕ) (lh : h ≤ n) (lx :
 -- ---- `rank_kind`
 
 -- Tables with these links and keys.
-tableOf : List ℕ → List ℕ → Tables
+unfoldable pub tableOf : List ℕ → List ℕ → Tables
 tableOf links keys = record {
   ticks = [];
   blocks = [];

@@ -10,7 +10,7 @@ use borrow.Author.Tests.{not-false}
 use Rattle.lists.specs.Lists.{zeros}
 use Rattle.refusals.specs.Refusals.{number, table, first, givenBy, standsIn}
 use Rattle.cutting.specs.Cutting.{Cutting, blocks, goodCut, mostBlocks, FewBlocks}
-use Rattle.joiner.specs.Job.{Kind, Told, Tables, lengthsFit}
+use Rattle.joiner.specs.Job.{Kind, Told, Tables, lengthsFit, withTicks}
 use Rattle.joiner.specs.Outcomes.{allTrays}
 use Rattle.strains.specs.Units.{plusZero}
 use Rattle.job.specs.declared.Job.{Job}
@@ -54,19 +54,6 @@ fitting-of k n z came sums counts u b e h = rw (← e) h
 
 -- ---- the ways of `open`
 
-abbrev pub ticksSet : Tables → List ℕ → Tables
-ticksSet t ticks =
-    record {
-      ticks = ticks;
-      blocks = t .blocks;
-      links = t .links;
-      keys = t .keys;
-      rows = t .rows;
-      numbers = t .numbers;
-      firsts = t .firsts;
-      listed = t .listed;
-    }
-
 -- what `accept` leaves of the tables of readings
 pub all-cleared : (came : List ℕ) (sums : List Float) (counts came′ : List ℕ) (sums′ : List Float) (counts′ : List ℕ)
     → came′ ≡ zeros (length came) → sums′ ≡ map (λ x. plusZero) sums → counts′ ≡ zeros (length counts)
@@ -90,7 +77,7 @@ module _ (nx ny nz : ℕ) (cx cy cz : List ℕ) (faces curves points : ℕ) (t :
       }
 
   pub open-accepted : n ≡ 0 → (r : Opened) (ticks : List ℕ) (v : TotalTables) → (r ≡ accepted j) × (ticks ≡ zeros (length (t .ticks))) × (v ≡ zeroed w)
-      → TotalsOpening (toldBy nx ny nz cx cy cz faces curves points) t w (r .refusal) (stateOf (r .job) cx cy cz (ticksSet t ticks)) v
+      → TotalsOpening (toldBy nx ny nz cx cy cz faces curves points) t w (r .refusal) (stateOf (r .job) cx cy cz (withTicks t ticks)) v
   open-accepted z r ticks v u =
       rw (u .0, e) (record {
         told = sym z ∙ refusal-told;

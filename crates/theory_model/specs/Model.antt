@@ -13,7 +13,7 @@ use Rattle.cells.specs.Grid.{order, upperNeighbours}
 use Rattle.cells.specs.Row.{sameRow}
 use Rattle.labels.specs.Components.{ofOrder}
 use Rattle.cutting.specs.Cutting.{Cutting, blockExtents, embed}
-use Rattle.joiner.specs.Job.{Kind, Face, Curve, Point, orderOf, width, Enrol, Points, Closed, sameStage, Told, Job, Tables, State, ticked, node, keyOf, firstAt, numbersPerBlock}
+use Rattle.joiner.specs.Job.{Kind, Face, Curve, Point, orderOf, width, Enrol, Points, Closed, sameStage, Told, Job, Tables, State, ticked, node, keyOf, firstAt, numbersPerBlock, withTicks}
 use Rattle.joiner.specs.Stages.{products, shared, enrolStep, seamStep, crossingStep, pointStep, nextAfter}
 use Rattle.joiner.specs.Calls.{Call, enrol, join, cross, point, look, reading, Answer, answer}
 use Rattle.joiner.specs.Declines.{finalRow, pointCells, adds, refusal}
@@ -206,17 +206,7 @@ unfoldable pub freshJob : Told → Job
 freshJob o = record { told = o; stage = Enrol; sofar = λ κ. 0; numbered = λ κ. 0 }
 
 unfoldable pub cleared : Tables → Tables
-cleared t =
-    record {
-      ticks = zeros (length (t .ticks));
-      blocks = t .blocks;
-      links = t .links;
-      keys = t .keys;
-      rows = t .rows;
-      numbers = t .numbers;
-      firsts = t .firsts;
-      listed = t .listed;
-    }
+cleared t = withTicks t (zeros (length (t .ticks)))
 
 unfoldable pub openedState : Told → Tables → State
 openedState o lent =
