@@ -302,10 +302,6 @@ line-odd n q w {s} {x} e l o h =
     picked P (eqb n q) 0 (cond (eqb n (suc q)) 1 w) (λ t i. omega (arith, eqb-true n q t))
     (λ _. picked P (eqb n (suc q)) 1 w (λ t i. omega (arith, eqb-true n (suc q) t)) (λ _ i. absurd (omega arith))) e
 
--- So has the first one.
-pub first-passes : (n q w : ℕ) → firstX n q w < w → (firstX n q w < 2) × (n ≡ firstX n q w + q)
-first-passes n q w h = let r = line-odd n q w {x = firstX n q w} refl (omega arith) refl h in omega arith
-
 -- A test for the order o of a cell, as one for its odd axes k, of which there are at most 3.
 pub order-odd : (o j k : ℕ) → j ≤ 3 → k ≤ 3 → o ≡ 3 - k → eqb o j ≡ eqb (3 - j) k
 order-odd o j k h i e =

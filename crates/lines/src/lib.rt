@@ -15,7 +15,7 @@ ghost use Rattle.cells.specs.Row.{row};
 ghost use Rattle.lines.specs.Lines.{odds, lineCount, lineY, lineZ, firstX, firstStride, lastStride, Strided, LineAt, StridedAt};
 
 // Where the cells of a line with n odd axes begin, if q axes of the line are odd and it has w cells.
-pub fn first_x(n: usize, q: usize, w: usize) -> usize
+fn first_x(n: usize, q: usize, w: usize) -> usize
     ensures { λ r. ⌜ r ≡ firstX n q w ⌝ }
 {
     if n == q {
@@ -37,7 +37,7 @@ pub fn first_stride(x: usize, y: usize, w: usize, wh: usize) -> usize
 }
 
 // The last stride of two or more odd axes, by the parity of z.
-pub fn last_stride(z: usize, w: usize, wh: usize) -> usize
+fn last_stride(z: usize, w: usize, wh: usize) -> usize
     ensures { λ r. ⌜ r ≡ lastStride z w wh ⌝ }
 {
     stride(3 + 4 * (z % 2), 2 + 2 * (z % 2), w, wh)

@@ -58,10 +58,12 @@ lay-codes-requires c κs =
     (omega (arith, st .pre .0), omega (arith, r, st .pre .1), omega (arith, r, st .pre .2, told .line-with .ensures .base))
 
 write-zeros-requires : tie.Need-write-zeros-requires
+unfolding sides
 write-zeros-requires c κs =
     let told = c .before .before .before in
     let st = entry told in
-    omega (arith, walk-room (told .line-with .ensures) (st .pre .3), st .pre .2)
+    let L = told .line-with .ensures in
+    omega (arith, walk-room L (st .pre .3), L .width, st .pre .0, st .pre .2)
 
 same-length : tie.Need-same-length
 same-length c = search needs
