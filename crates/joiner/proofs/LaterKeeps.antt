@@ -131,7 +131,7 @@ module _ (o : Told) (own : ℕ → List ℕ) (good : goodCut (o .cutting) ≡ tr
     most κ (left K) = omega (arith, K .numbered, I .numbered κ)
 
     sizes₁ : Sizes o (t .tables)
-    sizes₁ = sizes-after (I .sizes) (D .step .ticks) (D .blocks) (D .faces .size) (D .curves .size) (D .found) (λ κ. lengths κ (numbers₁ κ))
+    sizes₁ = sizes-after o s t _ (I .sizes) (D .step .ticks) (D .blocks) (D .faces .size) (D .curves .size) (D .found) (λ κ. lengths κ (numbers₁ κ))
 
     low₁ : st₁ < ticksPerBlock * blocks (o .cutting)
     low₁ = omega (arith, hb)

@@ -45,7 +45,7 @@ module _ (o : Told) (own : ℕ → List ℕ) (good : goodCut (o .cutting) ≡ tr
 
   sizes′ : Sizes o (t .tables)
   sizes′ =
-      sizes-after (I .sizes) (D .step .ticks) (D .blocks) (D .faces .size) (D .curves .size) (D .found)
+      sizes-after o s t _ (I .sizes) (D .step .ticks) (D .blocks) (D .faces .size) (D .curves .size) (D .found)
       (λ κ. record { numbers = ap length (D .numbers κ .numbers); firsts = ap length (D .numbers κ .firsts); listed = ap length (D .numbers κ .listed) })
 
   step-low′ : st < ticksPerBlock * blocks (o .cutting)

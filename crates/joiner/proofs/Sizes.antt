@@ -31,12 +31,12 @@ pub record SameLengths (s t : Tables) (κ : Kind) : Type 0 where
   pub firsts : length (t .firsts κ) ≡ length (s .firsts κ)
   pub listed : length (t .listed κ) ≡ length (s .listed κ)
 
-pub sizes-after : {o : Told} {s t : State} {i : ℕ} → Sizes o (s .tables) → t .tables .ticks ≡ set (s .tables .ticks) i 1 → t .tables .blocks ≡ s .tables .blocks
+pub sizes-after : (o : Told) (s t : State) (i : ℕ) → Sizes o (s .tables) → t .tables .ticks ≡ set (s .tables .ticks) i 1 → t .tables .blocks ≡ s .tables .blocks
     → length (t .tables .links Face) ≡ length (s .tables .links Face) → length (t .tables .links Curve) ≡ length (s .tables .links Curve)
     → ((κ : Kind) → KeptFound s t κ) → ((κ : Kind) → SameLengths (s .tables) (t .tables) κ) → Sizes o (t .tables)
-sizes-after {s = s} S ticks blocks faces curves found lengths =
+sizes-after o s t i S ticks blocks faces curves found lengths =
     record {
-      ticks-long = ap length ticks ∙ length-set (s .tables .ticks) _ 1 ∙ S .ticks-long;
+      ticks-long = ap length ticks ∙ length-set (s .tables .ticks) i 1 ∙ S .ticks-long;
       blocks-long = ap length blocks ∙ S .blocks-long;
       face-links = faces ∙ S .face-links;
       curve-links = curves ∙ S .curve-links;

@@ -1,12 +1,13 @@
 -- `writer::has_blank_voxel` meets its contract. The loop's invariant: the answer is that of the lines from l on.
-use Prim.Native.Nat.{_-_, _≤_}
+use Prim.Native.Nat.{ℕ, _+_, _-_, _*_, _≤_}
+use mathlib.Core.List.{List}
 use mathlib.Core.Path.{_≡_, ap, _∙_, sym}
 use native.Mathlib.Omega.{arith}
 use lib.ListN.{getD}
 use lib.Dec.{eqb}
 use borrow.Author.Needs.{needs}
-use Rattle.lists.specs.Lists.{someOf}
-use Rattle.cells.specs.Box.{triple}
+use Rattle.lists.specs.Lists.{consecutive, keep, someOf}
+use Rattle.cells.specs.Box.{Triple, triple}
 use Rattle.cells.specs.Grid.{sides, order}
 use Rattle.lines.specs.Lines.{lineCount}
 use Rattle.lines.proofs.LineLaws.{lines-high}
@@ -48,9 +49,21 @@ blank-on-requires : tie.Need-blank-on-requires Inv-loop μ-loop
 unfolding lineCount sides
 blank-on-requires c κs = search needs
 
+-- The voxels of the line that the loop has come to, and those of the lines after it.
+abbrev extents : tie.At-loop Inv-loop μ-loop → Triple
+extents d = let a = d .before .before .args in triple (a .nx) (a .ny) (a .nz)
+
+abbrev voxels-here : tie.At-loop Inv-loop μ-loop → List ℕ
+voxels-here d = let e = extents d in keep (λ p. eqb (order e p) 3) (consecutive (d .loop .l * sides e .x) (sides e .x))
+
+abbrev voxels-after : tie.At-loop Inv-loop μ-loop → List ℕ
+voxels-after d = let e = extents d in onwards (λ p. eqb (order e p) 3) e (d .loop .l + 1)
+
 returns : tie.Need-returns Inv-loop μ-loop
 unfolding lineCount sides
-returns c = some-part _ _ _ (c .before .before .before .loop .inv .1) (lines-next _ _ (c .before .before .loop-test .taken)) (sym (c .if1 .taken) ∙ c .before .blank-on .ensures)
+returns c =
+    let d = c .before .before .before in
+    some-part _ (voxels-here d) (voxels-after d) (d .loop .inv .1) (lines-next _ _ (c .before .before .loop-test .taken)) (sym (c .if1 .taken) ∙ c .before .blank-on .ensures)
 
 add-l : tie.Need-add-l Inv-loop μ-loop
 unfolding lineCount sides
@@ -65,7 +78,7 @@ loop-again : tie.Need-loop-again Inv-loop μ-loop
 unfolding lineCount sides
 loop-again c =
     let h = c .before .before .loop-test .taken in
-    (omega arith, some-rest _ _ _ (c .before .before .before .loop .inv .1) (lines-next _ _ h) (sym (c .if1 .left) ∙ c .before .blank-on .ensures))
+    (omega arith, some-rest _ (voxels-here (c .before .before .before)) (voxels-after (c .before .before .before)) (c .before .before .before .loop .inv .1) (lines-next _ _ h) (sym (c .if1 .left) ∙ c .before .blank-on .ensures))
 
 returns-2 : tie.Need-returns-2 Inv-loop μ-loop
 unfolding lineCount sides
