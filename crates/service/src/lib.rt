@@ -9,7 +9,9 @@ use lists::read_or_zero;
 use maxima::most_components;
 use methods::Joining;
 use reader::read_record;
+use reading_cell::Found;
 use reading_row::Kind;
+use reading_total::Totalled;
 use writer::write_record;
 ghost use mathlib.Core.Path.{_≡_};
 ghost use Rattle.joiner.specs.Job.{Face, Curve, Point};
@@ -411,7 +413,7 @@ pub extern "C" fn tugrelis_lookup(
     let joining = Joining {
         job: job_in(job, Stage::Enrol),
     };
-    let r = joining.lookup(
+    let r: Found = joining.lookup(
         cx,
         cy,
         cz,
@@ -496,7 +498,7 @@ pub extern "C" fn tugrelis_total(
     let joining = Joining {
         job: job_in(job, Stage::Enrol),
     };
-    let r = joining.total(cx, cy, cz, came, face_sums, face_counts, number);
+    let r: Totalled = joining.total(cx, cy, cz, came, face_sums, face_counts, number);
     if r.refusal == 0 {
         let lower = r.totals.lower;
         let higher = r.totals.higher;
