@@ -30,7 +30,7 @@ EXPORT = re.compile(r'\s*(?:unfoldable |abbrev )?pub (?:unfoldable |abbrev )?(?!
 IMPORT = re.compile(r'^' + WORDS + r'use ([^\s{;]+?)\.\{([^}]*)\}', re.M)
 TYPE = re.compile(r'\s*' + WORDS + r'(data|record) ([^\s:({]+)')
 NAMES = re.compile(r'\s*' + WORDS + r'(let )?((?:[^\s:({})=λ.→]+ )+): ')
-CHAIN = re.compile(r'(?:\s\.before){5}')
+CHAIN = re.compile(r'(?:\s\.before\)*){5}')
 ASKED = re.compile(r'\s*(?:pub )?\S+ : (?:tie\.|\{M : Type 1\} → statement M)')
 
 
@@ -131,6 +131,9 @@ def untrue(crates, texts):
                 yield f'crates.txt: {crate} {"uses" if used else "lists"} {name} and {"does not list it" if used else "does not use it"}'
         if level != 1 + max((crates[name][1] for name in own), default=-1):
             yield f'crates.txt: {crate} does not stand under the heading of its level'
+    levels = [level for _, level in crates.values()]
+    if levels != sorted(levels):
+        yield 'crates.txt: the levels do not ascend'
 
 
 def main():

@@ -11,7 +11,7 @@ use Rattle.joiner.specs.Job.{Kind, width, Told, Tables, State}
 use Rattle.joiner.specs.Calls.{Call, reading, Answer, answer}
 use Rattle.joiner.specs.Outcomes.{CallStep}
 use Rattle.joiner.specs.Book.{begun}
-use Rattle.joiner.specs.Statement.{Entry, Run, Fair, Labelling, Measured}
+use Rattle.joiner.specs.Statement.{Event, Run, Fair, Labelling, Measured}
 use Rattle.joiner.proofs.Statement3.{statement3}
 use Rattle.job.specs.declared.Job.{Job}
 use Rattle.job.specs.declared.Stage.{Stage}
@@ -105,7 +105,7 @@ exported-step (read other X) N = (reading-kept _ _ _ _ _ N _ _ _ (X .step) _ (ro
 -- ---- a list of calls
 
 -- A list of exported calls is one of the joiner's.
-pub exported-run : {k : Kept} {es : List Entry} → ExportedCalls k es → OfJob (numbersKept k) → Run (stateKept k) es
+pub exported-run : {k : Kept} {es : List Event} → ExportedCalls k es → OfJob (numbersKept k) → Run (stateKept k) es
 exported-run none N = Run.none
 exported-run (next C L) N = let S = exported-step C N in Run.next (S .0) (exported-run L (S .1))
 
@@ -121,7 +121,7 @@ opened-kept {o = o} {lent = lent} {left = left} {w = w} {w′ = w′} X =
     subst (λ j. OpenedTotals o lent w (stateOf j (o .cutting .cx) (o .cutting .cy) (o .cutting .cz) left) w′) (sym (told-job (opened-numbers X) Stage.Enrol)) O
 
 -- Statement 3 for the exports.
-pub exports3 : (o : Told) (lent left : Tables) (w w′ : TotalTables) (ns ns′ : List ℕ) (own : ℕ → List ℕ) (es : List Entry)
+pub exports3 : (o : Told) (lent left : Tables) (w w′ : TotalTables) (ns ns′ : List ℕ) (own : ℕ → List ℕ) (es : List Event)
     → ExportedOpening ns ns′ o lent left w w′ 0
     → ((b : ℕ) → b < blocks (o .cutting) → Labelling (blockExtents (o .cutting) b) (own b))
     → ExportedCalls (keeps ns′ (o .cutting .cx) (o .cutting .cy) (o .cutting .cz) left) es

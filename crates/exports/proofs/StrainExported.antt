@@ -18,7 +18,7 @@ use Rattle.strain_calls.specs.Tables.{TotalTables}
 use Rattle.strain_calls.specs.Calls.{StrainCall, total, StrainAnswer, strainAnswer, noTotals}
 use Rattle.strain_calls.specs.Outcomes.{StrainStep}
 use Rattle.theory_totals.specs.Book.{noReadings}
-use Rattle.theory_totals.specs.Statement.{StrainEntry, LongFair, StrainMeasured, BringsLists, TotalRead}
+use Rattle.theory_totals.specs.Statement.{StrainEvent, LongFair, StrainMeasured, BringsLists, TotalRead}
 use Rattle.theory_totals.proofs.StrainStatement.{strain-statement}
 use Rattle.job_numbers.specs.Numbers.{jobIn}
 use Rattle.exports.specs.Exports.{ExportedOpening, ExportedTotal}
@@ -53,13 +53,13 @@ exported-strain (strained other S) N = from-told _ _ _ _ other N _ _ _ _ _ (S _ 
 exported-strain (totalled X) N = total-kept _ _ _ _ _ N _ _ _ _ _ _ _ _ X
 
 -- A list of exported calls is a run.
-pub long-exported-run : {k : Kept} {w : TotalTables} {es : List StrainEntry} → LongExported k w es → OfJob (numbersKept k) → LongRun StrainStep (stateKept k) w es
+pub long-exported-run : {k : Kept} {w : TotalTables} {es : List StrainEvent} → LongExported k w es → OfJob (numbersKept k) → LongRun StrainStep (stateKept k) w es
 long-exported-run none N = LongRun.none
 long-exported-run (next C L) N = let S = exported-step C N in LongRun.next (S .0) (long-exported-run L (S .1))
 long-exported-run (nextAdded C L) N = LongRun.nextAdded (exported-strain C N) (long-exported-run L N)
 
--- Totals that are read in such a list are totals that are read: `sums-exact`, `totals-exact`, `totals-whole`, `order-free` and `cutting-free` (total_laws) hold of them.
-pub exported-read : (o : Told) (lent left : Tables) (w v : TotalTables) (ns ns′ : List ℕ) (own : ℕ → List ℕ) (es : List StrainEntry) (values : ℕ → List Float) (kinds : ℕ → List ℕ) (n : ℕ) (T : Totals) (u : TotalTables)
+-- Totals that are read in such a list are totals that are read: `sums-exact`, `totals-exact`, `totals-whole`, `order-free` and `cutting-free` (theory_totals) hold of them.
+pub exported-read : (o : Told) (lent left : Tables) (w v : TotalTables) (ns ns′ : List ℕ) (own : ℕ → List ℕ) (es : List StrainEvent) (values : ℕ → List Float) (kinds : ℕ → List ℕ) (n : ℕ) (T : Totals) (u : TotalTables)
     → ExportedOpening ns ns′ o lent left w v 0
     → ((b : ℕ) → b < blocks (o .cutting) → Labelling (blockExtents (o .cutting) b) (own b))
     → LongExported (keeps ns′ (o .cutting .cx) (o .cutting .cy) (o .cutting .cz) left) v es
@@ -84,7 +84,7 @@ exported-read o lent left w v ns ns′ own es values kinds n T u X labelled call
     }
 
 -- Statement 3's calls and item 1's, for the exports: every opening through `tugrelis_open` that answers 0, every list of calls through the other exports.
-pub exports-totals : (o : Told) (lent left : Tables) (w v : TotalTables) (ns ns′ : List ℕ) (own : ℕ → List ℕ) (es : List StrainEntry)
+pub exports-totals : (o : Told) (lent left : Tables) (w v : TotalTables) (ns ns′ : List ℕ) (own : ℕ → List ℕ) (es : List StrainEvent)
     → ExportedOpening ns ns′ o lent left w v 0
     → ((b : ℕ) → b < blocks (o .cutting) → Labelling (blockExtents (o .cutting) b) (own b))
     → LongExported (keeps ns′ (o .cutting .cx) (o .cutting .cy) (o .cutting .cz) left) v es

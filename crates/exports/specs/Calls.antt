@@ -7,7 +7,7 @@ use lib.Dec.{eqb}
 use lib.ListN.{take}
 use Rattle.joiner.specs.Job.{Kind, width, Tables, State}
 use Rattle.joiner.specs.Calls.{Call, reading, Answer, answer}
-use Rattle.joiner.specs.Statement.{Entry}
+use Rattle.joiner.specs.Statement.{Event}
 use Rattle.job.specs.declared.Stage.{Stage}
 use Rattle.job.specs.JobState.{stateOf}
 use Rattle.job_numbers.specs.Numbers.{jobIn}
@@ -46,7 +46,7 @@ pub data ExportedCall : Kept → Call → Answer → Kept → Type 0 where
       → ExportedCall (keeps ns cx cy cz t) (reading κ n) (rowAnswer κ r row′) (keeps ns cx cy cz t)
 
 -- A list of exported calls, each on what the call before it left.
-pub data ExportedCalls : Kept → List Entry → Type 0 where
+pub data ExportedCalls : Kept → List Event → Type 0 where
   none : {k : Kept} → ExportedCalls k []
-  next : {k l : Kept} {c : Call} {a : Answer} {es : List Entry} → ExportedCall k c a l → ExportedCalls l es
+  next : {k l : Kept} {c : Call} {a : Answer} {es : List Event} → ExportedCall k c a l → ExportedCalls l es
       → ExportedCalls k (record { call = c; answer = a; after = stateKept l } ∷ es)

@@ -14,7 +14,7 @@ use Rattle.totals.specs.declared.Totals.{Totals}
 use Rattle.extended.specs.Extended.{base, added}
 use Rattle.strain_calls.specs.Tables.{TotalTables}
 use Rattle.strain_calls.specs.Calls.{StrainCall, strain, total, StrainAnswer, strainAnswer, noTotals}
-use Rattle.theory_totals.specs.Statement.{StrainEntry}
+use Rattle.theory_totals.specs.Statement.{StrainEvent}
 use Rattle.exports.specs.Exports.{ExportedStrain, ExportedTotal}
 use Rattle.exports.specs.Calls.{Kept, keeps, stateKept, ExportedCall}
 
@@ -43,9 +43,9 @@ pub data ExportedStrainCall : Kept → TotalTables → StrainCall → StrainAnsw
       → ExportedStrainCall (keeps ns cx cy cz t) w (total n) (totalAnswer r sums′ counts′) w
 
 -- A list of exported calls of statement 3 and of item 1, each on what the call before it left.
-pub data LongExported : Kept → TotalTables → List StrainEntry → Type 0 where
+pub data LongExported : Kept → TotalTables → List StrainEvent → Type 0 where
   none : {k : Kept} {w : TotalTables} → LongExported k w []
-  next : {k l : Kept} {w : TotalTables} {c : Call} {a : Answer} {es : List StrainEntry} → ExportedCall k c a l → LongExported l w es
+  next : {k l : Kept} {w : TotalTables} {c : Call} {a : Answer} {es : List StrainEvent} → ExportedCall k c a l → LongExported l w es
       → LongExported k w (base (record { call = c; answer = a; after = stateKept l }) ∷ es)
-  nextAdded : {k : Kept} {w v : TotalTables} {c : StrainCall} {a : StrainAnswer} {es : List StrainEntry} → ExportedStrainCall k w c a v → LongExported k v es
+  nextAdded : {k : Kept} {w v : TotalTables} {c : StrainCall} {a : StrainAnswer} {es : List StrainEvent} → ExportedStrainCall k w c a v → LongExported k v es
       → LongExported k w (added c a v ∷ es)

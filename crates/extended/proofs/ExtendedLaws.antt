@@ -3,9 +3,9 @@
 use mathlib.Core.List.{List}
 use Rattle.joiner.specs.Job.{State}
 use Rattle.joiner.specs.Statement.{Run}
-use Rattle.extended.specs.Extended.{LongEntry, LongRun, none, next, nextAdded, baseCalls}
+use Rattle.extended.specs.Extended.{LongEvent, LongRun, none, next, nextAdded, baseCalls}
 
-pub base-run : {C A W : Type 0} {Step : State → W → C → A → W → Type 0} {s : State} {w : W} {es : List (LongEntry C A W)} → LongRun Step s w es → Run s (baseCalls es)
+pub base-run : {C A W : Type 0} {Step : State → W → C → A → W → Type 0} {s : State} {w : W} {es : List (LongEvent C A W)} → LongRun Step s w es → Run s (baseCalls es)
 unfolding baseCalls
 base-run none = Run.none
 base-run (next S L) = Run.next S (base-run L)

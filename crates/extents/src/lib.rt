@@ -1,4 +1,4 @@
-// Extents against their limit and codes against 0, for every entry that is told some.
+// Extents against their limit and codes against 0, for every public entry that is told some.
 ghost use mathlib.Core.Path.{_≡_};
 ghost use Prim.Native.Nat.{_+_};
 ghost use lib.Dec.{ltb};

@@ -50,7 +50,7 @@ anyCuts P = (cx cy cz : List ℕ) → P cx cy cz
 abbrev pub anyTables : (Tables → Type 0) → Type 0
 anyTables P = (t : Tables) → P t
 
--- The tables, in the order in which an entry is lent them. Points have no links.
+-- The tables, in the order in which a public entry is lent them. Points have no links.
 abbrev pub tablesOf : List ℕ → List ℕ → List ℕ → List ℕ → List ℕ → List ℕ → List ℕ → List ℕ → List ℕ → List ℕ → List ℕ → List ℕ → List ℕ → List ℕ → List ℕ → List ℕ
     → List ℕ → List ℕ → List ℕ → Tables
 tablesOf ticks blocks face-links curve-links face-keys curve-keys point-keys face-rows curve-rows point-rows face-numbers curve-numbers point-numbers

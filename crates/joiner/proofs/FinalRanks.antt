@@ -17,7 +17,7 @@ use Rattle.cutting.specs.Nodes.{Sees, part, uncutMap}
 use Rattle.joiner.specs.Outcomes.{classOf}
 use Rattle.joiner.specs.Job.{Curve, Face, Kind, Point, Tables, firstAt, node, orderOf}
 use Rattle.labels.proofs.ComponentLaws.{Belongs, belongs-at, least-at}
-use Rattle.labels.proofs.CountLaws.{Somewhere, every-number, firsts-ascend, largest-bound}
+use Rattle.labels.proofs.CountLaws.{Somewhere, every-number, first-cells-ascend, largest-bound}
 use Rattle.labels.proofs.LabelLaws.{labels-numbering, numbered-active}
 use Rattle.cutting.proofs.BlockLaws.{carried}
 use Rattle.cutting.proofs.CutLaws.{InBlock, blocks-cover, embed-le, embed-order}
@@ -113,5 +113,5 @@ module _ (k : Cutting) (good : goodCut k ≡ true) (codes : List ℕ) (t : Table
         reached = reached′;
         one = λ x y hx hy. subst (λ (a : ℕ). (a ≡ classOf t κ y) ↔ (vol k codes t κ x ≡ vol k codes t κ y)) (sym (class-root t κ x lo))
             (subst (λ (a : ℕ). (root (t .links κ) x ≡ a) ↔ (vol k codes t κ x ≡ vol k codes t κ y)) (sym (class-root t κ y lo)) (C x y hx hy));
-        ascend = λ M N a b d. firsts-ascend (k .extents) codes (uncutMap k codes) (labels-numbering (k .extents) codes) (orderOf κ) (order-small κ) M N a b d;
+        ascend = λ M N a b d. first-cells-ascend (k .extents) codes (uncutMap k codes) (labels-numbering (k .extents) codes) (orderOf κ) (order-small κ) M N a b d;
       }

@@ -24,7 +24,7 @@ use Rattle.lists.proofs.Lists.{Ascends, ascends-at, ascends-consecutive, ascend
 use Rattle.lists.proofs.Overlay.{overlay-at, overlay-before, rows-at, rows-before}
 use Rattle.lists.proofs.Table.{every}
 use Rattle.labels.proofs.ComponentLaws.{Belongs, belongs-at, least-at, of-order-in, of-order-out}
-use Rattle.labels.proofs.CountLaws.{Somewhere, every-number, firsts-ascend, largest-bound}
+use Rattle.labels.proofs.CountLaws.{Somewhere, every-number, first-cells-ascend, largest-bound}
 use Rattle.labels.proofs.LabelLaws.{labels-numbering, numbered-active, point-alone}
 use Rattle.cutting.proofs.CutLaws.{InBlock, blocks-cover, embed-inside, embed-less, embed-order}
 use Rattle.cutting.proofs.SeamLaws.{point-block}
@@ -247,7 +247,7 @@ module _ (k : Cutting) (good : goodCut k ≡ true) (codes : List ℕ) where
                 let u = spot y hy in
                 P .once x y hx hy (point-alone (k .extents) (uncutMap k codes) (s .level) (labels-numbering (k .extents) codes .shared (firstAt t Point x) (firstAt t Point y) (s .inside) (u .inside) (s .level ∙ sym (u .level)) (s .act) (u .act) .0 e))),
           );
-          ascend = λ M N a b d. firsts-ascend (k .extents) codes (uncutMap k codes) (labels-numbering (k .extents) codes) 0 (omega arith) M N a b d;
+          ascend = λ M N a b d. first-cells-ascend (k .extents) codes (uncutMap k codes) (labels-numbering (k .extents) codes) 0 (omega arith) M N a b d;
         }
 
   -- the rows of points are kept as they are

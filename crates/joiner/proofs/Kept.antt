@@ -1,10 +1,24 @@
--- Tables that a step leaves as they are: one equation for all that are kept of a kind.
+-- Tables that a call leaves as they are: all but the ticks; one equation for all that are kept of a kind.
 -- Assumes nothing.
 use mathlib.Core.Path.{_≡_}
 use mathlib.Core.List.{List, [], _∷_, head-eq-of-cons-eq, tail-eq-of-cons-eq}
 use Prim.Native.Nat.{ℕ}
 use Rattle.joiner.specs.Job.{Kind, Tables, State}
 use Rattle.joiner.specs.Outcomes.{KeptFound, KeptNumbers}
+
+-- The tables with other ticks.
+abbrev pub withTicks : Tables → List ℕ → Tables
+withTicks t ticks =
+    record {
+      ticks = ticks;
+      blocks = t .blocks;
+      links = t .links;
+      keys = t .keys;
+      rows = t .rows;
+      numbers = t .numbers;
+      firsts = t .firsts;
+      listed = t .listed;
+    }
 
 -- What is found of a kind, and what is numbered.
 abbrev pub foundTables : Tables → Kind → List (List ℕ)

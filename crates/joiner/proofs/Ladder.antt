@@ -136,7 +136,7 @@ given-stray g G = rw (ladder g, G .g-size, G .g-cut, G .g-blank, G .g-stray, G .
     go false false false false false false true z = omega arith
     go false false false false false false false z = omega arith
 
--- ---- the numbers that the entries list, in the order of the table
+-- ---- the numbers that the public entries list, in the order of the table
 
 pub open-listed : (o : Told) (t : Tables) → listedNumbers (openDeclines o t) ≡ 1 ∷ 2 ∷ 6 ∷ []
 unfolding listedNumbers openDeclines number

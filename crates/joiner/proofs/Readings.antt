@@ -29,7 +29,7 @@ use Rattle.lists.proofs.Overlay.{front-at, row-place, row-split}
 use Rattle.cells.proofs.GridLaws.{order-most}
 use Rattle.cells.proofs.RowLaws.{getD-pad}
 use Rattle.labels.proofs.ComponentLaws.{Belongs, belongs-at}
-use Rattle.labels.proofs.CountLaws.{every-number, firsts-ascend, largest-bound}
+use Rattle.labels.proofs.CountLaws.{every-number, first-cells-ascend, largest-bound}
 use Rattle.labels.proofs.LabelLaws.{labels-numbering, numbered-active, point-alone}
 use Rattle.cutting.proofs.BlockLaws.{voxel-same}
 use Rattle.cutting.proofs.CutLaws.{embed-inside, embed-order}
@@ -127,7 +127,7 @@ module _ (e : Triple) (codes xs : List ℕ) (firsts-are : (i : ℕ) → i < larg
   rises : (i j : ℕ) → i < j → j < largest e (labels e codes) 0 → getD xs i 0 < getD xs j 0
   rises i j h l =
       subst (λ (a : ℕ). a < getD xs j 0) (sym (firsts-are i (omega arith)))
-      (subst (λ (b : ℕ). firstCell e (labels e codes) 0 (suc i) < b) (sym (firsts-are j l)) (firsts-ascend e codes (labels e codes) uncut-numbering 0 (omega arith) (suc i) (suc j) (omega arith) (omega arith) (omega arith)))
+      (subst (λ (b : ℕ). firstCell e (labels e codes) 0 (suc i) < b) (sym (firsts-are j l)) (first-cells-ascend e codes (labels e codes) uncut-numbering 0 (omega arith) (suc i) (suc j) (omega arith) (omega arith) (omega arith)))
 
   pub point-listed : (q : ℕ) → q < cells e → order e q ≡ 0 → pointNumber xs (largest e (labels e codes) 0) q ≡ getD (labels e codes) q 0
   point-listed q hq o = by-test (active e (labels e codes) q) yes no

@@ -25,7 +25,7 @@ use Rattle.joiner.specs.Outcomes.{CrossingDone, Done, EnrolDone, KeptFou
 use Rattle.joiner.specs.Job.{Closed, Crossing, Curve, Enrol, Face, Kind, Point, Points, Seam, Stage, State, Told, countOf, firstAt, keyPosition, orderOf, stageNumber, ticked, width}
 use Rattle.joiner.specs.Sheets.{lastState}
 use Rattle.joiner.specs.Stages.{codesOf, crossingStep, enrolStep, finished, hasCell, local, nextAfter, nextStage, pointStep, seamStep, seams, stepsOf}
-use Rattle.joiner.specs.Statement.{Agrees, AllDone, Brings, Entry, Fair, Labelling, Measured, Run, Uncut}
+use Rattle.joiner.specs.Statement.{Agrees, AllDone, Brings, Event, Fair, Labelling, Measured, Run, Uncut}
 use Rattle.lists.proofs.Cases.{and-both, and-first, and-second, by-test, picked}
 use Rattle.lists.proofs.Lists.{consecutive-in}
 use Rattle.lists.proofs.Tests.{is-in}
@@ -381,11 +381,11 @@ module _ (o : Told) (own : ℕ → List ℕ) (ext : offSize 1024 (o .cutting .ex
 
     -- ---- one call of the list
 
-    pub record OneCall (e : Entry) : Type 0 where
+    pub record OneCall (e : Event) : Type 0 where
       pub agrees : Agrees own B e
       pub after : Sim (turned B (e .call)) (e .after)
 
-    module _ (e : Entry) (P : CallStep s (e .call) (e .answer) (e .after)) (fair : e .answer .refusal ≡ 0 → Brings own (e .call)) where
+    module _ (e : Event) (P : CallStep s (e .call) (e .answer) (e .after)) (fair : e .answer .refusal ≡ 0 → Brings own (e .call)) where
       -- what is accepted is what the book accepts
       taken : refusal s (e .call) ≡ 0 → accepts B (e .call) ≡ true
       unfolding accepts
@@ -450,11 +450,11 @@ module _ (o : Told) (own : ℕ → List ℕ) (ext : offSize 1024 (o .cutting .ex
 
   -- ---- the list
 
-  pub measured : (B : Book) (s : State) (es : List Entry) → Sim B s → Run s es → Fair own es → Measured own B es
+  pub measured : (B : Book) (s : State) (es : List Event) → Sim B s → Run s es → Fair own es → Measured own B es
   measured B s [] S R F = Measured.none
   measured B s (e ∷ es) S (Run.next P R) F = let k : OneCall B s S e = one-call B s S e P (F .0) in Measured.next (k .agrees) (measured (turned B (e .call)) (e .after) es (k .after) R (F .1))
 
   -- the book and the service at the end of the list
-  pub simulated : (B : Book) (s : State) (es : List Entry) → Sim B s → Run s es → Fair own es → (C : Book) × Sim C (lastState s es)
+  pub simulated : (B : Book) (s : State) (es : List Event) → Sim B s → Run s es → Fair own es → (C : Book) × Sim C (lastState s es)
   simulated B s [] S R F = (B, S)
   simulated B s (e ∷ es) S (Run.next P R) F = let k : OneCall B s S e = one-call B s S e P (F .0) in simulated (turned B (e .call)) (e .after) es (k .after) R (F .1)

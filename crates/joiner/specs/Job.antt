@@ -1,4 +1,4 @@
--- The job and its tables (document 01, "Cutting and joining"), as the contracts of the joiner's entries see them.
+-- The job and its tables (document 01, "Cutting and joining"), as the contracts of the joiner's public entries see them.
 -- Assumes nothing.
 use mathlib.Core.Bool.{Bool, true, not, _&&_}
 use mathlib.Core.List.{List, [], _∷_, _++_}
@@ -69,20 +69,6 @@ pub record Tables : Type 0 where
   -- the closed tables: first position and row of number n stand at n − 1
   pub firsts : Kind → List ℕ
   pub listed : Kind → List ℕ
-
--- The tables with other ticks.
-abbrev pub withTicks : Tables → List ℕ → Tables
-withTicks t ticks =
-    record {
-      ticks = ticks;
-      blocks = t .blocks;
-      links = t .links;
-      keys = t .keys;
-      rows = t .rows;
-      numbers = t .numbers;
-      firsts = t .firsts;
-      listed = t .listed;
-    }
 
 -- The job and its tables, as a call finds or leaves them.
 pub record State : Type 0 where

@@ -1,4 +1,4 @@
--- What the joiner's entries answer and leave, for all inputs (document 01, "Cutting and joining"): equations of whole tables where the
+-- What the joiner's public entries answer and leave, for all inputs (document 01, "Cutting and joining"): equations of whole tables where the
 -- document decides them. Free are the links, but for which components are one, and the closed tables behind their last component.
 -- Assumes nothing.
 use mathlib.Core.Path.{_≡_}

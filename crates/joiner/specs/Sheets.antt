@@ -10,10 +10,10 @@ use Rattle.labels.specs.Number.{labels}
 use Rattle.cutting.specs.Cutting.{blocks, blockExtents, blockCodes}
 use Rattle.joiner.specs.Job.{Kind, width, Closed, Told, Tables, State}
 use Rattle.joiner.specs.Outcomes.{Opened}
-use Rattle.joiner.specs.Statement.{Entry, Run, Fair}
+use Rattle.joiner.specs.Statement.{Event, Run, Fair}
 
 -- The job and tables that a list of calls leaves.
-abbrev pub lastState : State → List Entry → State
+abbrev pub lastState : State → List Event → State
 lastState s [] = s
 lastState s (e ∷ es) = lastState (e .after) es
 
@@ -22,7 +22,7 @@ pub record ClosedJob (e : Triple) (codes : List ℕ) (s : State) : Type 0 where
   pub told : Told
   pub lent : Tables
   pub begin : State
-  pub calls : List Entry
+  pub calls : List Event
   pub own : ℕ → List ℕ
   pub extents : told .cutting .extents ≡ e
   pub many : length codes ≡ volume e

@@ -25,15 +25,15 @@ pub record Labelling (e : Triple) (m : List ℕ) : Type 0 where
   pub left : m ≡ labels e codes
 
 -- A call of the list, what it answered, and the job and tables that it left.
-pub record Entry : Type 0 where
+pub record Event : Type 0 where
   pub call : Call
   pub answer : Answer
   pub after : State
 
 -- Each call got the job and its tables "as the call before it, or at first the opening, left them".
-pub data Run : State → List Entry → Type 0 where
+pub data Run : State → List Event → Type 0 where
   none : {s : State} → Run s []
-  next : {s : State} {e : Entry} {es : List Entry} → CallStep s (e .call) (e .answer) (e .after) → Run (e .after) es → Run s (e ∷ es)
+  next : {s : State} {e : Event} {es : List Event} → CallStep s (e .call) (e .answer) (e .after) → Run (e .after) es → Run s (e ∷ es)
 
 -- The call brings the map `own b` of every block b that it names.
 abbrev pub Brings : (ℕ → List ℕ) → Call → Type 0
@@ -45,7 +45,7 @@ Brings own (look b m c) = m ≡ own b
 Brings own (reading κ n) = Unit {0}
 
 -- "A call with a map other than its block's stands there only if refused."
-abbrev pub Fair : (ℕ → List ℕ) → List Entry → Type 0
+abbrev pub Fair : (ℕ → List ℕ) → List Event → Type 0
 Fair own [] = Unit {0}
 Fair own (e ∷ es) = (e .answer .refusal ≡ 0 → Brings own (e .call)) × Fair own es
 
@@ -63,7 +63,7 @@ pub record Uncut (B : Book) (s : State) (κ : Kind) : Type 0 where
 
 -- "Compared with it are each call's refusal, each reading's answer, whether the job is closed, and a closed job's tables." The maps `own` are
 -- those of the list's labellings.
-pub record Agrees (own : ℕ → List ℕ) (B : Book) (e : Entry) : Type 0 where
+pub record Agrees (own : ℕ → List ℕ) (B : Book) (e : Event) : Type 0 where
   -- "a call with such maps is never refused with 8, and gets any other refusal exactly when the day book gives it"
   pub no-stray : Brings own (e .call) → e .answer .refusal ≢ 8
   pub brought : Brings own (e .call) → e .answer .refusal ≡ bookRefusal B (e .call)
@@ -79,15 +79,15 @@ pub record Agrees (own : ℕ → List ℕ) (B : Book) (e : Entry) : Type 0 where
   pub tables : e .after .job .stage ≡ Closed → (κ : Kind) → Uncut (turned B (e .call)) (e .after) κ
 
 -- The whole list against the book, which turns by the calls alone.
-pub data Measured (own : ℕ → List ℕ) : Book → List Entry → Type 0 where
+pub data Measured (own : ℕ → List ℕ) : Book → List Event → Type 0 where
   none : {B : Book} → Measured own B []
-  next : {B : Book} {e : Entry} {es : List Entry} → Agrees own B e → Measured own (turned B (e .call)) es → Measured own B (e ∷ es)
+  next : {B : Book} {e : Event} {es : List Event} → Agrees own B e → Measured own (turned B (e .call)) es → Measured own B (e ∷ es)
 
 -- For every accepted opening with any allowed cutting and any tables, every list of calls after it, refused ones included: if the accepted
 -- ones brought the map that one labelling of each block left, the same for all calls, then the list is what the book says.
 abbrev pub Statement3 : Type 0
 Statement3 =
-    (o : Told) (lent : Tables) (s : State) (own : ℕ → List ℕ) (es : List Entry)
+    (o : Told) (lent : Tables) (s : State) (own : ℕ → List ℕ) (es : List Event)
     → Opened o lent s
     → ((b : ℕ) → b < blocks (o .cutting) → Labelling (blockExtents (o .cutting) b) (own b))
     → Run s es

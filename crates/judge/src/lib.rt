@@ -354,7 +354,7 @@ fn stands(s: Survey, entry: Entry, faces: u32, curves: u32) -> bool
     inside(entry.curve_from, entry.curves, curves)
 }
 
-// Whether a map keeps to its block's entry, and the entry to tables of so many faces and curves. Not an entry of the service.
+// Whether a map keeps to its block's entry, and the entry to tables of so many faces and curves. Not an entry.
 pub fn map_stands(map: &[u32], block: Block, entry: Entry, faces: u32, curves: u32) -> bool
     requires { ⌜ Sized 64 (sizeOf block) × (length (now map) ≡ cells (sizeOf block)) ⌝ }
     ensures { λ r. ⌜ r ≡ mapStandsIn (sizeOf block) entry faces curves (now (map .entry)) ⌝ }

@@ -70,8 +70,8 @@ every-number e codes m M j lj n h l =
     (λ a. absurd (omega (arith, r .there .has, M .inactive (r .p) (r .there .within) (omega (arith, r .there .level)) a))))
 
 -- first cells stand in the order of the numbers
-pub firsts-ascend : (e : Triple) (codes m : List ℕ) → Numbering e codes m → (j : ℕ) → j < 3 → (k n : ℕ) → 0 < k → k < n → n ≤ largest e m j → firstCell e m j k < firstCell e m j n
-firsts-ascend e codes m M j lj k n hk l h =
+pub first-cells-ascend : (e : Triple) (codes m : List ℕ) → Numbering e codes m → (j : ℕ) → j < 3 → (k n : ℕ) → 0 < k → k < n → n ≤ largest e m j → firstCell e m j k < firstCell e m j n
+first-cells-ascend e codes m M j lj k n hk l h =
     let r : Somewhere e m j n = every-number e codes m M j lj n (omega arith) h in
     let f : Belongs e m j n (firstCell e m j n) = belongs-at e m j n (r .p) (r .there .within) (r .there .level) (r .there .has) in
     by-test (active e m (firstCell e m j n))

@@ -1,4 +1,4 @@
--- What `label` answers beside what `most_components` answers for the same extents. The premises are the promises of the two entries.
+-- What `label` answers beside what `most_components` answers for the same extents. The premises are the promises of the two public entries.
 -- Assumes nothing.
 use mathlib.Core.Path.{_≡_, refl, sym, ap, _∙_}
 use mathlib.Core.Bool.{false}

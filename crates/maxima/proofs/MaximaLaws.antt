@@ -124,7 +124,7 @@ counted-different e = record { apart = λ v w h k s. omega (arith, getD-tabulate
 pub most-only : (e : Triple) (j n k : ℕ) → IsMost e j n → IsMost e j k → n ≡ k
 most-only e j n k M N = sym (M .reached (countedCodes e) (counted-different e)) ∙ N .reached (countedCodes e) (counted-different e)
 
--- ---- the entry
+-- ---- the public entry
 
 -- the refusal as a test
 refusal-is : (e : Triple) → refusalOf e ≡ cond (offSize 64 e) 1 0

@@ -195,10 +195,10 @@ module _ (k : Cutting) (b : ℕ) (r : Block) (T : Tells k b r) where
   enrolled-keys m κ from count xs ks e = e ∙ overlay-same xs from _ _ count (λ i _. enrolled-key m κ (suc i))
 
 -- what `store_rows` requires of the keys, where `store_keys` left them
-pub stored-firsts : (v : Triple) (r : Block) (b : ℕ) (m : List ℕ) (j from count : ℕ) (xs ks : List ℕ) → b < mostBlocks → from + count ≤ length ks → length ks ≡ length xs
+pub stored-first-keys : (v : Triple) (r : Block) (b : ℕ) (m : List ℕ) (j from count : ℕ) (xs ks : List ℕ) → b < mostBlocks → from + count ≤ length ks → length ks ≡ length xs
     → ks ≡ overlay xs from (λ i. keyIn v r b m j (suc i)) count → FirstKeys v r m j ks from count
 unfolding keyIn
-stored-firsts v r b m j from count xs ks h l s e = record {
+stored-first-keys v r b m j from count xs ks h l s e = record {
   room = l;
   at = λ i k. ap (λ (t : List ℕ). keyPosition (getD t (from + i) 0)) e
       ∙ ap keyPosition (overlay-at xs from (λ i. keyIn v r b m j (suc i)) count i k (omega arith))

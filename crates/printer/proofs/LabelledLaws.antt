@@ -15,7 +15,7 @@ use Rattle.extents.proofs.SizeLaws.{sized-of}
 use Rattle.labels.specs.Components.{largest, firstCell}
 use Rattle.labels.specs.Number.{numbered, mapDown, labels}
 use Rattle.labels.proofs.LabelLaws.{labels-numbering}
-use Rattle.labels.proofs.CountLaws.{firsts-ascend}
+use Rattle.labels.proofs.CountLaws.{first-cells-ascend}
 use Rattle.printer.specs.Printing.{tooMany, listed, printing}
 use Rattle.pass_first.proofs.MarkLaws.{first-inside}
 use Rattle.printer.proofs.PrintLaws.{by-numbers}
@@ -26,7 +26,7 @@ module _ (e : Triple) (codes : List ℕ) where
   first-late j zero h k = omega arith
   first-late j (suc n) h k =
       let i = first-late j n h (omega arith) in
-      let a = firsts-ascend e codes (labels e codes) (labels-numbering e codes) j h (suc n) (suc (suc n)) (omega arith) (omega arith) k in
+      let a = first-cells-ascend e codes (labels e codes) (labels-numbering e codes) j h (suc n) (suc (suc n)) (omega arith) (omega arith) k in
       omega arith
 
   few : (j n : ℕ) → Sized 8 e → j < 3 → n ≡ largest e (labels e codes) j → n ≤ cells e

@@ -1,2 +1,2 @@
--- What the entries that the program calls give together.
+-- What the functions that the program calls give together.
 pub mod ProgramLaws

@@ -23,7 +23,7 @@ use Rattle.sorting.proofs.Counts.{lex-le}
 use Rattle.sorting.proofs.RankLaws.{rank-low, rank-next, rank-onto, stable-inj}
 use Rattle.joiner.specs.Job.{Kind, Face, Curve, Point, Tables}
 use Rattle.joiner.specs.Outcomes.{notAfter, classOf, isOne, leads, heads, rank, headOf}
-use Rattle.ranking.specs.Ranking.{firstOf, firstsOf}
+use Rattle.ranking.specs.Ranking.{firstOf, leadersOf}
 use Rattle.ranking.proofs.FirstLaws.{first-below}
 use Rattle.ranking.proofs.Places.{place-in}
 
@@ -145,8 +145,8 @@ module _ (t : Tables) (κ : Kind) (n : ℕ) where
       (λ b. b ∙ sym a))
 
   -- The first ones are those that one pass finds.
-  pub heads-found : heads t κ n ≡ firstsOf (t .keys κ) (classOf t κ) n
-  unfolding heads firstsOf
+  pub heads-found : heads t κ n ≡ leadersOf (t .keys κ) (classOf t κ) n
+  unfolding heads leadersOf
   heads-found = keep-same _ _ (consecutive 0 n) (λ x m. head-is x (omega (arith, consecutive-out 0 n m)))
 
   abbrev hs : List ℕ

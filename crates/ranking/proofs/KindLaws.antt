@@ -16,7 +16,7 @@ use Rattle.union_find.proofs.LinkLaws.{root-low, root-idem}
 use Rattle.sorting.specs.Sorting.{keyAt, stable, Listed, StandsByRank}
 use Rattle.joiner.specs.Job.{Kind, Face, Tables}
 use Rattle.joiner.specs.Outcomes.{classOf, heads, rank, headOf}
-use Rattle.ranking.specs.Ranking.{Different, Leaders, Found, Ordered, Placed, Ranked, LeadersListed, firstOf, firstsOf, part, leadersBelow, isLeader}
+use Rattle.ranking.specs.Ranking.{Different, Leaders, Found, Ordered, Placed, Ranked, LeadersListed, firstOf, leadersOf, part, leadersBelow, isLeader}
 use Rattle.ranking.proofs.Places.{length-part, part-at, part-written, part-lent, part-back}
 use Rattle.ranking.proofs.HeadLaws.{head-read, heads-found, rank-read, sorted-apart, sorted-below}
 use Rattle.ranking.proofs.FirstLaws.{first-ext}
@@ -29,8 +29,8 @@ module _ (links keys xs cs ss fs gs : List ℕ) (n r : ℕ) (lx : n ≤ length x
   read : (x : ℕ) → x < n → getD cs x 0 ≡ root links x
   read = written-read xs (root links) n cs C lx
 
-  leaders-first : leadersBelow cs fs n ≡ firstsOf keys (root links) n
-  unfolding leadersBelow isLeader firstsOf
+  leaders-first : leadersBelow cs fs n ≡ leadersOf keys (root links) n
+  unfolding leadersBelow isLeader leadersOf
   leaders-first =
       keep-same _ _ (consecutive 0 n)
       (λ x m.
@@ -105,10 +105,10 @@ table-class : (links keys : List ℕ) (x : ℕ) → classOf (tableOf links keys)
 unfolding classOf tableOf
 table-class links keys x = refl
 
-leaders-below : (keys : List ℕ) (f : ℕ → ℕ) (n j : ℕ) → j < length (firstsOf keys f n) → getD (firstsOf keys f n) j 0 < n
-unfolding firstsOf
+leaders-below : (keys : List ℕ) (f : ℕ → ℕ) (n j : ℕ) → j < length (leadersOf keys f n) → getD (leadersOf keys f n) j 0 < n
+unfolding leadersOf
 leaders-below keys f n j l =
-    omega (arith, consecutive-out 0 n (keep-out (λ x. eqb (firstOf keys f (f x) n) x) (consecutive 0 n) (getD-in (firstsOf keys f n) j l) .0))
+    omega (arith, consecutive-out 0 n (keep-out (λ x. eqb (firstOf keys f (f x) n) x) (consecutive 0 n) (getD-in (leadersOf keys f n) j l) .0))
 
 module _ {links keys xs cs ss₀ ss₁ : List ℕ} {n r : ℕ} (lx : n ≤ length xs) (lk : n ≤ length keys) (ls : 2 * n ≤ length ss₀)
     (G : Found links keys n r xs cs ss₀ ss₁) where
@@ -124,8 +124,8 @@ module _ {links keys xs cs ss₀ ss₁ : List ℕ} {n r : ℕ} (lx : n ≤ lengt
 
     -- of any kind of tables with these keys and classes
     module _ (t : Tables) (κ : Kind) (K : t .keys κ ≡ keys) (M : (x : ℕ) → classOf t κ x ≡ root links x) where
-      heads-are : heads t κ n ≡ firstsOf keys (root links) n
-      heads-are = heads-found t κ n ∙ ap₂ (λ (k : List ℕ) (f : ℕ → ℕ). firstsOf k f n) K (fun-ext M)
+      heads-are : heads t κ n ≡ leadersOf keys (root links) n
+      heads-are = heads-found t κ n ∙ ap₂ (λ (k : List ℕ) (f : ℕ → ℕ). leadersOf k f n) K (fun-ext M)
 
       count-is : r ≡ length (heads t κ n)
       count-is = G .total ∙ ap length (sym heads-are)

@@ -37,8 +37,8 @@ firstOf keys f c (suc n) =
     cond (eqb (f n) c && ltb (getD keys n 0) (getD keys (firstOf keys f c n) 0)) n (firstOf keys f c n)
 
 -- The places that are the first ones of their classes, ascending.
-unfoldable pub firstsOf : List ℕ → (ℕ → ℕ) → ℕ → List ℕ
-firstsOf keys f n = keep (λ x. eqb (firstOf keys f (f x) n) x) (consecutive 0 n)
+unfoldable pub leadersOf : List ℕ → (ℕ → ℕ) → ℕ → List ℕ
+leadersOf keys f n = keep (λ x. eqb (firstOf keys f (f x) n) x) (consecutive 0 n)
 
 -- A table of classes. A class is named by one of its places, which comes no later than the others.
 pub record Classes (cs : List ℕ) (n : ℕ) : Type 0 where
@@ -50,15 +50,15 @@ pub record Classes (cs : List ℕ) (n : ℕ) : Type 0 where
 unfoldable pub entered : List ℕ → ℕ → ℕ → List ℕ → List ℕ
 entered keys c x fs = cond (eqb c x) (set fs x x) (cond (ltb (getD keys x 0) (getD keys (getD fs c 0) 0)) (set fs c x) fs)
 
--- At each class isLeader its first one of n places. What isLeader elsewhere is free.
+-- At each class stands its leader among n places: its first one. What stands elsewhere is free.
 pub record Leaders (keys cs : List ℕ) (n : ℕ) (fs : List ℕ) : Type 0 where
   pub at : (c : ℕ) → c < n → getD cs c 0 ≡ c → getD fs c 0 ≡ firstOf keys (λ x. getD cs x 0) c n
 
--- x isLeader in the table as the first one of its class.
+-- x is the leader of its class in the table.
 unfoldable pub isLeader : List ℕ → List ℕ → ℕ → Bool
 isLeader cs fs x = eqb (getD fs (getD cs x 0) 0) x
 
--- The places below x that do, ascending.
+-- The leaders below x, ascending.
 unfoldable pub leadersBelow : List ℕ → List ℕ → ℕ → List ℕ
 leadersBelow cs fs x = keep (isLeader cs fs) (consecutive 0 x)
 
@@ -70,9 +70,9 @@ pub record LeadersListed (cs : List ℕ) (n x r : ℕ) (fs fs′ : List ℕ) : T
 -- The classes of the links, and their first ones from place n on.
 pub record Found (links keys : List ℕ) (n r : ℕ) (numbers numbers′ spare spare′ : List ℕ) : Type 0 where
   pub classes : numbers′ ≡ overlay numbers 0 (root links) n
-  pub total : r ≡ length (firstsOf keys (root links) n)
+  pub total : r ≡ length (leadersOf keys (root links) n)
   pub few : r ≤ n
-  pub listed : part spare′ n r ≡ firstsOf keys (root links) n
+  pub listed : part spare′ n r ≡ leadersOf keys (root links) n
   pub long : length spare′ ≡ length spare
 
 -- ---- numbers

@@ -96,7 +96,7 @@ module _ (n : ℕ) (r m : List ℕ) where
 -- ---- damage
 
 module _ (e : Triple) (r : List ℕ) where
-  -- Where n cells have k bitsBefore bits.
+  -- Where n cells have k standing bits.
   module _ {n k : ℕ} (i : n ≡ cells e) (j : k ≡ bitsBefore r n) where
     pub damaged-length : length r ≢ 12 + bitmapLength n + 4 * k → true ≡ damaged e r
     unfolding damaged lengthOf

@@ -103,7 +103,7 @@ module _ (j : Job) (kind : Kind) (n : ℕ) (faces curves points : List ℕ) (cx 
     has-row : HasRow kind n faces curves points
     has-row = (some, rw (long (kindOf kind)) (mul-le-mul-left (width (kindOf kind)) most))
 
--- ---- the entry
+-- ---- the public entry
 
 module _ (j : Job) (kind : Kind) (n : ℕ) (faces curves points : List ℕ) (number′ : ℕ) (e : number′ ≡ refusalOf j kind n (lengthsOf (lent faces curves points))) where
   abbrev Reads : List ℕ → Type 0

@@ -175,7 +175,7 @@ module _ (j : joiner.Job) (w : TotalTables) (n number′ : ℕ) (e : number′ �
         rw s (and-second (talliesFit j) stands (rungs .3)),
       )
 
--- ---- the entry
+-- ---- the public entry
 
 module _ (j : Job) (cx cy cz came : List ℕ) (sums : List Float) (counts : List ℕ) (n number′ : ℕ) (e : number′ ≡ refusalOf (jobOf j cx cy cz) (totalTables came sums counts) n) where
   abbrev Reads : ℕ → Totals → Type 0

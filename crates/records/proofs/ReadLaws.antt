@@ -1,4 +1,4 @@
--- The bits, the count of bitsBefore bits and the numbers of any record.
+-- The bits, the count of standing bits and the numbers of any record.
 -- Assumes nothing.
 use mathlib.Core.Path.{_≡_}
 use mathlib.Core.List.{List}

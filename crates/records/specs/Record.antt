@@ -67,7 +67,7 @@ decodeRecord n r = tabulate n (numberOf n r)
 
 -- ---- the cases of the refusals
 
--- "The length is 12 + ceil(cells/8) + 4 × (bitsBefore bits)."
+-- "The length is 12 + ceil(cells/8) + 4 × (standing bits)."
 unfoldable pub lengthOf : ℕ → List ℕ → ℕ
 lengthOf n r = 12 + bitmapLength n + 4 * bitsBefore r n
 

@@ -1,4 +1,4 @@
--- What the service declines (document 01, and 12 by item 1 of document 02): the refusals by name and number. An entry lists its own cases; which of them is given, one table decides.
+-- What the service declines (document 01, and 12 by item 1 of document 02): the refusals by name and number. A public entry lists its own cases; which of them is given, one table decides.
 -- Assumes nothing.
 use mathlib.Core.Bool.{Bool, false, cond}
 use mathlib.Core.List.{List, [], _∷_, map}
@@ -38,7 +38,7 @@ first stands (r ∷ rs) = cond (stands r) (number r) (first stands rs)
 unfoldable pub givenBy : (Refusal → Bool) → ℕ
 givenBy stands = first stands table
 
--- A line of an entry's own table: a refusal, and whether its case stands.
+-- A line of a public entry's own table: a refusal, and whether its case stands.
 pub record Case : Type 0 where
   pub refusal : Refusal
   pub stands : Bool
@@ -48,15 +48,15 @@ infixl 70 _if_
 abbrev pub _if_ : Refusal → Bool → Case
 r if b = record { refusal = r; stands = b }
 
--- Whether the case of a refusal stands. One that an entry does not list never does.
+-- Whether the case of a refusal stands. One that a public entry does not list never does.
 unfoldable pub standsIn : List Case → Refusal → Bool
 standsIn [] r = false
 standsIn (c ∷ cs) r = cond (eqb (number (c .refusal)) (number r)) (c .stands) (standsIn cs r)
 
--- What an entry with these cases gives, 0 for none.
+-- What a public entry with these cases gives, 0 for none.
 abbrev pub givenRefusal : List Case → ℕ
 givenRefusal cs = givenBy (standsIn cs)
 
--- The numbers that an entry lists.
+-- The numbers that a public entry lists.
 unfoldable pub listedNumbers : List Case → List ℕ
 listedNumbers cs = map (λ c. number (c .refusal)) cs

@@ -1,4 +1,4 @@
--- An entry's outcome where its answer goes out by a number and lent places: labelling, the largest block, writing, reading. (For the joiner: crate `exports`.)
+-- A public entry's outcome where its answer goes out by a number and lent places: labelling, the largest block, writing, reading. (For the joiner: crate `exports`.)
 -- Assumes nothing.
 use mathlib.Core.Bool.{cond}
 use mathlib.Core.List.{List}

@@ -1,4 +1,4 @@
-// The entries, exported for programs in C and Rust. A slice goes in as a pointer and a length, an array as a pointer.
+// The public entries, exported for programs in C and Rust. A slice goes in as a pointer and a length, an array as a pointer.
 use counts::store_counts;
 use job::Job;
 use job::Stage;

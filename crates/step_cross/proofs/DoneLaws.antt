@@ -97,7 +97,7 @@ module _ (s : State) (b : ℕ) (m : List ℕ) where
     curves-room =
         record { on-keys = omega (arith, tally Curve, at 9); on-numbers = omega (arith, tally Curve, at 11); on-firsts = omega (arith, tally Curve, at 12); on-listed = omega (arith, tally Curve, at 13) }
 
-  -- ---- the entry
+  -- ---- the public entry
 
   module _ (number′ : ℕ) (e : number′ ≡ refusalOf (s .job) (s .tables .ticks) (lengthsOf (s .tables)) (s .tables .blocks) (s .tables .rows Curve) (s .tables .links Face) (s .tables .links Curve) b m) where
     told-number : number′ ≡ refusal s (cross b m)

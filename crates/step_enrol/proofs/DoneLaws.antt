@@ -27,7 +27,7 @@ use Rattle.joiner.proofs.Kept.{found-kept, numbers-kept}
 use Rattle.blocks.specs.Blocks.{anyExtents, sizeOf, Tells}
 use Rattle.blocks.specs.declared.Block.{Block}
 use Rattle.pass_enrol.specs.EnrolledRows.{Lies, keyIn, FirstKeys}
-use Rattle.pass_enrol.proofs.KeyLaws.{lies-told, enrolled-keys, stored-firsts}
+use Rattle.pass_enrol.proofs.KeyLaws.{lies-told, enrolled-keys, stored-first-keys}
 use Rattle.pass_enrol.proofs.RowLaws.{enrolled-faces, enrolled-curves}
 use Rattle.job.specs.declared.Job.{Job}
 use Rattle.job.specs.JobState.{byKind, toldOf, jobOf, stateOf}
@@ -76,7 +76,7 @@ pub kind-rows : (v : Triple) (r : Block) (b : ℕ) (m : List ℕ) (j shift from 
     → Lies v r × (length m ≡ cells (sizeOf r)) × (j ≤ 2) × FirstKeys v r m j ks′ from count × ((6 - 2 * j) * (from + count) ≤ n) × ((shift ≡ 0) ⊎ (shift + largest (sizeOf r) m (suc j) < 4294967296))
 kind-rows v r b m j shift from count l n ks R ks′ e =
     let s : length ks′ ≡ length ks = ap length e ∙ length-overlay ks from (λ i. keyIn v r b m j (suc i)) count in
-    (R .lies, R .size, R .below, stored-firsts v r b m j from count ks ks′ (R .block) (omega (arith, R .on-keys)) s e, R .on-rows, R .shifts)
+    (R .lies, R .size, R .below, stored-first-keys v r b m j from count ks ks′ (R .block) (omega (arith, R .on-keys)) s e, R .on-rows, R .shifts)
 
 -- ---- the ways of `act`
 

@@ -10,8 +10,9 @@ use borrow.Author.Tests.{not-false}
 use Rattle.lists.specs.Lists.{zeros}
 use Rattle.refusals.specs.Refusals.{number, table, first, givenBy, standsIn}
 use Rattle.cutting.specs.Cutting.{Cutting, blocks, goodCut, mostBlocks, FewBlocks}
-use Rattle.joiner.specs.Job.{Kind, Told, Tables, lengthsFit, withTicks}
+use Rattle.joiner.specs.Job.{Kind, Told, Tables, lengthsFit}
 use Rattle.joiner.specs.Outcomes.{allTrays}
+use Rattle.joiner.proofs.Kept.{withTicks}
 use Rattle.strains.specs.Units.{plusZero}
 use Rattle.job.specs.declared.Job.{Job}
 use Rattle.job.specs.JobState.{toldBy, toldOf, freshJob, stateOf, NoJob}

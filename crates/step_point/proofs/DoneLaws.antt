@@ -179,7 +179,7 @@ module _ (j : Job) (cx cy cz ticks table curves keys rows numbers firsts listed 
               subst (λ (x : Job). PointDone before b m (after x)) (sym (C .is))
               (done-by n (subst (λ (x : Job). Closes next (next .points) keys′ rows′ numbers numbers′ firsts firsts′ listed listed′ x) (C .is) C))
 
-  -- ---- the entry
+  -- ---- the public entry
 
   module _ (p : Plan) (P : Plans (refusalOf (jobOf j cx cy cz) ticks (lengthsOf (before .tables)) table curves b m) (foundOf k table curves b m) p) where
     told-number : p .refusal ≡ refusal before (point b m)

@@ -136,7 +136,7 @@ module _ (j : Job) (cx cy cz ticks blocks′ faces curves : List ℕ) (b c : ℕ
             numbers = λ κ. numbers-kept (numbered-kept j cx cy cz ticks ticks′ step 0 0 0 next T κ) refl;
           }
 
-  -- ---- the entry
+  -- ---- the public entry
 
   module _ (number′ : ℕ) (e : number′ ≡ refusal before (join b c m n)) where
     pub seam-refused : (number′ ≡ 0 → ⊥) → CallStep before (join b c m n) (answer number′ 0 []) before

@@ -53,7 +53,7 @@ module _ (j : Job) (cx cy cz came : List ℕ) (sums : List Float) (counts : List
   unfolding withReadings blockAdds storedIn addsIn
   stored-is good hb = rw (block-adds k good b hb t m values kinds, from-is)
 
--- ---- the entry
+-- ---- the public entry
 
 module _ (j : Job) (cx cy cz lent-blocks lent-numbers came : List ℕ) (sums : List Float) (counts : List ℕ) (b : ℕ) (m : List ℕ) (values : List Float) (kinds : List ℕ) (n : ℕ)
     (e : n ≡ refusalOf (jobOf j cx cy cz) lent-blocks lent-numbers (totalTables came sums counts) b m values kinds) where

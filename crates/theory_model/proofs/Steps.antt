@@ -1,4 +1,4 @@
--- Every call in every state has an outcome: the model's answer and state keep the contract of each entry. So does its opening.
+-- Every call in every state has an outcome: the model's answer and state keep the contract of each public entry. So does its opening.
 -- Assumes nothing.
 use mathlib.Core.Bool.{true, false}
 use mathlib.Core.List.{List}

@@ -13,11 +13,12 @@ use Rattle.cells.specs.Grid.{order, upperNeighbours}
 use Rattle.cells.specs.Row.{sameRow}
 use Rattle.labels.specs.Components.{ofOrder}
 use Rattle.cutting.specs.Cutting.{Cutting, blockExtents, embed}
-use Rattle.joiner.specs.Job.{Kind, Face, Curve, Point, orderOf, width, Enrol, Points, Closed, sameStage, Told, Job, Tables, State, ticked, node, keyOf, firstAt, numbersPerBlock, withTicks}
+use Rattle.joiner.specs.Job.{Kind, Face, Curve, Point, orderOf, width, Enrol, Points, Closed, sameStage, Told, Job, Tables, State, ticked, node, keyOf, firstAt, numbersPerBlock}
 use Rattle.joiner.specs.Stages.{products, shared, enrolStep, seamStep, crossingStep, pointStep, nextAfter}
 use Rattle.joiner.specs.Calls.{Call, enrol, join, cross, point, look, reading, Answer, answer}
 use Rattle.joiner.specs.Declines.{finalRow, pointCells, adds, refusal}
 use Rattle.joiner.specs.Outcomes.{openRefusal, nothing, joinedRow, enrolledKey, enrolledRow, blockEntry, heads, rank, headOf, rowFinal, lookedUp, rowTaken}
+use Rattle.joiner.proofs.Kept.{withTicks}
 
 -- ---- links
 

@@ -9,7 +9,7 @@ use Rattle.cutting.specs.Cutting.{Cutting, blocks, blockExtents, blockCodes}
 use Rattle.joiner.specs.Job.{Kind, Face, Curve, Point, width, Stage, Told, Tables, State, numbersPerBlock, ticksPerBlock}
 use Rattle.joiner.specs.Stages.{seams}
 use Rattle.joiner.specs.Calls.{Call, enrol, join, cross, point}
-use Rattle.joiner.specs.Statement.{Entry}
+use Rattle.joiner.specs.Statement.{Event}
 use Rattle.theory_model.specs.Model.{after, answerOf, openedState}
 
 -- One call after another: the state left, and the whole list as statement 3 has it.
@@ -17,7 +17,7 @@ unfoldable pub run : State → List Call → State
 run s [] = s
 run s (c ∷ cs) = run (after s c) cs
 
-unfoldable pub written : State → List Call → List Entry
+unfoldable pub written : State → List Call → List Event
 written s [] = []
 written s (c ∷ cs) = record { call = c; answer = answerOf s c; after = after s c } ∷ written (after s c) cs
 

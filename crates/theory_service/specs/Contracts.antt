@@ -1,4 +1,4 @@
--- What a caller of the entries holds, and a call as the contract of its entry has it. A table that the entry is not lent is [] in the
+-- What a caller of the public entries holds, and a call as the contract of its public entry has it. A table that the public entry is not lent is [] in the
 -- contract, and the caller's stays as it is.
 -- Assumes nothing.
 use mathlib.Core.List.{List, [], _∷_}
@@ -7,7 +7,7 @@ use Rattle.cells.specs.Box.{Triple}
 use Rattle.joiner.specs.Job.{Kind, Told, Tables, State}
 use Rattle.joiner.specs.Calls.{Call, enrol, join, cross, point, look, reading, Answer, answer}
 use Rattle.joiner.specs.Outcomes.{CallStep}
-use Rattle.joiner.specs.Statement.{Entry}
+use Rattle.joiner.specs.Statement.{Event}
 use Rattle.job.specs.declared.Job.{Job}
 use Rattle.job.specs.JobState.{toldBy, tablesOf, stateOf, anyCuts}
 use Rattle.job.specs.Lent.{noTables, crossLent, enrolLent, lookLent, pointLent, rowLent, seamLent}
@@ -33,16 +33,16 @@ pub data OpenedBy : Told → Tables → TotalTables → ℕ → Held → TotalTa
       → OpenedBy (toldBy nx ny nz cx cy cz faces curves points) (tablesOf ticks blocks fl cl fk ck pk fr cr pr fn cn pn ff cf pf fs cs ps) w r
       (held j cx cy cz ticks′ blocks fl cl fk ck pk fr cr pr fn cn pn ff cf pf fs cs ps) v
 
--- A call through an entry, with its answer, from what is held before to what is held after: the premise is the entry's `ensures`. (The crate `methods`
--- proves each method out of its entry's contract by these constructors.)
-pub data CalledEntry : Held → Call → Answer → Held → Type 0 where
+-- A call through a public entry, with its answer, from what is held before to what is held after: the premise is the public entry's `ensures`. (The crate `methods`
+-- proves each method out of its public entry's contract by these constructors.)
+pub data CalledThrough : Held → Call → Answer → Held → Type 0 where
   -- `enrol`
   enrolled : {j j′ : Job} {b r : ℕ} {m : List ℕ} {cx cy cz ticks blocks fl cl fk ck pk fr cr pr fn cn pn ff cf pf fs cs ps
       ticks′ blocks′ fl′ cl′ fk′ ck′ fr′ cr′ : List ℕ}
       → CallStep (stateOf j cx cy cz (enrolLent noTables ticks blocks fl cl fk ck fr cr))
       (enrol b m) (answer r 0 [])
       (stateOf j′ cx cy cz (enrolLent noTables ticks′ blocks′ fl′ cl′ fk′ ck′ fr′ cr′))
-      → CalledEntry (held j cx cy cz ticks blocks fl cl fk ck pk fr cr pr fn cn pn ff cf pf fs cs ps) (enrol b m) (answer r 0 [])
+      → CalledThrough (held j cx cy cz ticks blocks fl cl fk ck pk fr cr pr fn cn pn ff cf pf fs cs ps) (enrol b m) (answer r 0 [])
       (held j′ cx cy cz ticks′ blocks′ fl′ cl′ fk′ ck′ pk fr′ cr′ pr fn cn pn ff cf pf fs cs ps)
   -- `seam`
   joined : {j j′ : Job} {b c r : ℕ} {m n : List ℕ} {cx cy cz ticks blocks fl cl fk ck pk fr cr pr fn cn pn ff cf pf fs cs ps
@@ -50,7 +50,7 @@ pub data CalledEntry : Held → Call → Answer → Held → Type 0 where
       → CallStep (stateOf j cx cy cz (seamLent noTables ticks blocks fl cl))
       (join b c m n) (answer r 0 [])
       (stateOf j′ cx cy cz (seamLent noTables ticks′ blocks fl′ cl′))
-      → CalledEntry (held j cx cy cz ticks blocks fl cl fk ck pk fr cr pr fn cn pn ff cf pf fs cs ps) (join b c m n) (answer r 0 [])
+      → CalledThrough (held j cx cy cz ticks blocks fl cl fk ck pk fr cr pr fn cn pn ff cf pf fs cs ps) (join b c m n) (answer r 0 [])
       (held j′ cx cy cz ticks′ blocks fl′ cl′ fk ck pk fr cr pr fn cn pn ff cf pf fs cs ps)
   -- `crossing`
   crossed : {j j′ : Job} {b r : ℕ} {m : List ℕ} {cx cy cz ticks blocks fl cl fk ck pk fr cr pr fn cn pn ff cf pf fs cs ps
@@ -58,7 +58,7 @@ pub data CalledEntry : Held → Call → Answer → Held → Type 0 where
       → CallStep (stateOf j cx cy cz (crossLent noTables ticks blocks fl cl fk ck fr cr fn cn ff cf fs cs))
       (cross b m) (answer r 0 [])
       (stateOf j′ cx cy cz (crossLent noTables ticks′ blocks fl′ cl′ fk ck fr cr fn′ cn′ ff′ cf′ fs′ cs′))
-      → CalledEntry (held j cx cy cz ticks blocks fl cl fk ck pk fr cr pr fn cn pn ff cf pf fs cs ps) (cross b m) (answer r 0 [])
+      → CalledThrough (held j cx cy cz ticks blocks fl cl fk ck pk fr cr pr fn cn pn ff cf pf fs cs ps) (cross b m) (answer r 0 [])
       (held j′ cx cy cz ticks′ blocks fl′ cl′ fk ck pk fr cr pr fn′ cn′ pn ff′ cf′ pf fs′ cs′ ps)
   -- `point`
   pointed : {j j′ : Job} {b r : ℕ} {m : List ℕ} {cx cy cz ticks blocks fl cl fk ck pk fr cr pr fn cn pn ff cf pf fs cs ps
@@ -66,24 +66,24 @@ pub data CalledEntry : Held → Call → Answer → Held → Type 0 where
       → CallStep (stateOf j cx cy cz (pointLent noTables ticks blocks pk pr cn pn pf ps))
       (point b m) (answer r 0 [])
       (stateOf j′ cx cy cz (pointLent noTables ticks′ blocks pk′ pr′ cn pn′ pf′ ps′))
-      → CalledEntry (held j cx cy cz ticks blocks fl cl fk ck pk fr cr pr fn cn pn ff cf pf fs cs ps) (point b m) (answer r 0 [])
+      → CalledThrough (held j cx cy cz ticks blocks fl cl fk ck pk fr cr pr fn cn pn ff cf pf fs cs ps) (point b m) (answer r 0 [])
       (held j′ cx cy cz ticks′ blocks fl cl fk ck pk′ fr cr pr′ fn cn pn′ ff cf pf′ fs cs ps′)
   -- `lookup`, which changes nothing
   looked : {j : Job} {b r v : ℕ} {m : List ℕ} {c : Triple} {cx cy cz ticks blocks fl cl fk ck pk fr cr pr fn cn pn ff cf pf fs cs ps : List ℕ}
       → CallStep (stateOf j cx cy cz (lookLent noTables ticks blocks fn cn pf))
       (look b m c) (answer r v [])
       (stateOf j cx cy cz (lookLent noTables ticks blocks fn cn pf))
-      → CalledEntry (held j cx cy cz ticks blocks fl cl fk ck pk fr cr pr fn cn pn ff cf pf fs cs ps) (look b m c) (answer r v [])
+      → CalledThrough (held j cx cy cz ticks blocks fl cl fk ck pk fr cr pr fn cn pn ff cf pf fs cs ps) (look b m c) (answer r v [])
       (held j cx cy cz ticks blocks fl cl fk ck pk fr cr pr fn cn pn ff cf pf fs cs ps)
   -- `row`, which changes nothing either, and is not lent the cut lists
   read : {j : Job} {κ : Kind} {n r : ℕ} {p : List ℕ} {cx cy cz ticks blocks fl cl fk ck pk fr cr pr fn cn pn ff cf pf fs cs ps : List ℕ}
       → anyCuts (λ cx′ cy′ cz′. CallStep (stateOf j cx′ cy′ cz′ (rowLent noTables fs cs ps))
       (reading κ n) (answer r 0 p)
       (stateOf j cx′ cy′ cz′ (rowLent noTables fs cs ps)))
-      → CalledEntry (held j cx cy cz ticks blocks fl cl fk ck pk fr cr pr fn cn pn ff cf pf fs cs ps) (reading κ n) (answer r 0 p)
+      → CalledThrough (held j cx cy cz ticks blocks fl cl fk ck pk fr cr pr fn cn pn ff cf pf fs cs ps) (reading κ n) (answer r 0 p)
       (held j cx cy cz ticks blocks fl cl fk ck pk fr cr pr fn cn pn ff cf pf fs cs ps)
 
 -- A list of calls, each on what the call before it left.
-pub data Calls : Held → List Entry → Type 0 where
+pub data Calls : Held → List Event → Type 0 where
   none : {h : Held} → Calls h []
-  next : {h g : Held} {c : Call} {a : Answer} {es : List Entry} → CalledEntry h c a g → Calls g es → Calls h (record { call = c; answer = a; after = stateIn g } ∷ es)
+  next : {h g : Held} {c : Call} {a : Answer} {es : List Event} → CalledThrough h c a g → Calls g es → Calls h (record { call = c; answer = a; after = stateIn g } ∷ es)

@@ -18,7 +18,7 @@ use Rattle.joiner.specs.Calls.{Answer, Call, cross, enrol, join, look, point, r
 use Rattle.joiner.specs.Declines.{refusal}
 use Rattle.joiner.specs.Outcomes.{CallStep, Done}
 use Rattle.joiner.specs.Job.{Closed, State, Tables, Told, stageNumber}
-use Rattle.joiner.specs.Statement.{Brings, Entry, Fair, Labelling, Measured}
+use Rattle.joiner.specs.Statement.{Brings, Event, Fair, Labelling, Measured}
 use Rattle.joiner.proofs.Simulation.{Sim, OneCall, book-stage, one-call}
 use Rattle.joiner.proofs.Statement3.{begun-sim, opened-passed, statement3}
 use Rattle.extended.specs.Extended.{base, added, LongRun, baseCalls}
@@ -31,7 +31,7 @@ use Rattle.totals.specs.Totals.{readingAt, readingOf}
 use Rattle.strain_calls.specs.Tables.{TotalTables}
 use Rattle.strain_calls.specs.Outcomes.{OpenedTotals, StrainStep}
 use Rattle.theory_totals.specs.Book.{ReadingBook, noReadings, turnedReadings}
-use Rattle.theory_totals.specs.Statement.{StrainEntry, LongFair, StrainMeasured, StrainStatement}
+use Rattle.theory_totals.specs.Statement.{StrainEvent, LongFair, StrainMeasured, StrainStatement}
 use Rattle.pass_strain.specs.BlockReadings.{Brought}
 use Rattle.theory_totals.specs.Volume.{sumsOver, countsOver}
 use Rattle.theory_totals.proofs.Recorded.{Emptied, opened-empty, Recorded}
@@ -108,7 +108,7 @@ module _ (o : Told) (own : ℕ → List ℕ) (ext : offSize 1024 (o .cutting .ex
         readings = Q .readings;
       }
 
-  module _ (B : Book) (s : State) (S : Sim o own ext good lab B s) (e : Entry) (P : CallStep s (e .call) (e .answer) (e .after)) (fair : e .answer .refusal ≡ 0 → Brings own (e .call)) where
+  module _ (B : Book) (s : State) (S : Sim o own ext good lab B s) (e : Event) (P : CallStep s (e .call) (e .answer) (e .after)) (fair : e .answer .refusal ≡ 0 → Brings own (e .call)) where
     abbrev K : OneCall o own ext good lab B s S e
     K = one-call o own ext good lab B s S e P fair
 
@@ -138,7 +138,7 @@ module _ (o : Told) (own : ℕ → List ℕ) (ext : offSize 1024 (o .cutting .ex
 
   -- ---- the list
 
-  measured : (B : Book) (s : State) (R : ReadingBook) (w : TotalTables) (es : List StrainEntry) → Sim o own ext good lab B s → Recorded o own v B s R w → LongRun StrainStep s w es → LongFair own es → StrainMeasured own B R es
+  measured : (B : Book) (s : State) (R : ReadingBook) (w : TotalTables) (es : List StrainEvent) → Sim o own ext good lab B s → Recorded o own v B s R w → LongRun StrainStep s w es → LongFair own es → StrainMeasured own B R es
   measured B s R w [] S Q L F = StrainMeasured.none
   measured B s R w (base e ∷ es) S Q (LongRun.next P L) F =
       let K = one-call o own ext good lab B s S e P (F .0) in
@@ -157,14 +157,14 @@ strain-statement o lent w v s own es P lab L F =
 -- ---- statement 3, cited
 
 -- leaving out the two calls keeps what statement 3 supposes
-base-fair : (own : ℕ → List ℕ) (es : List StrainEntry) → LongFair own es → Fair own (baseCalls es)
+base-fair : (own : ℕ → List ℕ) (es : List StrainEvent) → LongFair own es → Fair own (baseCalls es)
 unfolding baseCalls
 base-fair own [] f = tt
 base-fair own (base e ∷ es) f = (f .0, base-fair own es (f .1))
 base-fair own (added c a w ∷ es) f = base-fair own es (f .1)
 
 -- Statement 3's calls of the longer list are a list of statement 3: cutting still leaves no trace.
-pub base-measured : (o : Told) (lent : Tables) (w v : TotalTables) (s : State) (own : ℕ → List ℕ) (es : List StrainEntry)
+pub base-measured : (o : Told) (lent : Tables) (w v : TotalTables) (s : State) (own : ℕ → List ℕ) (es : List StrainEvent)
     → OpenedTotals o lent w s v
     → ((b : ℕ) → b < blocks (o .cutting) → Labelling (blockExtents (o .cutting) b) (own b))
     → LongRun StrainStep s v es

@@ -42,7 +42,7 @@ use Rattle.strain_calls.specs.Adding.{gathered}
 use Rattle.strain_calls.specs.Calls.{StrainCall, strain, total, StrainAnswer, allCome}
 use Rattle.strain_calls.specs.Outcomes.{StrainStep}
 use Rattle.theory_totals.specs.Book.{ReadingBook, noReadings, strainAccepts, readingsAfter, turnedReadings, onSide, sideReadings, sideTotals, faceTotals, readingFrom, bookTotals}
-use Rattle.theory_totals.specs.Statement.{StrainEntry, LongFair, BringsLists, TotalRead, uncutFrom, IsUnits, SumsExact, TotalsExact, countedOn, TotalsWhole, OrderFree}
+use Rattle.theory_totals.specs.Statement.{StrainEvent, LongFair, BringsLists, TotalRead, uncutFrom, IsUnits, SumsExact, TotalsExact, countedOn, TotalsWhole, OrderFree}
 use Rattle.theory_totals.proofs.SlotLaws.{kinds-all}
 use Rattle.theory_totals.proofs.SideReadings.{map-alike}
 use Rattle.theory_totals.proofs.Recorded.{Emptied, opened-empty, Recorded, each-come, side-long, side-size}
@@ -77,7 +77,7 @@ module _ (o : Told) (own : ℕ → List ℕ) (values : ℕ → List Float) (kind
     small : (side : ℕ) → side ≤ 1 → natAbs (unitsSum (sideReadings (o .cutting .extents) (uncutFrom (o .cutting) own) (readingFrom (o .cutting) values kinds) n side)) < 2 ^ 53
 
   -- .. by a call of the list
-  abbrev Reads : StrainEntry → Type 0
+  abbrev Reads : StrainEvent → Type 0
   Reads (base e) = Unit {0}
   Reads (added (strain b m vs ks) a u) = Unit {0}
   Reads (added (total n) a u) = a .refusal ≡ 0 → ReadFor n (a .totals)
@@ -151,8 +151,8 @@ module _ (o : Told) (own : ℕ → List ℕ) (values : ℕ → List Float) (kind
           }
 
     -- every total that a list of calls reads
-    reads-all : (B : Book) (s : State) (R : ReadingBook) (w : TotalTables) (es : List StrainEntry) → Sim o own ext good lab B s → Recorded o own v B s R w → Holds R → LongRun StrainStep s w es → LongFair own es → BringsLists values kinds es
-        → {x : StrainEntry} → List·Memᴰ x es → Reads x
+    reads-all : (B : Book) (s : State) (R : ReadingBook) (w : TotalTables) (es : List StrainEvent) → Sim o own ext good lab B s → Recorded o own v B s R w → Holds R → LongRun StrainStep s w es → LongFair own es → BringsLists values kinds es
+        → {x : StrainEvent} → List·Memᴰ x es → Reads x
     reads-all B s R w [] S Q H L F G i = absurd (List·Memᴰ·not-nil i)
     reads-all B s R w (base e ∷ es) S Q H (LongRun.next P L) F G {x} i =
         let K = one-call o own ext good lab B s S e P (F .0) in

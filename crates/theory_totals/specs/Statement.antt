@@ -16,8 +16,8 @@ use Rattle.cutting.specs.Cutting.{Cutting, blocks, blockExtents, blockCodes, em
 use Rattle.joiner.specs.Job.{Told, Tables, State}
 use Rattle.joiner.specs.Stages.{codesOf}
 use Rattle.joiner.specs.Book.{Book, begun, turned}
-use Rattle.joiner.specs.Statement.{Entry, Labelling, Brings, Agrees}
-use Rattle.extended.specs.Extended.{LongEntry, base, added, LongRun}
+use Rattle.joiner.specs.Statement.{Event, Labelling, Brings, Agrees}
+use Rattle.extended.specs.Extended.{LongEvent, base, added, LongRun}
 use Rattle.strains.specs.Units.{isUnits, unitsOf}
 use Rattle.strains.specs.Readings.{unitsSum}
 use Rattle.strains.specs.declared.Reading.{Reading}
@@ -30,8 +30,8 @@ use Rattle.strain_calls.specs.Outcomes.{OpenedTotals, StrainStep}
 use Rattle.theory_totals.specs.Book.{ReadingBook, noReadings, strainBookRefusal, strainBookEarly, bringsMap, strainAccepts, turnedReadings, strainBookAnswer, sideReadings, faceTotals, readingFrom}
 
 -- A call of the longer list.
-abbrev pub StrainEntry : Type 0
-StrainEntry = LongEntry StrainCall StrainAnswer TotalTables
+abbrev pub StrainEvent : Type 0
+StrainEvent = LongEvent StrainCall StrainAnswer TotalTables
 
 -- The call brings the map `own b` of its block b.
 abbrev pub StrainBrings : (ℕ → List ℕ) → StrainCall → Type 0
@@ -39,7 +39,7 @@ StrainBrings own (strain b m values kinds) = m ≡ own b
 StrainBrings own (total n) = Unit {0}
 
 -- "A call with a map other than its block's stands there only if refused."
-abbrev pub LongFair : (ℕ → List ℕ) → List StrainEntry → Type 0
+abbrev pub LongFair : (ℕ → List ℕ) → List StrainEvent → Type 0
 LongFair own [] = Unit {0}
 LongFair own (base e ∷ es) = (e .answer .refusal ≡ 0 → Brings own (e .call)) × LongFair own es
 LongFair own (added c a w ∷ es) = (a .refusal ≡ 0 → StrainBrings own c) × LongFair own es
@@ -58,16 +58,16 @@ pub record StrainAgrees (own : ℕ → List ℕ) (B : Book) (R : ReadingBook) (c
   pub answered : a .refusal ≡ 0 → a ≡ strainBookAnswer B R c
 
 -- The whole list against both books, which turn by the calls alone.
-pub data StrainMeasured (own : ℕ → List ℕ) : Book → ReadingBook → List StrainEntry → Type 0 where
+pub data StrainMeasured (own : ℕ → List ℕ) : Book → ReadingBook → List StrainEvent → Type 0 where
   none : {B : Book} {R : ReadingBook} → StrainMeasured own B R []
-  next : {B : Book} {R : ReadingBook} {e : Entry} {es : List StrainEntry} → Agrees own B e → StrainMeasured own (turned B (e .call)) R es → StrainMeasured own B R (base e ∷ es)
-  nextAdded : {B : Book} {R : ReadingBook} {c : StrainCall} {a : StrainAnswer} {w : TotalTables} {es : List StrainEntry}
+  next : {B : Book} {R : ReadingBook} {e : Event} {es : List StrainEvent} → Agrees own B e → StrainMeasured own (turned B (e .call)) R es → StrainMeasured own B R (base e ∷ es)
+  nextAdded : {B : Book} {R : ReadingBook} {c : StrainCall} {a : StrainAnswer} {w : TotalTables} {es : List StrainEvent}
       → StrainAgrees own B R c a → StrainMeasured own B (turnedReadings B R c) es → StrainMeasured own B R (added c a w ∷ es)
 
 -- For every accepted opening and every list of calls after it, refused ones included, under what statement 3 supposes: the list is what the books say.
 abbrev pub StrainStatement : Type 0
 StrainStatement =
-    (o : Told) (lent : Tables) (w v : TotalTables) (s : State) (own : ℕ → List ℕ) (es : List StrainEntry)
+    (o : Told) (lent : Tables) (w v : TotalTables) (s : State) (own : ℕ → List ℕ) (es : List StrainEvent)
     → OpenedTotals o lent w s v
     → ((b : ℕ) → b < blocks (o .cutting) → Labelling (blockExtents (o .cutting) b) (own b))
     → LongRun StrainStep s v es
@@ -77,7 +77,7 @@ StrainStatement =
 -- ---- the totals that a list of calls reads
 
 -- Each accepted step of a block brought the same two lists.
-abbrev pub BringsLists : (ℕ → List Float) → (ℕ → List ℕ) → List StrainEntry → Type 0
+abbrev pub BringsLists : (ℕ → List Float) → (ℕ → List ℕ) → List StrainEvent → Type 0
 BringsLists values kinds [] = Unit {0}
 BringsLists values kinds (base e ∷ es) = BringsLists values kinds es
 BringsLists values kinds (added (strain b m vs ks) a w ∷ es) = (a .refusal ≡ 0 → (vs ≡ values b) × (ks ≡ kinds b)) × BringsLists values kinds es
@@ -90,7 +90,7 @@ pub record TotalRead (o : Told) (own : ℕ → List ℕ) (values : ℕ → List 
   pub before : TotalTables
   pub after : TotalTables
   pub begin : State
-  pub calls : List StrainEntry
+  pub calls : List StrainEvent
   pub opened : OpenedTotals o lent before begin after
   pub labelled : (b : ℕ) → b < blocks (o .cutting) → Labelling (blockExtents (o .cutting) b) (own b)
   pub run : LongRun StrainStep begin after calls

@@ -40,7 +40,7 @@ edges s f = crossAt (extents-of s) (s .args .map .now) f (s .args .above-from) (
 abbrev order-below : tie.Start Inv-loop μ-loop → ℕ → Bool
 order-below s p = eqb (order (extents-of s) p) (s .args .j - 1)
 
--- The entry, from the loop.
+-- The start, from the loop.
 abbrev begin : tie.At-loop Inv-loop μ-loop → tie.Start Inv-loop μ-loop
 begin d = d .before .before .before .before
 

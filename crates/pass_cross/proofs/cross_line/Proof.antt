@@ -35,7 +35,7 @@ extents-of s = triple (s .args .nx) (s .args .ny) (s .args .nz)
 odd-axes : (s : tie.Start Inv-loop μ-loop) → 4 - s .args .j + (s .args .j - 1) ≡ 3
 odd-axes s = omega (arith, s .pre .0 .low, s .pre .0 .high)
 
--- The entry, from the place where the line is told and from the loop.
+-- The start, from the place where the line is told and from the loop.
 abbrev entry : tie.After-strided-line Inv-loop μ-loop → tie.Start Inv-loop μ-loop
 entry told = told .before .before .before .before
 

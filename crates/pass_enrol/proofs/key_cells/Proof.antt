@@ -23,7 +23,7 @@ Inv-loop keys₀ from map nx ny nz block b j l line at x₀ keys x =
 abbrev μ-loop : tie.MeasureT-loop
 μ-loop keys₀ from map nx ny nz block b j l line at x₀ keys x = x
 
--- The entry, from the loop.
+-- The start, from the loop.
 abbrev entry : tie.At-loop Inv-loop μ-loop → tie.Start Inv-loop μ-loop
 entry turn = let first = turn .before in first .before .before .before .before
 

@@ -14,7 +14,7 @@ use Rattle.pass_fill.proofs.fill_line.Tie as tie
 at-start : (st : tie.Start) → Room (triple (st .args .nx) (st .args .ny) (st .args .nz)) (st .args .l)
 at-start st = room (triple (st .args .nx) (st .args .ny) (st .args .nz)) (st .args .l) (st .pre .0) (st .pre .3)
 
--- The entry, from the place where the line is told.
+-- The start, from the place where the line is told.
 abbrev entry : tie.After-line-with → tie.Start
 entry told = told .before .before .before
 

@@ -22,7 +22,7 @@ Inv-loop map nx ny nz j l links₀ n s line x₀ links x =
 abbrev μ-loop : tie.MeasureT-loop
 μ-loop map nx ny nz j l links₀ n s line x₀ links x = line .width - x
 
--- The entry, from the loop.
+-- The start, from the loop.
 abbrev entry : tie.At-loop Inv-loop μ-loop → tie.Start Inv-loop μ-loop
 entry d = let told = d .before .before in told .before .before .before
 

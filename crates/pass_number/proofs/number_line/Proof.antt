@@ -26,7 +26,7 @@ Inv-loop map₀ nx ny nz j l links₀ total n s line t₀ x₀ map links t x =
 abbrev μ-loop : tie.MeasureT-loop
 μ-loop map₀ nx ny nz j l links₀ total n s line t₀ x₀ map links t x = line .width - x
 
--- The entry, from the loop.
+-- The start, from the loop.
 abbrev entry : tie.At-loop Inv-loop μ-loop → tie.Start Inv-loop μ-loop
 entry d = let told = d .before .before in told .before .before .before
 

@@ -22,7 +22,7 @@ Inv-loop keys₀ rows₀ at map nx ny nz block b numbers from l line first n₀ 
 abbrev μ-loop : tie.MeasureT-loop
 μ-loop keys₀ rows₀ at map nx ny nz block b numbers from l line first n₀ x₀ keys rows n x = line .width - x
 
--- The entry, from the loop, and the test of the loop, from the store.
+-- The start, from the loop, and the test of the loop, from the store.
 abbrev entry : tie.At-loop Inv-loop μ-loop → tie.Start Inv-loop μ-loop
 entry turn = let known = turn .before in known .before .before .before .before
 

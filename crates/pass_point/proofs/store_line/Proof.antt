@@ -8,7 +8,7 @@ use Rattle.pass_enrol.proofs.PlaceLaws.{shift-in, line-in}
 use Rattle.pass_point.proofs.store_line.Statement.{statement}
 use Rattle.pass_point.proofs.store_line.Tie as tie
 
--- The entry, from the place where the code begins.
+-- The start, from the place where the code begins.
 abbrev entry : tie.After-struct-known → tie.Start
 entry d = let known = d .before in known .before .before .before .before
 

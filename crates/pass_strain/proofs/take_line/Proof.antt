@@ -22,7 +22,7 @@ Inv-loop sums₀ counts₀ list values kinds map numbers nx ny nz s from l y z f
 abbrev μ-loop : tie.MeasureT-loop
 μ-loop sums₀ counts₀ list values kinds map numbers nx ny nz s from l y z face line many i₀ sums counts i = many - i
 
--- The places before the loop: where the cells are listed, where the line is told, and the entry.
+-- The places before the loop: where the cells are listed, where the line is told, and the start.
 abbrev shown : tie.At-loop Inv-loop μ-loop → tie.After-list-shown Inv-loop μ-loop
 shown turn = turn .before .before .before
 

@@ -22,7 +22,7 @@ Inv-loop map nx ny nz l q filled line x₀ x =
 abbrev μ-loop : tie.MeasureT-loop
 μ-loop map nx ny nz l q filled line x₀ x = line .width - x
 
--- The entry, from the loop.
+-- The start, from the loop.
 abbrev entry : tie.At-loop Inv-loop μ-loop → tie.Start Inv-loop μ-loop
 entry turn = turn .before .before .before .before
 

@@ -1,4 +1,4 @@
--- `reader::count_bits` meets its contract. The loop's invariant: the bitsBefore bits of the first c cells are counted.
+-- `reader::count_bits` meets its contract. The loop's invariant: the standing bits of the first c cells are counted.
 use Prim.Native.Nat.{_-_, _≤_, _<_}
 use mathlib.Core.Path.{_≡_, _∙_}
 use native.Mathlib.Omega.{arith}

@@ -1,4 +1,4 @@
--- `reader::whole_bits` meets its contract. The loop's invariant: the bitsBefore bits of the first i bytes are counted.
+-- `reader::whole_bits` meets its contract. The loop's invariant: the standing bits of the first i bytes are counted.
 use Prim.Native.Nat.{_+_, _-_, _*_, _≤_}
 use mathlib.Core.Path.{_≡_, refl, _∙_, sym}
 use native.Mathlib.Omega.{arith}

@@ -71,7 +71,10 @@ same-length : tie.Need-same-length
 same-length c = search needs
 
 same-length-2 : tie.Need-same-length-2
-same-length-2 c = search (needs, put (faces (curves (c .before .before .before) .before) .before) .put-block)
+same-length-2 c =
+    let curved = curves (c .before .before .before) in
+    let faced = faces (curved .before) in
+    search (needs, put (faced .before) .put-block)
 
 same-length-3 : tie.Need-same-length-3
 same-length-3 c = search needs
