@@ -21,7 +21,7 @@ use mathlib.Core.List.{List, [], _∷_}
 use Rattle.closure.specs.Joined.{edge}
 use Rattle.cells.specs.Box.{triple}
 use Rattle.joiner.specs.Job.{Closed}
-use Rattle.theory_model.specs.Jobs.{told}
+use Rattle.theory_model.specs.Volumes.{told}
 use Rattle.theory_samples.specs.Answers.{Sample, Job}
 ";
 
