@@ -1,6 +1,5 @@
 // Union-find over a lent table of links: union to the smaller id, path halving.
 // A link is a distance back, so a table of any content is a forest, and every function answers for every input.
-use lists::write_zeros;
 ghost use mathlib.Core.Path.{_≡_};
 ghost use Prim.Native.Nat.{_-_};
 ghost use lib.ListN.{length};
@@ -83,8 +82,11 @@ pub fn unite(links: &mut [u32], a: u32, b: u32)
 pub fn clear(links: &mut [u32])
     ensures { λ _. ⌜ now (links .exit) ≡ zeros (length (now (links .entry))) ⌝ }
 {
-    let n = links.len();
-    write_zeros(links, 0, n);
+    let mut next: usize = 1;
+    while next <= links.len() {
+        links[next - 1] = 0;
+        next += 1;
+    }
 }
 
 // Whether the link of each id below n is at most its place.
