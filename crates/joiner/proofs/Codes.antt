@@ -82,14 +82,32 @@ lowest-has k good t ht =
     let r = keep-out (λ b. hasCell k b c) (consecutive 0 (blocks k)) (first-in (keep (λ b. hasCell k b c) (consecutive 0 (blocks k))) m) in
     (omega (arith, consecutive-out 0 (blocks k) (r .0)), r .1)
 
--- .. and holds it
-pub lowest-has-cell : (k : Cutting) → goodCut k ≡ true → (t : ℕ) → t < cells (k .extents)
-    → (lowestBlock k (place (sides (k .extents)) t) < blocks k) × BlockHas k (lowestBlock k (place (sides (k .extents)) t)) t
-lowest-has-cell k good t ht =
-    let c : Triple = place (sides (k .extents)) t in
+-- The lowest block that has a cell of the volume, and where the cell stands in it.
+abbrev pub lowestOf : Cutting → ℕ → ℕ
+lowestOf k t = lowestBlock k (place (sides (k .extents)) t)
+
+abbrev pub localOf : Cutting → ℕ → ℕ
+localOf k t = local k (lowestOf k t) (place (sides (k .extents)) t)
+
+pub record InLowest (k : Cutting) (t : ℕ) : Type 0 where
+  pub listed : lowestOf k t < blocks k
+  pub has : hasCell k (lowestOf k t) (place (sides (k .extents)) t) ≡ true
+  pub within : localOf k t < cells (blockExtents k (lowestOf k t))
+  pub is : embed k (lowestOf k t) (localOf k t) ≡ t
+  pub level : order (blockExtents k (lowestOf k t)) (localOf k t) ≡ order (k .extents) t
+
+pub in-lowest : (k : Cutting) → goodCut k ≡ true → (t : ℕ) → t < cells (k .extents) → InLowest k t
+in-lowest k good t ht =
+    let b : ℕ = lowestOf k t in
     let w = lowest-has k good t ht in
-    let h = cell-in-block k good (lowestBlock k c) (w .0) c (w .1) in
-    (w .0, record { p = local k (lowestBlock k c) c; within = h .0; is = h .1 ∙ index-place (sides (k .extents)) t })
+    let h = cell-in-block k good b (w .0) (place (sides (k .extents)) t) (w .1) in
+    let is : embed k b (localOf k t) ≡ t = h .1 ∙ index-place (sides (k .extents)) t in
+    record { listed = w .0; has = w .1; within = h .0; is = is; level = sym (embed-order k good b (w .0) (localOf k t) (h .0)) ∙ ap (order (k .extents)) is }
+
+pub lowest-has-cell : (k : Cutting) → goodCut k ≡ true → (t : ℕ) → t < cells (k .extents) → (lowestOf k t < blocks k) × BlockHas k (lowestOf k t) t
+lowest-has-cell k good t ht =
+    let l = in-lowest k good t ht in
+    (l .listed, record { p = localOf k t; within = l .within; is = l .is })
 
 -- the code of a voxel of the volume, out of the maps
 pub code-of : (k : Cutting) (maps : ℕ → List ℕ) (t : ℕ) → t < cells (k .extents) → order (k .extents) t ≡ 3
@@ -136,12 +154,10 @@ module _ (k : Cutting) (good : goodCut k ≡ true) (own : ℕ → List ℕ)
       let t : ℕ = embed k b p in
       let ht : t < cells (k .extents) = embed-inside k good b hb p hp in
       let ot : order (k .extents) t ≡ 3 = embed-order k good b hb p hp ∙ o in
-      let c : Triple = place (sides (k .extents)) t in
-      let w = lowest-has k good t ht in
-      let h = cell-in-block k good (lowestBlock k c) (w .0) c (w .1) in
-      let g : BlockHas k (lowestBlock k c) t = record { p = local k (lowestBlock k c) c; within = h .0; is = h .1 ∙ index-place (sides (k .extents)) t } in
+      let l = in-lowest k good t ht in
+      let g : BlockHas k (lowestOf k t) t = record { p = localOf k t; within = l .within; is = l .is } in
       let me : BlockHas k b t = record { p = p; within = hp; is = refl } in
-      path-voxel (seam-path k good t b (lowestBlock k c) hb (w .0) me g) hb ot me g ∙ sym (code-of k own t ht ot)
+      path-voxel (seam-path k good t b (lowestOf k t) hb (l .listed) me g) hb ot me g ∙ sym (code-of k own t ht ot)
 
   -- so each map is that of its block of the volume
   pub own-part : (b : ℕ) → b < blocks k → Labelling (blockExtents k b) (own b) → own b ≡ part k (codesOf k own) b

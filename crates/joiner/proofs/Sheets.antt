@@ -28,7 +28,7 @@ use Rattle.cells.proofs.GridLaws.{voxel-cell, voxel-cell-inside, voxel-cell-ord
 use Rattle.labels.proofs.LabelLaws.{labels-numbering}
 use Rattle.cutting.proofs.BlockLaws.{block-code, voxel-same}
 use Rattle.cutting.proofs.CutLaws.{embed-inside, embed-order}
-use Rattle.joiner.proofs.Codes.{cell-in-block, lowest-has}
+use Rattle.joiner.proofs.Codes.{lowestOf, localOf, in-lowest}
 use Rattle.joiner.proofs.Final.{uncut-is}
 use Rattle.joiner.proofs.Readings.{cell-read}
 use Rattle.joiner.proofs.Simulation.{Sim, closed-uncut, finals-at, simulated}
@@ -47,18 +47,14 @@ codes-back k good codes own many h =
     ∙ labels-numbering (k .extents) codes .voxels (voxelCell (k .extents) v) (voxel-cell-inside (k .extents) v hv) (voxel-cell-order (k .extents) v hv)
     ∙ ap (λ (x : ℕ). getD codes x 0) (voxel-cell (k .extents) v hv))
   where
-    in-block : (t : ℕ) → codeIn k own (place (sides (k .extents)) t) ≡ getD (own (lowestBlock k (place (sides (k .extents)) t))) (local k (lowestBlock k (place (sides (k .extents)) t)) (place (sides (k .extents)) t)) 0
+    in-block : (t : ℕ) → codeIn k own (place (sides (k .extents)) t) ≡ getD (own (lowestOf k t)) (localOf k t) 0
     in-block t = unfold codeIn in refl
 
     code-here : (t : ℕ) → t < cells (k .extents) → order (k .extents) t ≡ 3 → codeIn k own (place (sides (k .extents)) t) ≡ getD (uncutMap k codes) t 0
     code-here t ht ot =
-        let c : Triple = place (sides (k .extents)) t in
-        let b : ℕ = lowestBlock k c in
-        let w = lowest-has k good t ht in
-        let g = cell-in-block k good b (w .0) c (w .1) in
-        let is : embed k b (local k b c) ≡ t = g .1 ∙ index-place (sides (k .extents)) t in
-        let o : order (blockExtents k b) (local k b c) ≡ 3 = sym (embed-order k good b (w .0) (local k b c) (g .0)) ∙ ap (order (k .extents)) is ∙ ot in
-        in-block t ∙ ap (λ (l : List ℕ). getD l (local k b c) 0) (h b (w .0)) ∙ voxel-same k good codes b (w .0) (local k b c) (g .0) o ∙ ap (λ (x : ℕ). getD (uncutMap k codes) x 0) is
+        let b : ℕ = lowestOf k t in
+        let l = in-lowest k good t ht in
+        in-block t ∙ ap (λ (m : List ℕ). getD m (localOf k t) 0) (h b (l .listed)) ∙ voxel-same k good codes b (l .listed) (localOf k t) (l .within) (l .level ∙ ot) ∙ ap (λ (x : ℕ). getD (uncutMap k codes) x 0) (l .is)
 
 module _ (e : Triple) (codes : List ℕ) (s : State) (J : ClosedJob e codes s) where
   abbrev passed-open : (offSize 1024 (J .told .cutting .extents) ≡ false) × (goodCut (J .told .cutting) ≡ true) × (lengthsFit (allTrays (J .told) (J .lent)) ≡ true)

@@ -6,27 +6,12 @@ use lib.ListN.{set}
 use Rattle.joiner.specs.Stages.{nextAfter}
 use Rattle.job.specs.declared.Job.{Job}
 use Rattle.job.specs.declared.Stage.{Stage}
-use Rattle.job.specs.JobState.{stageOf, toldOf}
+use Rattle.job.specs.JobState.{byKind, jobWith, numberedOf, stageOf, toldOf}
 use Rattle.stages.specs.Ticks.{tickedIn}
 
 -- The job in a stage, with more faces, curves and points.
 abbrev pub movedOn : Job → Stage → ℕ → ℕ → ℕ → Job
-movedOn j stage faces curves points =
-    record {
-      stage = stage;
-      nx = j .nx;
-      ny = j .ny;
-      nz = j .nz;
-      «face_entries» = j .«face_entries»;
-      «curve_entries» = j .«curve_entries»;
-      «point_entries» = j .«point_entries»;
-      faces = j .faces + faces;
-      curves = j .curves + curves;
-      points = j .points + points;
-      «numbered_faces» = j .«numbered_faces»;
-      «numbered_curves» = j .«numbered_curves»;
-      «numbered_points» = j .«numbered_points»;
-    }
+movedOn j stage faces curves points = jobWith j stage (byKind (j .faces + faces) (j .curves + curves) (j .points + points)) (numberedOf j)
 
 -- The job and the ticks after a step: "ticked and the stage moved".
 pub record Advanced (j : Job) (cx cy cz ticks ticks′ : List ℕ) (step faces curves points : ℕ) (r : Job) : Type 0 where

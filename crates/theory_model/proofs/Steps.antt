@@ -16,7 +16,7 @@ use Rattle.joiner.specs.Job.{Kind, Face, Curve, Point, orderOf, Stage, Points, 
 use Rattle.joiner.specs.Stages.{nextAfter}
 use Rattle.joiner.specs.Calls.{Call, enrol, join, cross, point, look, reading}
 use Rattle.joiner.specs.Declines.{adds, mapStands, refusal, lentTo}
-use Rattle.joiner.specs.Outcomes.{AtCrossing, AtSeam, CrossingDone, Done, EnrolDone, Merged, NumberedKind, Opened, Unopened, PointDone, SeamDone, CallStep, openRefusal, nothing, heads, leads, isOne, classOf, notAfter, rank, headOf, rowAt, rowFinal, finalFace}
+use Rattle.joiner.specs.Outcomes.{AtCrossing, AtSeam, CrossingDone, Done, EnrolDone, KeptNumbers, Merged, NumberedKind, Opened, Unopened, PointDone, SeamDone, CallStep, openRefusal, nothing, heads, leads, isOne, classOf, notAfter, rank, headOf, rowAt, rowFinal, finalFace}
 use Rattle.lists.proofs.Cases.{and-first, and-second, by-test, picked}
 use Rattle.cells.proofs.GridLaws.{upper-neighbour}
 use Rattle.union_find.proofs.LinkLaws.{rooted-refl}
@@ -198,35 +198,42 @@ module _ (s : State) (b : ℕ) (m : List ℕ) (F : Passed s (point b m)) where
       numbered-by s (pointLast s b m) Point (s .job .sofar Point + adds s (point b m) Point) refl refl refl refl
       (omega (arith, point-sizes .firsts, r)) (omega (arith, point-sizes .listed, r))
 
-  point-last : sameStage stage₃ Closed ≡ true → PointDone s b m (pointLast s b m)
-  unfolding pointLast moved numberKind instead pointTables ticked
-  point-last e = record {
+  -- the state after the step, with such numbers, first positions and rows, and so many of each kind
+  abbrev listing : (Kind → List ℕ) → (Kind → List ℕ) → (Kind → List ℕ) → (Kind → ℕ) → State
+  listing numbers firsts listed many =
+      let t = pointTables s b m in
+      moved s (point b m) (record { ticks = t .ticks; blocks = t .blocks; links = t .links; keys = t .keys; rows = t .rows; numbers = numbers; firsts = firsts; listed = listed }) many
+
+  point-listing : (numbers firsts listed : Kind → List ℕ) (many : Kind → ℕ) → let t = listing numbers firsts listed many in
+      KeptNumbers s t Face → KeptNumbers s t Curve → (stage₃ ≡ Closed → NumberedKind s t Point (s .job .sofar Point + adds s (point b m) Point)) → (stage₃ ≢ Closed → KeptNumbers s t Point)
+      → PointDone s b m t
+  unfolding moved instead pointTables ticked
+  point-listing numbers firsts listed many f c last before = record {
     step = record { told = refl; ticks = refl; stage = refl; sofar = λ κ. refl };
     blocks = refl;
     face-links = refl;
     curve-links = refl;
-    faces = (found-kept refl, numbers-kept refl refl);
-    curves = (found-kept refl, numbers-kept refl refl);
+    faces = (found-kept refl, f);
+    curves = (found-kept refl, c);
     keys = refl;
     rows = refl;
-    last = λ _. points-numbered;
-    before = λ q. absurd (q (is-stage stage₃ Closed e));
+    last = last;
+    before = before;
   }
 
+  point-last : sameStage stage₃ Closed ≡ true → PointDone s b m (pointLast s b m)
+  unfolding pointLast moved numberKind instead pointTables
+  point-last e =
+      let t = pointLast s b m in
+      point-listing (t .tables .numbers) (t .tables .firsts) (t .tables .listed) (t .job .numbered) (numbers-kept refl refl) (numbers-kept refl refl)
+      (λ _. points-numbered) (λ q. absurd (q (is-stage stage₃ Closed e)))
+
   point-before : sameStage stage₃ Closed ≡ false → PointDone s b m (moved s (point b m) (pointTables s b m) (s .job .numbered))
-  unfolding moved instead pointTables ticked
-  point-before e = record {
-    step = record { told = refl; ticks = refl; stage = refl; sofar = λ κ. refl };
-    blocks = refl;
-    face-links = refl;
-    curve-links = refl;
-    faces = (found-kept refl, numbers-kept refl refl);
-    curves = (found-kept refl, numbers-kept refl refl);
-    keys = refl;
-    rows = refl;
-    last = λ q. absurd (not-stage stage₃ Closed e q);
-    before = λ _. numbers-kept refl refl;
-  }
+  unfolding moved pointTables
+  point-before e =
+      let t = s .tables in
+      point-listing (t .numbers) (t .firsts) (t .listed) (s .job .numbered) (numbers-kept refl refl) (numbers-kept refl refl)
+      (λ q. absurd (not-stage stage₃ Closed e q)) (λ _. numbers-kept refl refl)
 
   point-done : PointDone s b m (acceptedState s (point b m))
   unfolding acceptedState pointed

@@ -33,7 +33,7 @@ use Rattle.joiner.specs.Outcomes.{cellNumber, lookedUp}
 use Rattle.joiner.specs.Job.{Face, Point, State, Told, Tables, stageNumber, Closed}
 use Rattle.joiner.specs.Stages.{hasCell, local, lowestBlock}
 use Rattle.joiner.specs.Statement.{Labelling}
-use Rattle.joiner.proofs.Codes.{cell-in-block, lowest-has}
+use Rattle.joiner.proofs.Codes.{lowestOf, localOf, InLowest, in-lowest}
 use Rattle.joiner.proofs.Readings.{cell-read}
 use Rattle.joiner.proofs.Simulation.{Sim, finals-at}
 use Rattle.pass_point.specs.FoundPoints.{finalIn}
@@ -120,37 +120,28 @@ module _ (o : Told) (own : ℕ → List ℕ) (ext : offSize 1024 (o .cutting .ex
 
   pub closed-shows : (t : ℕ) → t < cells (k .extents) → order (k .extents) t ≡ 2 → Shows k g (uncut B) t
   unfolding lookedUp
-  closed-shows t ht ot = record { number = number; parted = λ z. parted (blockExtents k b) (own b) (lab b (w .0)) p (h .0) level (λ y. z (sym final ∙ final-zero (s .tables) b (getD (own b) p 0) y)) }
+  closed-shows t ht ot = record { number = number; parted = λ z. parted (blockExtents k b) (own b) (lab b (l .listed)) p (l .within) (l .level ∙ ot) (λ y. z (sym final ∙ final-zero (s .tables) b (getD (own b) p 0) y)) }
     where
       c : Triple
       c = place (sides (k .extents)) t
 
       b : ℕ
-      b = lowestBlock k c
+      b = lowestOf k t
 
       p : ℕ
-      p = local k b c
+      p = localOf k t
 
-      w : (b < blocks k) × (hasCell k b c ≡ true)
-      w = lowest-has k good t ht
-
-      h : (p < cells (blockExtents k b)) × (embed k b p ≡ index (sides (k .extents)) c)
-      h = cell-in-block k good b (w .0) c (w .1)
-
-      is : embed k b p ≡ t
-      is = h .1 ∙ index-place (sides (k .extents)) t
-
-      level : order (blockExtents k b) p ≡ 2
-      level = sym (embed-order k good b (w .0) p (h .0)) ∙ ap (order (k .extents)) is ∙ ot
+      l : InLowest k t
+      l = in-lowest k good t ht
 
       owned : ownCell k b p ≡ true
-      owned = own-lowest k good b (w .0) p (h .0) ∙ lowest-true k b p (ap (λ (x : ℕ). lowestBlock k (place (sides (k .extents)) x)) is)
+      owned = own-lowest k good b (l .listed) p (l .within) ∙ lowest-true k b p (ap (λ (x : ℕ). lowestBlock k (place (sides (k .extents)) x)) (l .is))
 
       final : finalOf (s .tables) Face b (getD (own b) p 0) ≡ getD (uncut B) t 0
       final =
-          sym (number-face k (s .tables) (s .job .numbered Point) b (own b) c p level)
+          sym (number-face k (s .tables) (s .job .numbered Point) b (own b) c p (l .level ∙ ot))
           ∙ sym (ap (λ (z : Told). cellNumber (z .cutting) (s .tables) (s .job .numbered Point) b (own b) c (local (z .cutting) b c)) (S .inv .told))
-          ∙ cell-read o own good lab B s (S .inv) (omega (arith, at-closed)) (finals-at o own ext good lab B s S at-closed) b c (w .0) (w .1)
+          ∙ cell-read o own good lab B s (S .inv) (omega (arith, at-closed)) (finals-at o own ext good lab B s S at-closed) b c (l .listed) (l .has)
           ∙ ap (λ (z : Told). getD (uncut B) (index (sides (z .cutting .extents)) c) 0) (S .inv .btold)
           ∙ ap (λ (x : ℕ). getD (uncut B) x 0) (index-place (sides (k .extents)) t)
 

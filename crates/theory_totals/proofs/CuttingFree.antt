@@ -13,7 +13,7 @@ use Rattle.labels.specs.Number.{labels}
 use Rattle.cutting.specs.Cutting.{Cutting, blocks, goodCut, blockExtents, embed}
 use Rattle.cutting.proofs.CutLaws.{embed-order, embed-up}
 use Rattle.joiner.specs.Stages.{hasCell, local, lowestBlock}
-use Rattle.joiner.proofs.Codes.{cell-in-block, lowest-has}
+use Rattle.joiner.proofs.Codes.{lowestOf, localOf, InLowest, in-lowest}
 use Rattle.joiner.proofs.Sheets.{codes-back}
 use Rattle.joiner.proofs.Statement3.{opened-passed}
 use Rattle.strains.specs.declared.Reading.{Reading}
@@ -30,40 +30,28 @@ module _ (k : Cutting) (good : goodCut k ≡ true) (reading : ℕ → Reading) (
   unfolding readingFrom
   reading-one t ht ot q i =
       subst (λ (x : ℕ). readingAt (values b) (kinds b) (voxel (blockExtents k b) (local k b (place (sides (k .extents)) x))) ≡ reading (voxel (k .extents) x)) (f .2)
-      (ap (λ (x : ℕ). readingAt (values b) (kinds b) (voxel (blockExtents k b) x)) (embed-local k good b hb r (u .within))
-      ∙ one b (voxel (blockExtents k b) r) hb (voxel-inside (blockExtents k b) r (u .within))
-      ∙ ap (λ (x : ℕ). reading (voxel (k .extents) (embed k b x))) (cell-voxel (blockExtents k b) r (u .within) (u .higher ∙ ap suc level)))
+      (ap (λ (x : ℕ). readingAt (values b) (kinds b) (voxel (blockExtents k b) x)) (embed-local k good b (l .listed) r (u .within))
+      ∙ one b (voxel (blockExtents k b) r) (l .listed) (voxel-inside (blockExtents k b) r (u .within))
+      ∙ ap (λ (x : ℕ). reading (voxel (k .extents) (embed k b x))) (cell-voxel (blockExtents k b) r (u .within) (u .higher ∙ ap suc (l .level ∙ ot))))
     where
       b : ℕ
-      b = lowestBlock k (place (sides (k .extents)) t)
-
-      w : (b < blocks k) × (hasCell k b (place (sides (k .extents)) t) ≡ true)
-      w = lowest-has k good t ht
-
-      hb : b < blocks k
-      hb = w .0
+      b = lowestOf k t
 
       p : ℕ
-      p = local k b (place (sides (k .extents)) t)
+      p = localOf k t
 
-      h : (p < cells (blockExtents k b)) × (embed k b p ≡ index (sides (k .extents)) (place (sides (k .extents)) t))
-      h = cell-in-block k good b hb (place (sides (k .extents)) t) (w .1)
-
-      is : embed k b p ≡ t
-      is = h .1 ∙ index-place (sides (k .extents)) t
-
-      level : order (blockExtents k b) p ≡ 2
-      level = sym (embed-order k good b hb p (h .0)) ∙ ap (order (k .extents)) is ∙ ot
+      l : InLowest k t
+      l = in-lowest k good t ht
 
       -- the voxel is one of the block's
       f : (r : ℕ) × List·Memᴰ r (upperNeighbours (blockExtents k b) p) × (embed k b r ≡ q)
-      f = Memᴰ·of-map (embed k b) (upperNeighbours (blockExtents k b) p) (subst (List·Memᴰ q) (sym (embed-up k good b hb p (h .0) ∙ ap (upperNeighbours (k .extents)) is)) i)
+      f = Memᴰ·of-map (embed k b) (upperNeighbours (blockExtents k b) p) (subst (List·Memᴰ q) (sym (embed-up k good b (l .listed) p (l .within) ∙ ap (upperNeighbours (k .extents)) (l .is))) i)
 
       r : ℕ
       r = f .0
 
       u : Upper (blockExtents k b) p r
-      u = upper-neighbour (blockExtents k b) p (h .0) (f .1)
+      u = upper-neighbour (blockExtents k b) p (l .within) (f .1)
 
 -- "Cutting leaves no trace", in totals.
 pub cutting-free : CuttingFree

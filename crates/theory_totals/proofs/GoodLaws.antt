@@ -16,7 +16,7 @@ use Rattle.labels.proofs.ComponentLaws.{of-order-out}
 use Rattle.labels.specs.Components.{ofOrder}
 use Rattle.cutting.specs.Cutting.{Cutting, blocks, goodCut, blockExtents}
 use Rattle.joiner.specs.Stages.{local, lowestBlock}
-use Rattle.joiner.proofs.Codes.{cell-in-block, lowest-has}
+use Rattle.joiner.proofs.Codes.{lowestOf, localOf, in-lowest}
 use Rattle.strains.specs.Readings.{isGood}
 use Rattle.strains.specs.declared.Reading.{Reading}
 use Rattle.totals.specs.Totals.{Taken, taken, slotOf, readingAt, readingsFor}
@@ -71,7 +71,6 @@ readings-good k good g h s =
     (good-gathered (takenAt k g) (ofOrder (k .extents) 2)
     (λ t m.
     let o = of-order-out (k .extents) 2 m in
-    let c : Triple = place (sides (k .extents)) t in
-    let b : ℕ = lowestBlock k c in
-    let w = lowest-has k good t (o .0) in
-    good-cell (blockExtents k b) (starts k b) (g b) (local k b c) (cell-in-block k good b (w .0) c (w .1) .0) (λ v l. h b v (w .0) l)))
+    let b : ℕ = lowestOf k t in
+    let l = in-lowest k good t (o .0) in
+    good-cell (blockExtents k b) (starts k b) (g b) (localOf k t) (l .within) (λ v hv. h b v (l .listed) hv)))

@@ -31,7 +31,7 @@ use Rattle.joiner.specs.Book.{Book, uncut}
 use Rattle.joiner.specs.Job.{Closed, State, Told, stageNumber}
 use Rattle.joiner.specs.Stages.{codesOf, hasCell, local, lowestBlock}
 use Rattle.joiner.specs.Statement.{Labelling}
-use Rattle.joiner.proofs.Codes.{cell-in-block, lowest-has}
+use Rattle.joiner.proofs.Codes.{lowestOf, localOf, InLowest, in-lowest}
 use Rattle.joiner.proofs.Final.{part-is, uncut-is}
 use Rattle.joiner.proofs.Simulation.{Sim}
 use Rattle.strains.specs.declared.Reading.{Reading}
@@ -181,37 +181,25 @@ module _ (o : Told) (own : ℕ → List ℕ) (ext : offSize 1024 (o .cutting .ex
   cell-readings t = map (readingFrom k values kinds t) (onSide (k .extents) (uncut B) side t)
 
   module _ (t : ℕ) (ht : t < cells (k .extents)) (ot : order (k .extents) t ≡ 2) where
-    abbrev c : Triple
-    c = place (sides (k .extents)) t
-
     abbrev b : ℕ
-    b = lowestBlock k c
+    b = lowestOf k t
 
     abbrev p : ℕ
-    p = local k b c
+    p = localOf k t
 
-    w : (b < blocks k) × (hasCell k b c ≡ true)
-    w = lowest-has k good t ht
-
-    h : (p < cells (blockExtents k b)) × (embed k b p ≡ index (sides (k .extents)) c)
-    h = cell-in-block k good b (w .0) c (w .1)
-
-    is : embed k b p ≡ t
-    is = h .1 ∙ index-place (sides (k .extents)) t
-
-    cell-level : order (blockExtents k b) p ≡ 2
-    cell-level = sym (embed-order k good b (w .0) p (h .0)) ∙ ap (order (k .extents)) is ∙ ot
+    abbrev l : InLowest k t
+    l = in-lowest k good t ht
 
     -- the readings of the lowest block's voxels beside the cell are those of the volume's
     lifted : map (λ q. readingAt (values b) (kinds b) (voxel (blockExtents k b) q)) (onSide (blockExtents k b) (own b) side p) ≡ cell-readings t
     unfolding readingFrom
     lifted =
         map-alike (λ q. readingAt (values b) (kinds b) (voxel (blockExtents k b) q)) (λ q. readingFrom k values kinds t (embed k b q)) (onSide (blockExtents k b) (own b) side p)
-        (λ q i. ap (λ (x : ℕ). readingAt (values b) (kinds b) (voxel (blockExtents k b) x)) (sym (embed-local k good b (w .0) q (beside (blockExtents k b) (own b) side p q (h .0) i))))
+        (λ q i. ap (λ (x : ℕ). readingAt (values b) (kinds b) (voxel (blockExtents k b) x)) (sym (embed-local k good b (l .listed) q (beside (blockExtents k b) (own b) side p q (l .within) i))))
         ∙ sym (map-map (readingFrom k values kinds t) (embed k b) (onSide (blockExtents k b) (own b) side p))
-        ∙ ap (λ (m : List ℕ). map (readingFrom k values kinds t) (map (embed k b) (onSide (blockExtents k b) m side p))) (part-is o own good lab B s (S .inv) (omega (arith, at-closed)) b (w .0))
-        ∙ ap (map (readingFrom k values kinds t)) (sym (on-side-embed k good codes b (w .0) p (h .0) cell-level side))
-        ∙ ap₂ (λ (m : List ℕ) (x : ℕ). map (readingFrom k values kinds t) (onSide (k .extents) m side x)) (sym (uncut-is o own good lab B s (S .inv) (omega (arith, at-closed)))) is
+        ∙ ap (λ (m : List ℕ). map (readingFrom k values kinds t) (map (embed k b) (onSide (blockExtents k b) m side p))) (part-is o own good lab B s (S .inv) (omega (arith, at-closed)) b (l .listed))
+        ∙ ap (map (readingFrom k values kinds t)) (sym (on-side-embed k good codes b (l .listed) p (l .within) (l .level ∙ ot) side))
+        ∙ ap₂ (λ (m : List ℕ) (x : ℕ). map (readingFrom k values kinds t) (onSide (k .extents) m side x)) (sym (uncut-is o own good lab B s (S .inv) (omega (arith, at-closed)))) (l .is)
 
     -- what is taken at the cell for a side of face n
     at-cell : readingsFor (slotOf n side) (takenAt k g t) ≡ cond (eqb (getD (uncut B) t 0) n) (cell-readings t) []

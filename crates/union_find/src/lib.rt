@@ -23,23 +23,6 @@ pub fn parent(links: &[u32], x: u32) -> u32
     back(x, links[x as usize])
 }
 
-// The root of x.
-pub fn find(links: &[u32], x: u32) -> u32
-    ensures { λ r. ⌜ r ≡ root (now (links .entry)) x ⌝ }
-{
-    if x as usize >= links.len() {
-        return x;
-    }
-    let mut at: u32 = x;
-    loop {
-        let up = back(at, links[at as usize]);
-        if up == at {
-            return at;
-        }
-        at = up;
-    }
-}
-
 // The root of x. Each id on the way is hung two steps higher; no root changes.
 pub fn find_halving(links: &mut [u32], x: u32) -> u32
     ensures { λ r. ⌜ Found (now (links .entry)) (now (links .exit)) x r ⌝ }

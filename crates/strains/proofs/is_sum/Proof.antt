@@ -14,17 +14,11 @@ magnitude-requires c κs = search needs
 
 returns : tie.Need-returns
 unfolding ofBits
-returns c =
-    let e = c .before .magnitude .ensures in
-    subst (λ (r : Float). eq (sub binary64 (add binary64 r (fin false 1 (pos 42))) (fin false 1 (pos 42))) r ≡ isUnits 9007199254740992 (c .before .before .args .x)) (sym e)
-    (below-large (c .before .before .args .x) (subst (λ (r : Float). lt r (fin false 1 (pos 42)) ≡ true) e (c .if1 .taken)))
+returns c = rw (c .before .magnitude .ensures) (below-large _ (rw (c .before .magnitude .ensures) at (c .if1 .taken)))
 
 returns-2 : tie.Need-returns-2
 unfolding ofBits
-returns-2 c =
-    let e = c .before .magnitude .ensures in
-    subst (λ (r : Float). le r (fin false 1 (pos 43)) ≡ isUnits 9007199254740992 (c .before .before .args .x)) (sym e)
-    (from-large (c .before .before .args .x) (c .before .before .good .0 .1) (subst (λ (r : Float). lt r (fin false 1 (pos 42)) ≡ false) e (c .if1 .left)))
+returns-2 c = rw (c .before .magnitude .ensures) (from-large _ (c .before .before .good .0 .1) (rw (c .before .magnitude .ensures) at (c .if1 .left)))
 
 pub is-sum-spec : {M : Type 1} → statement M
 is-sum-spec = tie.close (tie.spec magnitude-requires returns returns-2)
