@@ -62,6 +62,14 @@ pub struct StridedLine {
     pub last: usize,
 }
 
+// How many lines the grid has. Not an entry.
+pub fn line_count(nx: usize, ny: usize, nz: usize) -> usize
+    requires { ⌜ Sized 64 (triple nx ny nz) ⌝ }
+    ensures { λ r. ⌜ r ≡ lineCount (triple nx ny nz) ⌝ }
+{
+    (2 * ny - 1) * (2 * nz - 1)
+}
+
 // Line l, of which q axes are odd, for its cells with n odd axes. Not an entry.
 pub fn line_with(nx: usize, ny: usize, nz: usize, n: usize, l: usize, q: usize) -> Line
     requires { ⌜ Sized 64 (triple nx ny nz) × (l < lineCount (triple nx ny nz)) × (q ≡ lineY (triple nx ny nz) l + lineZ (triple nx ny nz) l) ⌝ }

@@ -1,5 +1,6 @@
 // The crossing pass of the joiner: components of one order are joined at the cells where they meet, if their rows are equal.
 // A row is read through the links of the order above, as joined so far.
+use lines::line_count;
 use lines::strided_line;
 use rows::row_of_four;
 use rows::row_of_two;
@@ -292,7 +293,7 @@ pub fn cross_cells(
     ensures { λ _. ⌜ Crossed (now (above .entry)) (now (above .exit)) (now (links .entry)) (now (links .exit))
         (crossEdges (triple nx ny nz) (now (map .entry)) j (root (now (above .entry))) «above_from» from) ⌝ }
 {
-    let lines = (2 * ny - 1) * (2 * nz - 1);
+    let lines = line_count(nx, ny, nz);
     let mut l: usize = 0;
     while l < lines {
         cross_line(map, nx, ny, nz, j, l, above, above_from, links, from);

@@ -4,6 +4,7 @@ use blocks::embed;
 use blocks::local;
 use joiner::KEY_BASE;
 use lines::Line;
+use lines::line_count;
 use lines::line_with;
 use lists::write_front;
 use lists::write_value;
@@ -150,7 +151,7 @@ pub fn store_keys(
     ensures { λ _. ⌜ now (keys .exit) ≡ overlay (now (keys .entry)) from (λ i. keyIn (triple nx ny nz) block b (now (map .entry)) j (suc i)) count ⌝ }
 {
     write_value(keys, from, count, b as u64);
-    let lines = (2 * block.ny - 1) * (2 * block.nz - 1);
+    let lines = line_count(block.nx, block.ny, block.nz);
     let mut l = lines;
     while l > 0 {
         key_line(keys, from, map, nx, ny, nz, block, b, j, l - 1);

@@ -1,4 +1,5 @@
 // The codes of a block laid straight into its map: each at its voxel, and 0 at every other cell. Each cell is written once, whatever it held.
+use lines::line_count;
 use lines::line_with;
 use lists::write_zeros;
 ghost use mathlib.Core.Path.{_≡_};
@@ -52,7 +53,7 @@ pub fn fill(codes: &[u32], nx: usize, ny: usize, nz: usize, map: &mut [u32])
     requires { ⌜ Sized 64 (triple nx ny nz) × (length (now codes) ≡ volume (triple nx ny nz)) × (length (now map) ≡ cells (triple nx ny nz)) ⌝ }
     ensures { λ _. ⌜ now (map .exit) ≡ tabulate (cells (triple nx ny nz)) (codeAt (triple nx ny nz) (now (codes .entry))) ⌝ }
 {
-    let lines = (2 * ny - 1) * (2 * nz - 1);
+    let lines = line_count(nx, ny, nz);
     let mut l: usize = 0;
     while l < lines {
         fill_line(codes, nx, ny, nz, l, map);

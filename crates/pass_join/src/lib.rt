@@ -1,6 +1,7 @@
 // The joining pass of the labeller: cells of one component are joined at the cells where they meet.
 use lines::curve_row;
 use lines::face_row;
+use lines::line_count;
 use lines::strided_line;
 use rows::same_row;
 use union_find::unite;
@@ -184,7 +185,7 @@ pub fn join_cells(map: &[u32], nx: usize, ny: usize, nz: usize, j: usize, links:
     ensures { λ _. ⌜ Rooted (now (links .entry)) (now (links .exit))
         (joins (root (now (links .entry))) (edges (triple nx ny nz) (now (map .entry)) j)) ⌝ }
 {
-    let lines = (2 * ny - 1) * (2 * nz - 1);
+    let lines = line_count(nx, ny, nz);
     let mut l: usize = 0;
     while l < lines {
         join_line(map, nx, ny, nz, j, l, links);

@@ -1,5 +1,6 @@
 // The numbering pass of the labeller: the cells of one order get their numbers in the order of their positions. A cell's link is needed no longer once
 // the cell has its number, so the pass leaves zeros in the table of links: the next order finds a cleared one.
+use lines::line_count;
 use lines::row_near;
 use lines::strided_line;
 use union_find::parent;
@@ -104,7 +105,7 @@ pub fn number_cells(
     ensures total { λ r. ⌜ r ≡ countBelow (leader (rep (edges (triple nx ny nz) (now (map .entry)) j)) (activeOf (triple nx ny nz) (now (map .entry)) j)) (cells (triple nx ny nz)) ⌝ }
     ensures cleared { λ r. ⌜ now (links .exit) ≡ zeros (cells (triple nx ny nz)) ⌝ }
 {
-    let lines = (2 * ny - 1) * (2 * nz - 1);
+    let lines = line_count(nx, ny, nz);
     let mut total: u32 = 0;
     let mut l: usize = 0;
     while l < lines {

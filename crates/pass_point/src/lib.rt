@@ -4,6 +4,7 @@ use blocks::embed;
 use joiner::KEY_BASE;
 use lines::Line;
 use lines::line_at;
+use lines::line_count;
 use lines::line_with;
 use lists::read_or_zero;
 use lists::write_front;
@@ -145,7 +146,7 @@ pub fn count_points(map: &[u32], nx: usize, ny: usize, nz: usize, numbers: &[u32
     requires { ⌜ Sized 64 (triple nx ny nz) × (length (now map) ≡ cells (triple nx ny nz)) ⌝ }
     ensures { λ r. ⌜ r ≡ length (foundCells (triple nx ny nz) (now (numbers .entry)) from (now (map .entry))) ⌝ }
 {
-    let lines = (2 * ny - 1) * (2 * nz - 1);
+    let lines = line_count(nx, ny, nz);
     let mut n: u32 = 0;
     let mut l: usize = 0;
     while l < lines {
@@ -289,7 +290,7 @@ pub fn store_points(
     ensures rows { λ _. ⌜ now (rows .exit)
         ≡ overlay (now (rows .entry)) (6 * at) (λ i. getD (foundRow (sizeOf block) (now (numbers .entry)) from (now (map .entry)) (getD (foundCells (sizeOf block) (now (numbers .entry)) from (now (map .entry))) (i / 6) 0)) (i % 6) 0) (6 * length (foundCells (sizeOf block) (now (numbers .entry)) from (now (map .entry)))) ⌝ }
 {
-    let lines = (2 * block.ny - 1) * (2 * block.nz - 1);
+    let lines = line_count(block.nx, block.ny, block.nz);
     let mut n = at;
     let mut l: usize = 0;
     while l < lines {

@@ -1,6 +1,7 @@
 // The pass that adds a block's readings to the totals, face cell by face cell, line by line.
 use lines::Line;
 use lines::first_stride;
+use lines::line_count;
 use lines::line_with;
 use lowest::Start;
 use lowest::one_if;
@@ -289,7 +290,7 @@ fn take_lines(
         (blockTaken (triple nx ny nz) (startOf s) (brought (now (map .entry)) (now (numbers .entry)) from (now (values .entry)) (now (kinds .entry)))) ⌝ }
 {
     let h = 2 * ny - 1;
-    let lines = h * (2 * nz - 1);
+    let lines = line_count(nx, ny, nz);
     let mut at = Spot { y: 0, z: 0 };
     let mut l: usize = 0;
     while l < lines {

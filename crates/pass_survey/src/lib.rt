@@ -1,4 +1,5 @@
 // What every step of a job learns of a map first: whether each voxel has a code, and the largest number of each order.
+use lines::line_count;
 use lines::line_with;
 ghost use mathlib.Core.Path.{_≡_};
 ghost use mathlib.Core.Bool.{_&&_};
@@ -93,7 +94,7 @@ pub fn survey_map(map: &[u32], nx: usize, ny: usize, nz: usize) -> Survey
     ensures curves { λ r. ⌜ r .curves ≡ largest (triple nx ny nz) (now (map .entry)) 1 ⌝ }
     ensures points { λ r. ⌜ r .points ≡ largest (triple nx ny nz) (now (map .entry)) 0 ⌝ }
 {
-    let lines = (2 * ny - 1) * (2 * nz - 1);
+    let lines = line_count(nx, ny, nz);
     let mut s = Survey {
         filled: true,
         faces: 0,

@@ -1,6 +1,7 @@
 // The reader of block records.
 use extents::off_place;
 use lines::line_at;
+use lines::line_count;
 use refusals::BAD_RECORD;
 use refusals::OFF_SIZE;
 use refusals::WRONG_TRAY;
@@ -137,7 +138,7 @@ fn voxel_clear(bytes: &[u8], nx: usize, ny: usize, nz: usize) -> bool
     requires { ⌜ Sized 64 (triple nx ny nz) × Mapped (now bytes) (cells (triple nx ny nz)) ⌝ }
     ensures { λ r. ⌜ r ≡ someOf (λ c. eqb (bitAt (now (bytes .entry)) c) 0) (ofOrder (triple nx ny nz) 3) ⌝ }
 {
-    let lines = (2 * ny - 1) * (2 * nz - 1);
+    let lines = line_count(nx, ny, nz);
     let mut l: usize = 0;
     while l < lines {
         if line_clear(bytes, nx, ny, nz, l) {

@@ -1,6 +1,7 @@
 // The writer of block records. Everything is decided before the first store.
 use extents::off_place;
 use lines::line_at;
+use lines::line_count;
 use refusals::OFF_SIZE;
 use refusals::STRAY_LABEL;
 use refusals::WRONG_TRAY;
@@ -68,7 +69,7 @@ fn has_blank_voxel(map: &[u32], nx: usize, ny: usize, nz: usize) -> bool
     requires { ⌜ Sized 64 (triple nx ny nz) × (length (now map) ≡ cells (triple nx ny nz)) ⌝ }
     ensures { λ r. ⌜ r ≡ blankVoxel (triple nx ny nz) (now (map .entry)) ⌝ }
 {
-    let lines = (2 * ny - 1) * (2 * nz - 1);
+    let lines = line_count(nx, ny, nz);
     let mut l: usize = 0;
     while l < lines {
         if blank_on(map, nx, ny, nz, l) {

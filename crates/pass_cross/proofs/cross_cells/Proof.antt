@@ -12,8 +12,6 @@ use Rattle.union_find.specs.Links.{root}
 use Rattle.cells.specs.Box.{Triple, triple}
 use Rattle.cells.specs.Grid.{sides, order}
 use Rattle.labels.specs.Components.{ofOrder}
-use Rattle.lines.specs.Lines.{lineCount}
-use Rattle.lines.proofs.LineLaws.{lines-high}
 use Rattle.lines.proofs.WalkLaws.{onwards, lines-first, lines-next, lines-last}
 use Rattle.pass_cross.specs.CrossEdges.{crossAt, crossEdges}
 use Rattle.pass_cross.specs.Inner.{lineEdges}
@@ -42,53 +40,35 @@ order-below s p = eqb (order (extents-of s) p) (s .args .j - 1)
 
 -- The start, from the loop.
 abbrev begin : tie.At-loop Inv-loop μ-loop → tie.Start Inv-loop μ-loop
-begin d = d .before .before .before .before
+begin d = let counted = d .before in counted .before .before .before .before
 
-mul-lines : tie.Need-mul-lines Inv-loop μ-loop
-mul-lines c = search needs
-
-sub-lines : tie.Need-sub-lines Inv-loop μ-loop
-sub-lines c = search needs
-
-mul-lines-2 : tie.Need-mul-lines-2 Inv-loop μ-loop
-mul-lines-2 c = search needs
-
-sub-lines-2 : tie.Need-sub-lines-2 Inv-loop μ-loop
-sub-lines-2 c = search needs
-
-mul-lines-3 : tie.Need-mul-lines-3 Inv-loop μ-loop
-unfolding lineCount sides
-mul-lines-3 c = omega (arith, lines-high (c .before .before .before .pre .sized))
+line-count-requires : tie.Need-line-count-requires Inv-loop μ-loop
+line-count-requires c κs = search needs
 
 loop-holds : tie.Need-loop-holds Inv-loop μ-loop
 unfolding crossEdges ofOrder
-loop-holds c = let s = c .before .before .before in rw (← lines-first (order-below s) (extents-of s)) (rest-all _ _ _)
+loop-holds c = let s = c .before .before .before .before in rw (← lines-first (order-below s) (extents-of s)) (rest-all _ _ _)
 
 cross-line-requires : tie.Need-cross-line-requires Inv-loop μ-loop
-unfolding lineCount sides
 cross-line-requires c κs =
     let d = c .before .before .before in
-    (trays-kept (begin d .pre) (d .loop .inv), c .before .before .loop-test .taken)
+    (trays-kept (begin d .pre) (d .loop .inv), omega (arith, d .before .line-count .ensures, c .before .before .loop-test .taken))
 
 add-l : tie.Need-add-l Inv-loop μ-loop
-unfolding lineCount sides
-add-l c =
-    let back4 = c .before .before .before .before in
-    omega (arith, lines-high (begin (back4 .before .before .before .before) .pre .sized))
+add-l c = search needs
 
 loop-less : tie.Need-loop-less Inv-loop μ-loop
 loop-less c = search needs
 
 loop-again : tie.Need-loop-again Inv-loop μ-loop
-unfolding lineCount sides lineEdges
+unfolding sides lineEdges
 loop-again c =
-    let back4 = c .before .before .before .before in
-    let d = back4 .before .before .before .before in
+    let called = c .before .before .before .before in
+    let test = called .before .before .before in
+    let d = test .before in
     let s = begin d in
-    let l = d .loop in
-    rest-fewer (λ f. lineEdges (edges s f) (extents-of s) (s .args .j - 1) (l .l))
-    (rw (lines-next (order-below s) (extents-of s) (back4 .before .before .before .loop-test .taken), flat-append) at (l .inv))
-    (c .before .before .before .before .cross-line .ensures)
+    let rest = lines-next (order-below s) (extents-of s) {l = d .loop .l} (omega (arith, d .before .line-count .ensures, test .loop-test .taken)) in
+    rest-fewer (λ f. lineEdges (edges s f) (extents-of s) (s .args .j - 1) (d .loop .l)) (rw (rest, flat-append) at (d .loop .inv)) (called .cross-line .ensures)
 
 same-length : tie.Need-same-length Inv-loop μ-loop
 same-length c = search needs
@@ -97,8 +77,11 @@ same-length-2 : tie.Need-same-length-2 Inv-loop μ-loop
 same-length-2 c = search needs
 
 returns : tie.Need-returns Inv-loop μ-loop
-unfolding lineCount sides flatMap
-returns c = let s = begin (c .before) in rest-none (rw (lines-last (order-below s) (extents-of s) (c .loop-test .left)) at (c .before .loop .inv))
+unfolding flatMap
+returns c =
+    let d = c .before in
+    let s = begin d in
+    rest-none (rw (lines-last (order-below s) (extents-of s) {l = d .loop .l} (omega (arith, d .before .line-count .ensures, c .loop-test .left))) at (d .loop .inv))
 
 pub cross-cells-spec : {M : Type 1} → statement M
 cross-cells-spec =
@@ -106,11 +89,7 @@ cross-cells-spec =
     (tie.spec
     Inv-loop
     μ-loop
-    mul-lines
-    sub-lines
-    mul-lines-2
-    sub-lines-2
-    mul-lines-3
+    line-count-requires
     loop-holds
     cross-line-requires
     add-l

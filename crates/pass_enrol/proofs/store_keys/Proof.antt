@@ -5,9 +5,6 @@ use native.Mathlib.Omega.{arith}
 use lib.ListN.{length}
 use borrow.Author.Needs.{needs}
 use Rattle.cells.specs.Box.{triple}
-use Rattle.cells.specs.Grid.{sides}
-use Rattle.lines.specs.Lines.{lineCount}
-use Rattle.lines.proofs.LineLaws.{lines-high}
 use Rattle.blocks.specs.Blocks.{sizeOf}
 use Rattle.pass_survey.proofs.SurveyLaws.{fromLine}
 use Rattle.pass_enrol.specs.EnrolledRows.{keyed}
@@ -25,37 +22,20 @@ abbrev μ-loop : tie.MeasureT-loop
 write-value-requires : tie.Need-write-value-requires Inv-loop μ-loop
 write-value-requires c κs = search needs
 
-mul-lines : tie.Need-mul-lines Inv-loop μ-loop
-mul-lines c = search needs
-
-sub-lines : tie.Need-sub-lines Inv-loop μ-loop
-sub-lines c = search needs
-
-mul-lines-2 : tie.Need-mul-lines-2 Inv-loop μ-loop
-mul-lines-2 c = search needs
-
-sub-lines-2 : tie.Need-sub-lines-2 Inv-loop μ-loop
-sub-lines-2 c = search needs
-
-mul-lines-3 : tie.Need-mul-lines-3 Inv-loop μ-loop
-unfolding lineCount sides
-mul-lines-3 c =
-    let back4 = c .before .before .before .before in
-    omega (arith, lines-high (back4 .before .before .before .before .pre .0 .sized))
+line-count-requires : tie.Need-line-count-requires Inv-loop μ-loop
+line-count-requires c κs = search needs
 
 loop-holds : tie.Need-loop-holds Inv-loop μ-loop
-unfolding lineCount sides
 loop-holds c = (omega arith, refl, lines-start _ _ _ _ _ _ _ _ (omega arith))
 
 sub-key-line : tie.Need-sub-key-line Inv-loop μ-loop
 sub-key-line c = omega (arith, c .before .before .loop .inv .0)
 
 key-line-requires : tie.Need-key-line-requires Inv-loop μ-loop
-unfolding lineCount sides
 key-line-requires c κs =
     let p4 = c .before .before .before .before in
     let p8 = p4 .before .before .before .before in
-    let p = p8 .before .before .before .pre in
+    let p = p8 .before .before .pre in
     (p .0, p .1, p .2, p .3, omega (arith, p .4, p .5, c .before .before .loop .inv .1), omega (arith, c .before .before .loop .inv .0))
 
 sub-l : tie.Need-sub-l Inv-loop μ-loop
@@ -65,11 +45,10 @@ loop-less : tie.Need-loop-less Inv-loop μ-loop
 loop-less c = search needs
 
 loop-again : tie.Need-loop-again Inv-loop μ-loop
-unfolding lineCount sides
 loop-again c =
     let i4 = c .before .before .before .before in
     let i = i4 .before .loop .inv in
-    (omega (arith, i .0), omega (arith, i .1), lines-next _ _ _ _ _ _ _ _ _ _ (omega arith) (i .0) (i .2) (c .before .before .key-line .ensures))
+    (omega (arith, i .0), omega (arith, i .1), lines-next _ _ _ _ _ _ _ _ _ _ (omega arith) (omega (arith, i .0)) (i .2) (c .before .before .key-line .ensures))
 
 same-length : tie.Need-same-length Inv-loop μ-loop
 same-length c = omega (arith, c .before .loop .inv .1)
@@ -79,7 +58,7 @@ returns c =
     let back4 = c .before .before .before .before in
     let back8 = back4 .before .before .before .before in
     let i = c .before .loop .inv in
-    lines-end _ _ _ _ _ _ _ _ _ _ _ (omega arith) (back8 .before .before .pre .4) (back4 .before .before .write-value .ensures) (i .2)
+    lines-end _ _ _ _ _ _ _ _ _ _ _ (omega arith) (back8 .before .pre .4) (back4 .before .write-value .ensures) (i .2)
 
 pub store-keys-spec : {M : Type 1} → statement M
 store-keys-spec =
@@ -88,11 +67,7 @@ store-keys-spec =
     Inv-loop
     μ-loop
     write-value-requires
-    mul-lines
-    sub-lines
-    mul-lines-2
-    sub-lines-2
-    mul-lines-3
+    line-count-requires
     loop-holds
     sub-key-line
     key-line-requires

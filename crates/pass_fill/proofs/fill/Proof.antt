@@ -13,7 +13,7 @@ use Rattle.cells.specs.Box.{triple}
 use Rattle.cells.specs.Grid.{sides, cells}
 use Rattle.labels.specs.Number.{codeAt}
 use Rattle.lines.specs.Lines.{lineCount}
-use Rattle.lines.proofs.LineLaws.{cells-lines, lines-high}
+use Rattle.lines.proofs.LineLaws.{cells-lines}
 use Rattle.pass_fill.proofs.fill.Statement.{statement}
 use Rattle.pass_fill.proofs.fill.Tie as tie
 
@@ -26,55 +26,38 @@ Inv-loop codes nx ny nz map₀ lines l₀ map l =
 abbrev μ-loop : tie.MeasureT-loop
 μ-loop codes nx ny nz map₀ lines l₀ map l = lines - l
 
-mul-lines : tie.Need-mul-lines Inv-loop μ-loop
-mul-lines c = search needs
-
-sub-lines : tie.Need-sub-lines Inv-loop μ-loop
-sub-lines c = search needs
-
-mul-lines-2 : tie.Need-mul-lines-2 Inv-loop μ-loop
-mul-lines-2 c = search needs
-
-sub-lines-2 : tie.Need-sub-lines-2 Inv-loop μ-loop
-sub-lines-2 c = search needs
-
-mul-lines-3 : tie.Need-mul-lines-3 Inv-loop μ-loop
-unfolding lineCount sides
-mul-lines-3 c = omega (arith, lines-high (c .before .before .pre .0))
+line-count-requires : tie.Need-line-count-requires Inv-loop μ-loop
+line-count-requires c κs = search needs
 
 loop-holds : tie.Need-loop-holds Inv-loop μ-loop
 loop-holds c = (omega arith, refl, rw zero-mul (front-none _ _))
 
 fill-line-requires : tie.Need-fill-line-requires Inv-loop μ-loop
-unfolding lineCount sides
 fill-line-requires c κs =
-    let turn = c .before in
+    let turn = c .before .before in
     let st = turn .before .before .before .before in
-    (st .pre .0, st .pre .1, c .before .before .loop .inv .1 ∙ st .pre .2, c .before .loop-test .taken)
+    (st .pre .0, st .pre .1, turn .loop .inv .1 ∙ st .pre .2, omega (arith, turn .before .line-count .ensures, c .before .loop-test .taken))
 
 add-l : tie.Need-add-l Inv-loop μ-loop
-unfolding lineCount sides
-add-l c =
-    let turn = c .before .before .before .before in
-    let st = turn .before .before .before .before in
-    omega (arith, lines-high (st .pre .0), turn .loop-test .taken)
+add-l c = search needs
 
 loop-less : tie.Need-loop-less Inv-loop μ-loop
 loop-less c = search needs
 
 loop-again : tie.Need-loop-again Inv-loop μ-loop
-unfolding lineCount sides
+unfolding sides
 loop-again c =
     let called = c .before .before in
-    let turn = called .before .before in
+    let test = called .before .before in
+    let turn = test .before in
     let st = turn .before .before .before .before in
     let a = st .args in
     let e = triple (a .nx) (a .ny) (a .nz) in
     let w = 2 * a .nx - 1 in
-    let l = turn .before .loop in
+    let l = turn .loop in
     let next : l .l * w + w ≡ (l .l + 1) * w = omega arith in
-    let within : (l .l + 1) * w ≤ lineCount e * w = mul-le-mul-right w (omega (arith, turn .loop-test .taken)) in (
-      omega (arith, turn .loop-test .taken),
+    let within : (l .l + 1) * w ≤ lineCount e * w = mul-le-mul-right w (omega (arith, turn .before .line-count .ensures, test .loop-test .taken)) in (
+      omega (arith, test .loop-test .taken),
       omega (arith, l .inv .1),
       (rw (l .inv .2) at (called .fill-line .ensures)) ∙ front-overlay (a .map .now) (codeAt e (a .codes .now)) (l .l * w) w (omega (arith, cells-lines e, st .pre .2)) ∙ rw next,
     )
@@ -83,13 +66,14 @@ same-length : tie.Need-same-length Inv-loop μ-loop
 same-length c = search needs
 
 returns : tie.Need-returns Inv-loop μ-loop
-unfolding lineCount sides
+unfolding sides
 returns c =
-    let st = c .before .before .before .before in
+    let turn = c .before in
+    let st = turn .before .before .before .before in
     let a = st .args in
     let e = triple (a .nx) (a .ny) (a .nz) in
-    let l = c .before .loop in
-    let last : l .l ≡ (2 * a .ny - 1) * (2 * a .nz - 1) = omega (arith, c .loop-test .left) in
+    let l = turn .loop in
+    let last : l .l ≡ lineCount e = omega (arith, turn .before .line-count .ensures, c .loop-test .left) in
     let end : l .l * (2 * a .nx - 1) ≡ cells e = rw last (sym (cells-lines e)) in
     l .inv .2 ∙ rw end (front-all (a .map .now) (codeAt e (a .codes .now)) (cells e) (st .pre .2))
 
@@ -99,11 +83,7 @@ fill-spec =
     (tie.spec
     Inv-loop
     μ-loop
-    mul-lines
-    sub-lines
-    mul-lines-2
-    sub-lines-2
-    mul-lines-3
+    line-count-requires
     loop-holds
     fill-line-requires
     add-l

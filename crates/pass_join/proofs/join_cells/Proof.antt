@@ -7,8 +7,6 @@ use borrow.Author.Needs.{needs}
 use Rattle.cells.specs.Box.{Triple, triple}
 use Rattle.cells.specs.Grid.{sides}
 use Rattle.labels.specs.Number.{edgesAt, orderBelow, edges}
-use Rattle.lines.specs.Lines.{lineCount}
-use Rattle.lines.proofs.LineLaws.{lines-high}
 use Rattle.lines.proofs.WalkLaws.{onwards, lines-first, lines-next, lines-last}
 use Rattle.union_find.proofs.LinkLaws.{Left, left-all, left-fewer, left-none}
 use Rattle.pass_join.proofs.JoinLaws.{trays-kept, edges-append}
@@ -24,60 +22,45 @@ abbrev μ-loop : tie.MeasureT-loop
 abbrev extents-of : tie.Start Inv-loop μ-loop → Triple
 extents-of s = triple (s .args .nx) (s .args .ny) (s .args .nz)
 
-mul-lines : tie.Need-mul-lines Inv-loop μ-loop
-mul-lines c = search needs
-
-sub-lines : tie.Need-sub-lines Inv-loop μ-loop
-sub-lines c = search needs
-
-mul-lines-2 : tie.Need-mul-lines-2 Inv-loop μ-loop
-mul-lines-2 c = search needs
-
-sub-lines-2 : tie.Need-sub-lines-2 Inv-loop μ-loop
-sub-lines-2 c = search needs
-
-mul-lines-3 : tie.Need-mul-lines-3 Inv-loop μ-loop
-unfolding lineCount sides
-mul-lines-3 c = omega (arith, lines-high (c .before .before .pre .0 .sized))
+line-count-requires : tie.Need-line-count-requires Inv-loop μ-loop
+line-count-requires c κs = search needs
 
 loop-holds : tie.Need-loop-holds Inv-loop μ-loop
 unfolding edges
 loop-holds c =
-    let s = c .before .before in
+    let s = c .before .before .before in
     rw (← lines-first (orderBelow (extents-of s) (s .args .j)) (extents-of s)) (left-all _ _)
 
 join-line-requires : tie.Need-join-line-requires Inv-loop μ-loop
-unfolding lineCount sides
 join-line-requires c κs =
-    let s4 = c .before .before .before .before in
-    let s = s4 .before in
-    (trays-kept (s .pre .0) (c .before .before .loop .inv), s .pre .1, c .before .loop-test .taken)
+    let turn = c .before .before in
+    let s = turn .before .before .before .before in
+    (trays-kept (s .pre .0) (turn .loop .inv), s .pre .1, omega (arith, turn .before .line-count .ensures, c .before .loop-test .taken))
 
 add-l : tie.Need-add-l Inv-loop μ-loop
-unfolding lineCount sides
-add-l c =
-    let back4 = c .before .before .before .before in
-    omega (arith, lines-high (back4 .before .before .before .before .pre .0 .sized))
+add-l c = search needs
 
 loop-less : tie.Need-loop-less Inv-loop μ-loop
 loop-less c = search needs
 
 loop-again : tie.Need-loop-again Inv-loop μ-loop
-unfolding lineCount sides
+unfolding sides
 loop-again c =
-    let s4 = c .before .before .before .before in
-    let s = s4 .before .before .before .before in
-    let rest = lines-next (orderBelow (extents-of s) (s .args .j)) (extents-of s) (s4 .loop-test .taken) in
-    left-fewer _ (rw (rest, edges-append) at (s4 .before .loop .inv)) (c .before .before .join-line .ensures)
+    let test = c .before .before .before .before in
+    let turn = test .before in
+    let s = turn .before .before .before .before in
+    let rest = lines-next (orderBelow (extents-of s) (s .args .j)) (extents-of s) {l = turn .loop .l} (omega (arith, turn .before .line-count .ensures, test .loop-test .taken)) in
+    left-fewer _ (rw (rest, edges-append) at (turn .loop .inv)) (c .before .before .join-line .ensures)
 
 same-length : tie.Need-same-length Inv-loop μ-loop
 same-length c = search needs
 
 returns : tie.Need-returns Inv-loop μ-loop
-unfolding lineCount sides edgesAt
+unfolding edgesAt
 returns c =
-    let s = c .before .before .before .before in
-    left-none (rw (lines-last (orderBelow (extents-of s) (s .args .j)) (extents-of s) (c .loop-test .left)) at (c .before .loop .inv))
+    let turn = c .before in
+    let s = turn .before .before .before .before in
+    left-none (rw (lines-last (orderBelow (extents-of s) (s .args .j)) (extents-of s) {l = turn .loop .l} (omega (arith, turn .before .line-count .ensures, c .loop-test .left))) at (turn .loop .inv))
 
 pub join-cells-spec : {M : Type 1} → statement M
 join-cells-spec =
@@ -85,11 +68,7 @@ join-cells-spec =
     (tie.spec
     Inv-loop
     μ-loop
-    mul-lines
-    sub-lines
-    mul-lines-2
-    sub-lines-2
-    mul-lines-3
+    line-count-requires
     loop-holds
     join-line-requires
     add-l

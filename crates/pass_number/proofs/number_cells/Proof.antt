@@ -9,7 +9,7 @@ use Rattle.closure.proofs.Numbers.{count-bound}
 use Rattle.cells.specs.Box.{triple}
 use Rattle.cells.specs.Grid.{sides}
 use Rattle.lines.specs.Lines.{lineCount}
-use Rattle.lines.proofs.LineLaws.{cells-lines, lines-high}
+use Rattle.lines.proofs.LineLaws.{cells-lines}
 use Rattle.pass_number.specs.Scan.{Scan, scanned}
 use Rattle.pass_number.proofs.ScanLaws.{numberedTo, numbers-none, numbers-line, numbers-all}
 use Rattle.pass_number.proofs.number_cells.Statement.{statement}
@@ -22,50 +22,31 @@ Inv-loop map₀ nx ny nz j links₀ lines total₀ l₀ map links total l =
 abbrev μ-loop : tie.MeasureT-loop
 μ-loop map₀ nx ny nz j links₀ lines total₀ l₀ map links total l = lines - l
 
-mul-lines : tie.Need-mul-lines Inv-loop μ-loop
-mul-lines c = search needs
-
-sub-lines : tie.Need-sub-lines Inv-loop μ-loop
-sub-lines c = search needs
-
-mul-lines-2 : tie.Need-mul-lines-2 Inv-loop μ-loop
-mul-lines-2 c = search needs
-
-sub-lines-2 : tie.Need-sub-lines-2 Inv-loop μ-loop
-sub-lines-2 c = search needs
-
-mul-lines-3 : tie.Need-mul-lines-3 Inv-loop μ-loop
-unfolding lineCount sides
-mul-lines-3 c = omega (arith, lines-high (c .before .before .pre .0))
+line-count-requires : tie.Need-line-count-requires Inv-loop μ-loop
+line-count-requires c κs = search needs
 
 loop-holds : tie.Need-loop-holds Inv-loop μ-loop
 loop-holds c = (omega arith, refl, refl, rw zero-mul (numbers-none _ _ _ _))
 
 number-line-requires : tie.Need-number-line-requires Inv-loop μ-loop
-unfolding lineCount sides
 number-line-requires c κs =
     let turn = c .before .before .before in
-    let st = turn .before .before .before in
+    let st = turn .before .before .before .before in
     let i = turn .loop .inv in
     (st .pre .0, i .1 ∙ st .pre .1, i .2 ∙ st .pre .3 .size, st .pre .2, omega arith, rw (ap (λ (s : Scan). s .total) (i .3)) (count-bound _ _))
 
 add-l : tie.Need-add-l Inv-loop μ-loop
-unfolding lineCount sides
-add-l c =
-    let called = c .before .before .before .before in
-    let turn = called .before .before .before .before in
-    let st = turn .before .before .before in
-    omega (arith, lines-high (st .pre .0))
+add-l c = search needs
 
 loop-less : tie.Need-loop-less Inv-loop μ-loop
 loop-less c = search needs
 
 loop-again : tie.Need-loop-again Inv-loop μ-loop
-unfolding lineCount sides
+unfolding sides
 loop-again c =
     let called = c .before .before .before .before in
     let turn = called .before .before .before .before in
-    let st = turn .before .before .before in
+    let st = turn .before .before .before .before in
     let i = turn .loop .inv in
     (omega arith, omega arith, omega arith, (rw (i .3) at (called .number-line .ensures)) ∙ numbers-line _ _ _ _ (st .pre .1) (st .pre .3) _ (omega arith))
 
@@ -76,12 +57,14 @@ same-length-2 : tie.Need-same-length-2 Inv-loop μ-loop
 same-length-2 c = search needs
 
 returns : tie.Need-returns Inv-loop μ-loop
-unfolding lineCount sides
+unfolding sides
 returns c =
-    let st = c .before .before .before .before in
-    let l = c .before .loop in
-    let i : l .l ≡ (2 * st .args .ny - 1) * (2 * st .args .nz - 1) = omega arith in
-    let N = numbers-all _ _ _ _ (st .pre .1) (st .pre .3) (l .inv .3) (rw i (sym (cells-lines _))) in
+    let turn = c .before in
+    let st = turn .before .before .before .before in
+    let a = st .args in
+    let l = turn .loop in
+    let last : l .l ≡ lineCount (triple (a .nx) (a .ny) (a .nz)) = omega arith in
+    let N = numbers-all _ _ _ _ (st .pre .1) (st .pre .3) (l .inv .3) (rw last (sym (cells-lines _))) in
     (N .0, (N .1, N .2))
 
 pub number-cells-spec : {M : Type 1} → statement M
@@ -90,11 +73,7 @@ number-cells-spec =
     (tie.spec
     Inv-loop
     μ-loop
-    mul-lines
-    sub-lines
-    mul-lines-2
-    sub-lines-2
-    mul-lines-3
+    line-count-requires
     loop-holds
     number-line-requires
     add-l

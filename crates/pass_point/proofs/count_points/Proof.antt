@@ -6,9 +6,6 @@ use native.Mathlib.Omega.{arith}
 use lib.ListN.{length}
 use borrow.Author.Needs.{needs}
 use Rattle.cells.specs.Box.{triple}
-use Rattle.cells.specs.Grid.{sides}
-use Rattle.lines.specs.Lines.{lineCount}
-use Rattle.lines.proofs.LineLaws.{lines-high}
 use Rattle.pass_survey.proofs.SurveyLaws.{fromLine}
 use Rattle.pass_point.specs.FoundPoints.{foundAmong, foundCells}
 use Rattle.pass_point.proofs.PointLaws.{found-all, lines-next, lines-room, lines-last}
@@ -23,47 +20,28 @@ Inv-loop map nx ny nz numbers from lines n₀ l₀ n l =
 abbrev μ-loop : tie.MeasureT-loop
 μ-loop map nx ny nz numbers from lines n₀ l₀ n l = lines - l
 
-mul-lines : tie.Need-mul-lines Inv-loop μ-loop
-mul-lines c = search needs
-
-sub-lines : tie.Need-sub-lines Inv-loop μ-loop
-sub-lines c = search needs
-
-mul-lines-2 : tie.Need-mul-lines-2 Inv-loop μ-loop
-mul-lines-2 c = search needs
-
-sub-lines-2 : tie.Need-sub-lines-2 Inv-loop μ-loop
-sub-lines-2 c = search needs
-
-mul-lines-3 : tie.Need-mul-lines-3 Inv-loop μ-loop
-unfolding lineCount sides
-mul-lines-3 c = omega (arith, lines-high (c .before .before .pre .0))
+line-count-requires : tie.Need-line-count-requires Inv-loop μ-loop
+line-count-requires c κs = search needs
 
 loop-holds : tie.Need-loop-holds Inv-loop μ-loop
 loop-holds c = (omega arith, ap (λ ps. 0 + length ps) (found-all _ _ _ _) ∙ zero-add _)
 
 count-line-requires : tie.Need-count-line-requires Inv-loop μ-loop
-unfolding lineCount sides
 count-line-requires c κs =
-    let p = c .before .before .before .before .pre in
-    let h = c .before .loop in
-    (p .0, p .1, omega arith, lines-room _ _ _ _ _ _ (h .inv .1) (p .0) (omega arith))
+    let turn = c .before in
+    let p = turn .before .before .before .before .pre in
+    (p .0, p .1, omega arith, lines-room _ _ _ _ _ _ (turn .loop .inv .1) (p .0) (omega arith))
 
 add-l : tie.Need-add-l Inv-loop μ-loop
-unfolding lineCount sides
-add-l c =
-    let back4 = c .before .before .before .before in
-    omega (arith, lines-high (back4 .before .pre .0))
+add-l c = search needs
 
 loop-less : tie.Need-loop-less Inv-loop μ-loop
 loop-less c = search needs
 
 loop-again : tie.Need-loop-again Inv-loop μ-loop
-unfolding lineCount sides
 loop-again c = (omega arith, lines-next _ _ _ _ _ _ (c .before .before .loop .inv .1) (omega arith) _ (c .count-line .ensures))
 
 returns : tie.Need-returns Inv-loop μ-loop
-unfolding lineCount sides
 returns c = lines-last _ _ _ _ _ _ (c .before .loop .inv .1) (omega arith)
 
 pub count-points-spec : {M : Type 1} → statement M
@@ -72,11 +50,7 @@ count-points-spec =
     (tie.spec
     Inv-loop
     μ-loop
-    mul-lines
-    sub-lines
-    mul-lines-2
-    sub-lines-2
-    mul-lines-3
+    line-count-requires
     loop-holds
     count-line-requires
     add-l

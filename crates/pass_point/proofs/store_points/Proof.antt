@@ -4,9 +4,6 @@ use mathlib.Core.Path.{refl}
 use native.Mathlib.Omega.{arith}
 use borrow.Author.Needs.{needs}
 use Rattle.cells.specs.Box.{triple}
-use Rattle.cells.specs.Grid.{sides}
-use Rattle.lines.specs.Lines.{lineCount}
-use Rattle.lines.proofs.LineLaws.{lines-high}
 use Rattle.blocks.specs.Blocks.{sizeOf}
 use Rattle.pass_survey.proofs.SurveyLaws.{fromLine, from-next, from-last}
 use Rattle.pass_point.proofs.PointLaws.{found-all}
@@ -21,49 +18,27 @@ Inv-loop keys₀ rows₀ at map nx ny nz block b numbers from lines n₀ l₀ ke
 abbrev μ-loop : tie.MeasureT-loop
 μ-loop keys₀ rows₀ at map nx ny nz block b numbers from lines n₀ l₀ keys rows n l = lines - l
 
-mul-lines : tie.Need-mul-lines Inv-loop μ-loop
-mul-lines c = search needs
-
-sub-lines : tie.Need-sub-lines Inv-loop μ-loop
-sub-lines c = search needs
-
-mul-lines-2 : tie.Need-mul-lines-2 Inv-loop μ-loop
-mul-lines-2 c = search needs
-
-sub-lines-2 : tie.Need-sub-lines-2 Inv-loop μ-loop
-sub-lines-2 c = search needs
-
-mul-lines-3 : tie.Need-mul-lines-3 Inv-loop μ-loop
-unfolding lineCount sides
-mul-lines-3 c =
-    let back4 = c .before .before .before .before in
-    omega (arith, lines-high (back4 .before .before .pre .0 .sized))
+line-count-requires : tie.Need-line-count-requires Inv-loop μ-loop
+line-count-requires c κs = search needs
 
 loop-holds : tie.Need-loop-holds Inv-loop μ-loop
 loop-holds c = (omega arith, left-all _ _ _ _ _ _ _ _ _ _ _ refl)
 
 store-line-requires : tie.Need-store-line-requires Inv-loop μ-loop
-unfolding lineCount sides
 store-line-requires c κs =
     let p4 = c .before .before .before .before in
     let p8 = p4 .before .before .before .before in
-    let p = p8 .before .before .pre in
+    let p = p8 .before .pre in
     let i = c .before .before .before .loop .inv in
     (p .0, p .1, p .2, omega arith, left-room _ _ _ _ _ _ _ _ _ _ _ _ _ _ (i .1) _ _ (from-next _ _ _ (omega arith)) (all-room _ _ _ _ _ _ _ (p .3)))
 
 add-l : tie.Need-add-l Inv-loop μ-loop
-unfolding lineCount sides
-add-l c =
-    let back4 = c .before .before .before .before in
-    let back8 = back4 .before .before .before .before in
-    let back12 = back8 .before .before .before .before in
-    omega (arith, lines-high (back12 .before .before .before .pre .0 .sized))
+add-l c = search needs
 
 loop-less : tie.Need-loop-less Inv-loop μ-loop
 loop-less c = search needs
 
 loop-again : tie.Need-loop-again Inv-loop μ-loop
-unfolding lineCount sides
 loop-again c =
     let i4 = c .before .before .before .before in
     let i = i4 .before .before .before .before .loop .inv in
@@ -76,7 +51,6 @@ same-length-2 : tie.Need-same-length-2 Inv-loop μ-loop
 same-length-2 c = search needs
 
 returns : tie.Need-returns Inv-loop μ-loop
-unfolding lineCount sides
 returns c =
     let s = left-none _ _ _ _ _ _ _ _ _ _ _ _ _ _ (c .before .loop .inv .1) (from-last _ _ _ (omega arith)) in
     (stored-keys _ _ _ _ _ _ _ (found-all _ _ _ _) _ _ _ _ _ _ s, stored-rows _ _ _ _ _ _ _ (found-all _ _ _ _) _ _ _ _ _ _ s)
@@ -87,11 +61,7 @@ store-points-spec =
     (tie.spec
     Inv-loop
     μ-loop
-    mul-lines
-    sub-lines
-    mul-lines-2
-    sub-lines-2
-    mul-lines-3
+    line-count-requires
     loop-holds
     store-line-requires
     add-l

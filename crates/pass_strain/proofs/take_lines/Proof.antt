@@ -6,8 +6,6 @@ use native.Mathlib.Omega.{arith}
 use lib.ListN.{length}
 use borrow.Author.Needs.{needs}
 use Rattle.cells.specs.Box.{triple}
-use Rattle.cells.specs.Grid.{sides}
-use Rattle.lines.specs.Lines.{lineCount}
 use Rattle.lines.proofs.LineLaws.{lines-high}
 use Rattle.lowest.specs.Lowest.{startOf}
 use Rattle.pass_strain.specs.BlockReadings.{brought, Lying}
@@ -29,56 +27,39 @@ mul-h c = search needs
 sub-h : tie.Need-sub-h Inv-loop μ-loop
 sub-h c = search needs
 
-mul-lines : tie.Need-mul-lines Inv-loop μ-loop
-mul-lines c = search needs
-
-sub-lines : tie.Need-sub-lines Inv-loop μ-loop
-sub-lines c = search needs
-
-mul-lines-2 : tie.Need-mul-lines-2 Inv-loop μ-loop
-unfolding lineCount sides
-mul-lines-2 c =
-    let back4 = c .before .before .before .before in
-    omega (arith, lines-high (back4 .before .before .before .pre .0 .sized))
+line-count-requires : tie.Need-line-count-requires Inv-loop μ-loop
+line-count-requires c κs = search needs
 
 loop-holds : tie.Need-loop-holds Inv-loop μ-loop
-unfolding lineCount sides
 loop-holds c = (omega arith, refl, refl, refl, record { y = sym (zero-mod _); z = sym (zero-div _) }, gone-none _ _ _ _ _)
 
 take-line-requires : tie.Need-take-line-requires Inv-loop μ-loop
-unfolding lineCount sides
 take-line-requires c κs =
-    let i = c .before .before .before .before .loop .inv in
-    let p4 = c .before .before .before .before in
-    let p8 = p4 .before .before .before .before in
-    let p = p8 .before .before .before .before .pre in
-    (p .0, omega (arith, c .before .before .before .loop-test .taken), i .4 .y, i .4 .z, omega (arith, i .3, p .1))
+    let turn = c .before .before .before .before in
+    let i = turn .loop .inv in
+    let turn4 = turn .before .before .before .before in
+    let turn8 = turn4 .before .before .before .before in
+    let p = turn8 .before .pre in
+    (p .0, omega (arith, c .before .before .before .loop-test .taken, turn .before .line-count .ensures), i .4 .y, i .4 .z, omega (arith, i .3, p .1))
 
 next-spot-requires : tie.Need-next-spot-requires Inv-loop μ-loop
-unfolding lineCount sides
 next-spot-requires c κs =
     let back4 = c .before .before .before .before in
     let back8 = back4 .before .before .before .before in
-    let g = back8 .before .before .before in
-    let i = g .loop .inv in
-    let p4 = g .before .before .before .before in
-    let p = p4 .before .before .before .before .pre in
-    (omega (arith, p .0 .sized), omega (arith, back8 .before .before .loop-test .taken, lines-high (p .0 .sized)), i .4 .y, i .4 .z)
+    let turn = back8 .before .before .before in
+    let i = turn .loop .inv in
+    let turn4 = turn .before .before .before .before in
+    let turn8 = turn4 .before .before .before .before in
+    let p = turn8 .before .pre in
+    (omega (arith, p .0 .sized), omega (arith, back8 .before .before .loop-test .taken, turn .before .line-count .ensures, lines-high (p .0 .sized)), i .4 .y, i .4 .z)
 
 add-l : tie.Need-add-l Inv-loop μ-loop
-unfolding lineCount sides
-add-l c =
-    let back4 = c .before .before .before .before in
-    let back8 = back4 .before .before .before .before in
-    let back12 = back8 .before .before .before .before in
-    let back16 = back12 .before .before .before .before in
-    omega (arith, lines-high (back16 .before .before .before .before .pre .0 .sized), back8 .before .before .before .loop-test .taken)
+add-l c = search needs
 
 loop-less : tie.Need-loop-less Inv-loop μ-loop
 loop-less c = search needs
 
 loop-again : tie.Need-loop-again Inv-loop μ-loop
-unfolding lineCount sides
 loop-again c =
     let i4 = c .before .before .before .before in
     let i8 = i4 .before .before .before .before in
@@ -97,7 +78,6 @@ same-length-3 : tie.Need-same-length-3 Inv-loop μ-loop
 same-length-3 c = search needs
 
 returns : tie.Need-returns Inv-loop μ-loop
-unfolding lineCount sides
 returns c = gone-all _ _ _ _ _ _ _ _ (c .before .loop .inv .5) (omega arith)
 
 pub take-lines-spec : {M : Type 1} → statement M
@@ -108,9 +88,7 @@ take-lines-spec =
     μ-loop
     mul-h
     sub-h
-    mul-lines
-    sub-lines
-    mul-lines-2
+    line-count-requires
     loop-holds
     take-line-requires
     next-spot-requires

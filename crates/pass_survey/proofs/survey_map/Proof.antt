@@ -3,9 +3,6 @@ use Prim.Native.Nat.{_-_, _≤_}
 use native.Mathlib.Omega.{arith}
 use borrow.Author.Needs.{needs}
 use Rattle.cells.specs.Box.{triple}
-use Rattle.cells.specs.Grid.{sides}
-use Rattle.lines.specs.Lines.{lineCount}
-use Rattle.lines.proofs.LineLaws.{lines-high}
 use Rattle.pass_survey.proofs.SurveyLaws.{Looked, looked-none, looked-next, looked-all}
 use Rattle.pass_survey.proofs.survey_map.Statement.{statement}
 use Rattle.pass_survey.proofs.survey_map.Tie as tie
@@ -16,42 +13,25 @@ Inv-loop map nx ny nz lines s₀ l₀ s l = (l ≤ lines) × Looked (triple nx n
 abbrev μ-loop : tie.MeasureT-loop
 μ-loop map nx ny nz lines s₀ l₀ s l = lines - l
 
-mul-lines : tie.Need-mul-lines Inv-loop μ-loop
-mul-lines c = search needs
-
-sub-lines : tie.Need-sub-lines Inv-loop μ-loop
-sub-lines c = search needs
-
-mul-lines-2 : tie.Need-mul-lines-2 Inv-loop μ-loop
-mul-lines-2 c = search needs
-
-sub-lines-2 : tie.Need-sub-lines-2 Inv-loop μ-loop
-sub-lines-2 c = search needs
-
-mul-lines-3 : tie.Need-mul-lines-3 Inv-loop μ-loop
-unfolding lineCount sides
-mul-lines-3 c = omega (arith, lines-high (c .before .pre .0))
+line-count-requires : tie.Need-line-count-requires Inv-loop μ-loop
+line-count-requires c κs = search needs
 
 loop-holds : tie.Need-loop-holds Inv-loop μ-loop
 loop-holds c = (omega arith, looked-none _ _)
 
 take-line-requires : tie.Need-take-line-requires Inv-loop μ-loop
-unfolding lineCount sides
 take-line-requires c κs = search needs
 
 add-l : tie.Need-add-l Inv-loop μ-loop
-unfolding lineCount sides
-add-l c = omega (arith, lines-high (c .before .before .before .before .pre .0))
+add-l c = search needs
 
 loop-less : tie.Need-loop-less Inv-loop μ-loop
 loop-less c = search needs
 
 loop-again : tie.Need-loop-again Inv-loop μ-loop
-unfolding lineCount sides
 loop-again c = (omega arith, looked-next _ _ _ (omega arith) _ _ (c .before .before .loop .inv .1) (c .take-line .ensures))
 
 returns : tie.Need-returns Inv-loop μ-loop
-unfolding lineCount sides
 returns c = looked-all _ _ _ (omega arith) _ (c .before .loop .inv .1)
 
 pub survey-map-spec : {M : Type 1} → statement M
@@ -60,11 +40,7 @@ survey-map-spec =
     (tie.spec
     Inv-loop
     μ-loop
-    mul-lines
-    sub-lines
-    mul-lines-2
-    sub-lines-2
-    mul-lines-3
+    line-count-requires
     loop-holds
     take-line-requires
     add-l

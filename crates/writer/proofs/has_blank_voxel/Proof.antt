@@ -9,8 +9,6 @@ use borrow.Author.Needs.{needs}
 use Rattle.lists.specs.Lists.{consecutive, keep, someOf}
 use Rattle.cells.specs.Box.{Triple, triple}
 use Rattle.cells.specs.Grid.{sides, order}
-use Rattle.lines.specs.Lines.{lineCount}
-use Rattle.lines.proofs.LineLaws.{lines-high}
 use Rattle.lines.proofs.WalkLaws.{onwards, lines-first, lines-next, lines-last}
 use Rattle.labels.specs.Components.{ofOrder, blankVoxel}
 use Rattle.lists.proofs.Tests.{some-part, some-rest, some-end}
@@ -25,33 +23,19 @@ Inv-loop map nx ny nz lines l₀ l =
 abbrev μ-loop : tie.MeasureT-loop
 μ-loop map nx ny nz lines l₀ l = lines - l
 
-mul-lines : tie.Need-mul-lines Inv-loop μ-loop
-mul-lines c = search needs
-
-sub-lines : tie.Need-sub-lines Inv-loop μ-loop
-sub-lines c = search needs
-
-mul-lines-2 : tie.Need-mul-lines-2 Inv-loop μ-loop
-mul-lines-2 c = search needs
-
-sub-lines-2 : tie.Need-sub-lines-2 Inv-loop μ-loop
-sub-lines-2 c = search needs
-
-mul-lines-3 : tie.Need-mul-lines-3 Inv-loop μ-loop
-unfolding lineCount sides
-mul-lines-3 c = omega (arith, lines-high (c .before .pre .0))
+line-count-requires : tie.Need-line-count-requires Inv-loop μ-loop
+line-count-requires c κs = search needs
 
 loop-holds : tie.Need-loop-holds Inv-loop μ-loop
 unfolding blankVoxel ofOrder
 loop-holds c = (omega arith, ap (someOf _) (lines-first _ _))
 
 blank-on-requires : tie.Need-blank-on-requires Inv-loop μ-loop
-unfolding lineCount sides
 blank-on-requires c κs = search needs
 
 -- The voxels of the line that the loop has come to, and those of the lines after it.
 abbrev extents : tie.At-loop Inv-loop μ-loop → Triple
-extents d = let a = d .before .before .args in triple (a .nx) (a .ny) (a .nz)
+extents d = let a = d .before .before .before .args in triple (a .nx) (a .ny) (a .nz)
 
 abbrev voxels-here : tie.At-loop Inv-loop μ-loop → List ℕ
 voxels-here d = let e = extents d in keep (λ p. eqb (order e p) 3) (consecutive (d .loop .l * sides e .x) (sides e .x))
@@ -60,29 +44,27 @@ abbrev voxels-after : tie.At-loop Inv-loop μ-loop → List ℕ
 voxels-after d = let e = extents d in onwards (λ p. eqb (order e p) 3) e (d .loop .l + 1)
 
 returns : tie.Need-returns Inv-loop μ-loop
-unfolding lineCount sides
+unfolding sides
 returns c =
-    let d = c .before .before .before in
-    some-part _ (voxels-here d) (voxels-after d) (d .loop .inv .1) (lines-next _ _ (c .before .before .loop-test .taken)) (sym (c .if1 .taken) ∙ c .before .blank-on .ensures)
+    let test = c .before .before in
+    let d = test .before in
+    some-part _ (voxels-here d) (voxels-after d) (d .loop .inv .1) (lines-next _ _ {l = d .loop .l} (omega (arith, d .before .line-count .ensures, test .loop-test .taken))) (sym (c .if1 .taken) ∙ c .before .blank-on .ensures)
 
 add-l : tie.Need-add-l Inv-loop μ-loop
-unfolding lineCount sides
-add-l c =
-    let back4 = c .before .before .before .before in
-    omega (arith, lines-high (back4 .before .pre .0), c .before .before .loop-test .taken)
+add-l c = search needs
 
 loop-less : tie.Need-loop-less Inv-loop μ-loop
 loop-less c = search needs
 
 loop-again : tie.Need-loop-again Inv-loop μ-loop
-unfolding lineCount sides
+unfolding sides
 loop-again c =
-    let h = c .before .before .loop-test .taken in
-    (omega arith, some-rest _ (voxels-here (c .before .before .before)) (voxels-after (c .before .before .before)) (c .before .before .before .loop .inv .1) (lines-next _ _ h) (sym (c .if1 .left) ∙ c .before .blank-on .ensures))
+    let test = c .before .before in
+    let d = test .before in
+    (omega arith, some-rest _ (voxels-here d) (voxels-after d) (d .loop .inv .1) (lines-next _ _ {l = d .loop .l} (omega (arith, d .before .line-count .ensures, test .loop-test .taken))) (sym (c .if1 .left) ∙ c .before .blank-on .ensures))
 
 returns-2 : tie.Need-returns-2 Inv-loop μ-loop
-unfolding lineCount sides
-returns-2 c = some-end _ (c .before .loop .inv .1) (lines-last _ _ (c .loop-test .left))
+returns-2 c = let d = c .before in some-end _ (d .loop .inv .1) (lines-last _ _ {l = d .loop .l} (omega (arith, d .before .line-count .ensures, c .loop-test .left)))
 
 pub has-blank-voxel-spec : {M : Type 1} → statement M
 has-blank-voxel-spec =
@@ -90,11 +72,7 @@ has-blank-voxel-spec =
     (tie.spec
     Inv-loop
     μ-loop
-    mul-lines
-    sub-lines
-    mul-lines-2
-    sub-lines-2
-    mul-lines-3
+    line-count-requires
     loop-holds
     blank-on-requires
     returns
