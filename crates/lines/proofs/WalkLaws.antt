@@ -1,15 +1,17 @@
 -- The walk of a pass: along a line, over its cells with n odd axes, and from line to line.
 -- Assumes nothing.
-use mathlib.Core.Path.{_≡_, refl, _∙_}
-use mathlib.Core.Bool.{Bool, cond}
+use mathlib.Core.Path.{_≡_, refl, sym, ap, _∙_}
+use mathlib.Core.Logic.{_≢_}
+use mathlib.Core.Bool.{Bool, true, false, cond}
 use mathlib.Core.List.{List, [], _∷_, _++_}
-use Prim.Native.Nat.{ℕ, zero, suc, _+_, _-_, _*_, _%_, _≤_, _<_}
+use Prim.Native.Nat.{ℕ, zero, suc, _+_, _-_, _*_, _%_, _^_, _≤_, _<_}
 use native.Mathlib.Nat.{mul-le-mul-right}
 use native.Mathlib.Omega.{arith}
 use lib.Dec.{eqb}
 use borrow.Author.Tests.{eq-eqb, ne-eqb}
-use Rattle.lists.specs.Lists.{consecutive, keep}
+use Rattle.lists.specs.Lists.{consecutive, keep, someOf}
 use Rattle.lists.proofs.Lists.{keep-append}
+use Rattle.lists.proofs.Tests.{some-here, some-next, some-end, some-part, some-rest}
 use Rattle.cells.specs.Box.{Triple, stride}
 use Rattle.cells.specs.Extents.{Sized}
 use Rattle.cells.specs.Grid.{sides, cells, order}
@@ -78,6 +80,16 @@ module _ {e : Triple} {n l : ℕ} {r : Line} (L : LineAt e n l r) where
     pub walk-fits : Sized 64 e → l < lineCount e → r .base + x < 2048383
     walk-fits s k = omega (arith, walk-inside k, cells-high s)
 
+    -- .. as the needs ask it: the sums fit, and a list with a place for each cell has this one.
+    pub walk-sum : Sized 64 e → l < lineCount e → r .base + x < 2 ^ 64
+    walk-sum s k = omega (arith, walk-fits s k)
+
+    pub walk-step : Sized 64 e → l < lineCount e → x + 2 < 2 ^ 64
+    walk-step s k = omega (arith, walk-fits s k)
+
+    pub walk-read : l < lineCount e → {m : ℕ} → m ≡ cells e → r .base + x < m
+    walk-read k i = rw i (walk-inside k)
+
     pub walk-order : Walking e n l x → order e (r .base + x) ≡ 3 - n
     walk-order W = let k : x < sides e .x = omega (arith, L .width) in rw (L .base) (line-order e l x k ∙ omega (arith, W .passes k))
 
@@ -121,3 +133,62 @@ module _ (f : ℕ → Bool) (e : Triple) where
   pub lines-last : {l : ℕ} → lineCount e ≤ l → onwards f e l ≡ []
   unfolding onwards consecutive
   lines-last {l} h = let n : cells e - l * sides e .x ≡ 0 = omega (arith, cells-lines e, mul-le-mul-right (sides e .x) h) in rw n
+
+-- ---- a loop that asks whether f is 0 at a voxel
+
+abbrev is-voxel : Triple → ℕ → Bool
+is-voxel e p = eqb (order e p) 3
+
+abbrev pub voxels-on : Triple → ℕ → List ℕ
+voxels-on e l = keep (is-voxel e) (consecutive (l * sides e .x) (sides e .x))
+
+abbrev pub some-zero : (ℕ → ℕ) → List ℕ → Bool
+some-zero f ps = someOf (λ p. eqb (f p) 0) ps
+
+voxel-tests : (e : Triple) (l : ℕ) → Tests (is-voxel e) (l * sides e .x) (sides e .x) 0 (lineY e l + lineZ e l)
+voxel-tests e l = order-tests e 3 l (omega arith)
+
+-- b is the answer for a line, and its voxels from x on give it.
+pub record CellsAsked (f : ℕ → ℕ) (e : Triple) (l : ℕ) (r : Line) (b : Bool) (x : ℕ) : Type 0 where
+  pub told : LineAt e 0 l r
+  pub walking : Walking e 0 l x
+  pub rest : b ≡ some-zero f (ahead (is-voxel e) r x)
+
+-- b is the answer for the grid, and the voxels from line l on give it.
+pub record LinesAsked (f : ℕ → ℕ) (e : Triple) (b : Bool) (l : ℕ) : Type 0 where
+  pub rest : b ≡ some-zero f (onwards (is-voxel e) e l)
+
+-- At the first voxel, at one with 0, at another, and past the last.
+module _ {f : ℕ → ℕ} {e : Triple} {l : ℕ} {r : Line} where
+  pub cells-asked-first : LineAt e 0 l r → CellsAsked f e l r (some-zero f (voxels-on e l)) (r .start)
+  cells-asked-first L = record { told = L; walking = walk-first L; rest = ap (some-zero f) (cells-first L (voxel-tests e l)) }
+
+  module _ {b : Bool} {x : ℕ} (A : CellsAsked f e l r b x) where
+    pub cells-asked-found : {v : ℕ} → x < r .width → v ≡ f (r .base + x) → v ≡ 0 → true ≡ b
+    cells-asked-found h u z = some-here _ (A .rest) (cells-next (A .told) (voxel-tests e l) (A .walking) h) (eq-eqb _ _ (sym u ∙ z))
+
+    pub cells-asked-next : {v : ℕ} → x < r .width → v ≡ f (r .base + x) → v ≢ 0 → CellsAsked f e l r b (x + 2)
+    cells-asked-next h u z = record {
+      told = A .told;
+      walking = walk-next (A .walking);
+      rest = some-next _ (A .rest) (cells-next (A .told) (voxel-tests e l) (A .walking) h) (ne-eqb _ _ (λ i. z (u ∙ i)));
+    }
+
+    pub cells-asked-last : r .width ≤ x → false ≡ b
+    cells-asked-last h = some-end _ (A .rest) (cells-last (A .told) (voxel-tests e l) h)
+
+-- At the first line, at one with such a voxel, at another, and past the last. There are n lines, and t is what line l answers.
+module _ {f : ℕ → ℕ} {e : Triple} where
+  pub lines-asked-first : LinesAsked f e (some-zero f (keep (is-voxel e) (consecutive 0 (cells e)))) 0
+  lines-asked-first = record { rest = ap (some-zero f) (lines-first (is-voxel e) e) }
+
+  module _ {b : Bool} {l n : ℕ} (A : LinesAsked f e b l) (c : n ≡ lineCount e) where
+    module _ {t : Bool} (h : l < n) (u : t ≡ some-zero f (voxels-on e l)) where
+      pub lines-asked-found : t ≡ true → true ≡ b
+      lines-asked-found z = some-part _ (voxels-on e l) _ (A .rest) (lines-next (is-voxel e) e (omega arith)) (sym z ∙ u)
+
+      pub lines-asked-next : t ≡ false → LinesAsked f e b (l + 1)
+      lines-asked-next z = record { rest = some-rest _ (voxels-on e l) (onwards (is-voxel e) e (l + 1)) (A .rest) (lines-next (is-voxel e) e (omega arith)) (sym z ∙ u) }
+
+    pub lines-asked-last : n ≤ l → false ≡ b
+    lines-asked-last h = some-end _ (A .rest) (lines-last _ e {l = l} (omega arith))

@@ -1,24 +1,16 @@
 -- `reader::voxel_clear` meets its contract. The loop's invariant: the voxels from line l on answer for all of them.
-use Prim.Native.Nat.{ℕ, _+_, _-_, _*_, _≤_}
-use mathlib.Core.List.{List}
-use mathlib.Core.Path.{_≡_, ap, _∙_, sym}
-use native.Mathlib.Omega.{arith}
-use lib.Dec.{eqb}
+use Prim.Native.Nat.{_-_}
 use borrow.Author.Needs.{needs}
-use Rattle.lists.specs.Lists.{consecutive, keep, someOf}
-use Rattle.cells.specs.Box.{Triple, triple}
-use Rattle.cells.specs.Grid.{sides, order}
+use Rattle.cells.specs.Box.{triple}
+use Rattle.cells.specs.Grid.{sides}
 use Rattle.labels.specs.Components.{ofOrder}
-use Rattle.lines.proofs.WalkLaws.{onwards, lines-first, lines-next, lines-last}
+use Rattle.lines.proofs.WalkLaws.{some-zero, LinesAsked, lines-asked-first, lines-asked-found, lines-asked-next, lines-asked-last}
 use Rattle.records.specs.Record.{bitAt}
-use Rattle.lists.proofs.Tests.{some-part, some-rest, some-end}
 use Rattle.reader.proofs.voxel_clear.Statement.{statement}
 use Rattle.reader.proofs.voxel_clear.Tie as tie
 
 abbrev Inv-loop : tie.InvT-loop
-Inv-loop bytes nx ny nz lines l₀ l =
-    let e = triple nx ny nz in
-    (l ≤ lines) × (someOf (λ c. eqb (bitAt bytes c) 0) (ofOrder e 3) ≡ someOf (λ c. eqb (bitAt bytes c) 0) (onwards (λ p. eqb (order e p) 3) e l))
+Inv-loop bytes nx ny nz lines l₀ l = let e = triple nx ny nz in LinesAsked (bitAt bytes) e (some-zero (bitAt bytes) (ofOrder e 3)) l
 
 abbrev μ-loop : tie.MeasureT-loop
 μ-loop bytes nx ny nz lines l₀ l = lines - l
@@ -28,27 +20,14 @@ line-count-requires c κs = search needs
 
 loop-holds : tie.Need-loop-holds Inv-loop μ-loop
 unfolding ofOrder
-loop-holds c = (omega arith, ap (someOf _) (lines-first _ _))
+loop-holds c = lines-asked-first
 
 line-clear-requires : tie.Need-line-clear-requires Inv-loop μ-loop
 line-clear-requires c κs = search needs
 
--- The voxels of the line that the loop has come to, and those of the lines after it.
-abbrev extents : tie.At-loop Inv-loop μ-loop → Triple
-extents d = let a = d .before .before .before .args in triple (a .nx) (a .ny) (a .nz)
-
-abbrev voxels-here : tie.At-loop Inv-loop μ-loop → List ℕ
-voxels-here d = let e = extents d in keep (λ p. eqb (order e p) 3) (consecutive (d .loop .l * sides e .x) (sides e .x))
-
-abbrev voxels-after : tie.At-loop Inv-loop μ-loop → List ℕ
-voxels-after d = let e = extents d in onwards (λ p. eqb (order e p) 3) e (d .loop .l + 1)
-
 returns : tie.Need-returns Inv-loop μ-loop
 unfolding sides
-returns c =
-    let test = c .before .before in
-    let d = test .before in
-    some-part _ (voxels-here d) (voxels-after d) (d .loop .inv .1) (lines-next _ _ {l = d .loop .l} (omega (arith, d .before .line-count .ensures, test .loop-test .taken))) (sym (c .if1 .taken) ∙ c .before .line-clear .ensures)
+returns c = search lines-asked-found
 
 add-l : tie.Need-add-l Inv-loop μ-loop
 add-l c = search needs
@@ -58,13 +37,10 @@ loop-less c = search needs
 
 loop-again : tie.Need-loop-again Inv-loop μ-loop
 unfolding sides
-loop-again c =
-    let test = c .before .before in
-    let d = test .before in
-    (omega arith, some-rest _ (voxels-here d) (voxels-after d) (d .loop .inv .1) (lines-next _ _ {l = d .loop .l} (omega (arith, d .before .line-count .ensures, test .loop-test .taken))) (sym (c .if1 .left) ∙ c .before .line-clear .ensures))
+loop-again c = search lines-asked-next
 
 returns-2 : tie.Need-returns-2 Inv-loop μ-loop
-returns-2 c = let d = c .before in some-end _ (d .loop .inv .1) (lines-last _ _ {l = d .loop .l} (omega (arith, d .before .line-count .ensures, c .loop-test .left)))
+returns-2 c = search lines-asked-last
 
 pub voxel-clear-spec : {M : Type 1} → statement M
 voxel-clear-spec =
