@@ -3,7 +3,6 @@
 -- Assumes nothing.
 use Prim.Native.Nat.{ℕ, _+_, _-_}
 use mathlib.Core.Path.{_≡_}
-use mathlib.Core.Bool.{Bool}
 use mathlib.Core.List.{List, flatMap}
 use native.Mathlib.Omega.{arith}
 use lib.Dec.{eqb}
@@ -11,8 +10,8 @@ use borrow.Author.Needs.{needs}
 use Rattle.closure.specs.Joined.{Edge}
 use Rattle.union_find.specs.Links.{root}
 use Rattle.cells.specs.Box.{Triple, triple}
-use Rattle.cells.specs.Grid.{sides, order}
-use Rattle.lines.proofs.WalkLaws.{Walking, ahead, walk-first, walk-next, walk-fits, odd-tests, cells-first, cells-next, cells-last}
+use Rattle.cells.specs.Grid.{order}
+use Rattle.lines.proofs.WalkLaws.{Walking, ahead, walk-first, walk-next, odd-tests, cells-first, cells-next, cells-last, walk-sum, walk-step}
 use Rattle.pass_cross.specs.CrossEdges.{crossAt}
 use Rattle.pass_cross.specs.Inner.{lineEdges}
 use Rattle.pass_cross.proofs.CrossLaws.{StillToCross, rest-all, rest-fewer, rest-none, trays-kept, line-cross}
@@ -56,10 +55,7 @@ loop-holds c =
     (walk-first L, rw (← cells-first L (odd-tests _ _ _ _ (odd-axes (entry told)))) (rest-all _ _ _))
 
 add-cross-at : tie.Need-add-cross-at Inv-loop μ-loop
-add-cross-at c =
-    let turn = c .before .before .before in
-    let p = begin turn .pre in
-    omega (arith, walk-fits (turn .before .before .strided-line .ensures .line) _ (c .before .if1 .taken) (p .0 .sized) (p .1))
+add-cross-at c = search walk-sum
 
 cross-at-requires : tie.Need-cross-at-requires Inv-loop μ-loop
 cross-at-requires c κs =
@@ -74,12 +70,7 @@ abbrev test-of : tie.After-cross-at Inv-loop μ-loop → tie.Then1 Inv-loop μ-l
 test-of called = called .before .before .before .before
 
 add-x : tie.Need-add-x Inv-loop μ-loop
-add-x c =
-    let called = c .before .before .before .before in
-    let test = test-of called in
-    let turn = test .before .before in
-    let p = begin turn .pre in
-    omega (arith, walk-fits (turn .before .before .strided-line .ensures .line) _ (test .if1 .taken) (p .0 .sized) (p .1))
+add-x c = search walk-step
 
 loop-less : tie.Need-loop-less Inv-loop μ-loop
 loop-less c = search needs

@@ -8,7 +8,7 @@ use Rattle.lists.specs.Lists.{consecutive, keep}
 use Rattle.cells.specs.Box.{triple}
 use Rattle.cells.specs.Grid.{sides}
 use Rattle.labels.specs.Number.{edgesAt, orderBelow}
-use Rattle.lines.proofs.WalkLaws.{Walking, ahead, walk-first, walk-next, walk-inside, walk-fits, walk-strided, cells-first, cells-next, cells-last}
+use Rattle.lines.proofs.WalkLaws.{Walking, ahead, walk-first, walk-next, walk-inside, walk-strided, cells-first, cells-next, cells-last, walk-sum, walk-step}
 use Rattle.union_find.proofs.LinkLaws.{Left, left-all, left-fewer, left-none}
 use Rattle.pass_join.proofs.JoinLaws.{trays-kept, below-tests}
 use Rattle.pass_join.proofs.join_line.Statement.{statement}
@@ -41,10 +41,7 @@ loop-holds c =
     (walk-first L, rw (← cells-first L (below-tests _ _ _ (st .pre .1))) (left-all _ _))
 
 add-join-at : tie.Need-add-join-at Inv-loop μ-loop
-add-join-at c =
-    let turn = c .before .before .before in
-    let p = entry turn .pre in
-    omega (arith, walk-fits (turn .before .before .strided-line .ensures .line) _ (c .before .if1 .taken) (p .0 .sized) (p .2))
+add-join-at c = search walk-sum
 
 join-at-requires : tie.Need-join-at-requires Inv-loop μ-loop
 join-at-requires c κs =
@@ -56,12 +53,7 @@ join-at-requires c κs =
     (trays-kept (p .0) (i .1), walk-inside (S .line) _ h (p .2), omega arith, walk-strided S (i .0) h (omega arith))
 
 add-x : tie.Need-add-x Inv-loop μ-loop
-add-x c =
-    let called = c .before .before in
-    let test = called .before .before .before in
-    let turn = test .before .before in
-    let p = entry turn .pre in
-    omega (arith, walk-fits (turn .before .before .strided-line .ensures .line) _ (test .if1 .taken) (p .0 .sized) (p .2))
+add-x c = search walk-step
 
 loop-less : tie.Need-loop-less Inv-loop μ-loop
 loop-less c = search needs

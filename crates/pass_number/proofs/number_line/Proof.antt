@@ -10,7 +10,7 @@ use Rattle.lists.specs.Lists.{consecutive, keep}
 use Rattle.cells.specs.Box.{triple}
 use Rattle.cells.specs.Grid.{sides, order}
 use Rattle.lines.proofs.LineLaws.{order-tests}
-use Rattle.lines.proofs.WalkLaws.{Walking, ahead, walk-first, walk-next, walk-inside, walk-fits, walk-strided, cells-first, cells-next, cells-last}
+use Rattle.lines.proofs.WalkLaws.{Walking, ahead, walk-first, walk-next, walk-inside, walk-fits, walk-strided, cells-first, cells-next, cells-last, walk-sum, walk-step}
 use Rattle.pass_number.specs.Scan.{scanned}
 use Rattle.pass_number.proofs.ScanLaws.{Ahead, ahead-next, ahead-none}
 use Rattle.pass_number.proofs.number_line.Statement.{statement}
@@ -45,11 +45,7 @@ loop-holds c =
     (walk-first L, refl, refl, record { low = omega (arith, p .5, L .base); rest = rw (← cells-first L (order-tests _ _ _ (omega arith))) })
 
 add-number-at : tie.Need-add-number-at Inv-loop μ-loop
-add-number-at c =
-    let test = c .before .before in
-    let turn = test .before .before in
-    let p = entry turn .pre in
-    omega (arith, walk-fits (turn .before .before .strided-line .ensures .line) _ (test .if1 .taken) (p .0) (p .4))
+add-number-at c = search walk-sum
 
 number-at-requires : tie.Need-number-at-requires Inv-loop μ-loop
 number-at-requires c κs =
@@ -62,12 +58,7 @@ number-at-requires c κs =
     (i .1 ∙ p .1, i .2 ∙ p .2, walk-inside (S .line) _ h (p .4), omega (arith, walk-fits (S .line) _ h (p .0) (p .4)), i .3 .low, walk-strided S (i .0) h (omega arith))
 
 add-x : tie.Need-add-x Inv-loop μ-loop
-add-x c =
-    let called = c .before .before .before .before in
-    let test = called .before .before .before .before in
-    let turn = test .before .before in
-    let p = entry turn .pre in
-    omega (arith, walk-fits (turn .before .before .strided-line .ensures .line) _ (test .if1 .taken) (p .0) (p .4))
+add-x c = search walk-step
 
 loop-less : tie.Need-loop-less Inv-loop μ-loop
 loop-less c = search needs

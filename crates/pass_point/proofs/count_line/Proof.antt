@@ -7,9 +7,8 @@ use lib.ListN.{length}
 use borrow.Author.Needs.{needs}
 use Rattle.cells.specs.Box.{triple}
 use Rattle.cells.specs.Grid.{cells, order}
-use Rattle.cells.proofs.ExtentLaws.{cells-high}
 use Rattle.lines.proofs.LineLaws.{order-tests}
-use Rattle.lines.proofs.WalkLaws.{Walking, ahead, walk-first, walk-next, walk-inside, walk-order, cells-first, cells-next, cells-last}
+use Rattle.lines.proofs.WalkLaws.{Walking, ahead, walk-first, walk-next, walk-inside, walk-order, cells-first, cells-next, cells-last, walk-sum, walk-step}
 use Rattle.pass_survey.specs.Survey.{onLine}
 use Rattle.pass_point.specs.FoundPoints.{foundAmong}
 use Rattle.pass_point.proofs.PointLaws.{counted-next, counted-all}
@@ -51,7 +50,7 @@ unfolding onLine
 loop-holds c = let L = c .line-at .ensures in (walk-first L, rw (cells-first L (order-tests _ 0 _ (omega arith))))
 
 add-count-cell : tie.Need-add-count-cell Inv-loop μ-loop
-add-count-cell c = omega (arith, within (c .before), cells-high (entry (c .before .before .before) .pre .0))
+add-count-cell c = search walk-sum
 
 count-cell-requires : tie.Need-count-cell-requires Inv-loop μ-loop
 count-cell-requires c κs =
@@ -64,7 +63,7 @@ add-n : tie.Need-add-n Inv-loop μ-loop
 add-n c = omega (arith, more c, entry (c .before .before .before .before) .pre .3)
 
 add-x : tie.Need-add-x Inv-loop μ-loop
-add-x c = let test = c .before .before in omega (arith, within test, cells-high (entry (test .before .before) .pre .0))
+add-x c = search walk-step
 
 loop-less : tie.Need-loop-less Inv-loop μ-loop
 loop-less c = search needs

@@ -1,14 +1,13 @@
 -- `pass_survey::full_on` meets its contract. The loop's invariant: the cell at x is a voxel, and the voxels from x on decide.
-use Prim.Native.Nat.{_+_, _-_, _<_}
+use Prim.Native.Nat.{_-_}
 use mathlib.Core.Path.{_≡_, ap, _∙_}
 use native.Mathlib.Omega.{arith}
 use lib.Dec.{eqb}
 use borrow.Author.Needs.{needs}
 use Rattle.cells.specs.Box.{triple}
-use Rattle.cells.specs.Grid.{cells, order}
-use Rattle.cells.proofs.ExtentLaws.{cells-high}
+use Rattle.cells.specs.Grid.{order}
 use Rattle.lines.proofs.LineLaws.{order-tests}
-use Rattle.lines.proofs.WalkLaws.{Walking, ahead, walk-first, walk-next, walk-inside, cells-first, cells-next, cells-last}
+use Rattle.lines.proofs.WalkLaws.{Walking, ahead, walk-first, walk-next, cells-first, cells-next, cells-last, walk-sum, walk-step, walk-read}
 use Rattle.pass_survey.specs.Survey.{onLine, full}
 use Rattle.pass_survey.proofs.SurveyLaws.{and-off, and-none, and-all, full-here, full-next, full-none}
 use Rattle.pass_survey.proofs.full_on.Statement.{statement}
@@ -26,10 +25,6 @@ abbrev μ-loop : tie.MeasureT-loop
 abbrev entry : tie.At-loop Inv-loop μ-loop → tie.Start Inv-loop μ-loop
 entry turn = turn .before .before .before .before
 
--- The cell at x lies in the grid.
-inside : (c : tie.Then2 Inv-loop μ-loop) → let turn = c .before .before in let a = entry turn .args in turn .before .line-with .result .base + turn .loop .x < cells (triple (a .nx) (a .ny) (a .nz))
-inside c = let turn = c .before .before in walk-inside (turn .before .line-with .ensures) _ (c .if2 .taken) (entry turn .pre .2)
-
 returns : tie.Need-returns Inv-loop μ-loop
 returns c = search and-off
 
@@ -41,19 +36,13 @@ unfolding onLine
 loop-holds c = let L = c .line-with .ensures in (walk-first L, ap (full _) (cells-first L (order-tests _ 3 _ (omega arith))))
 
 add-if3 : tie.Need-add-if3 Inv-loop μ-loop
-add-if3 c =
-    let turn = c .before .before .before in
-    omega (arith, inside (c .before), cells-high (entry turn .pre .0))
+add-if3 c = search walk-sum
 
 mul-if3 : tie.Need-mul-if3 Inv-loop μ-loop
-mul-if3 c =
-    let turn = c .before .before .before in
-    omega (arith, inside (c .before), cells-high (entry turn .pre .0))
+mul-if3 c = search (needs, walk-read)
 
 shared-slice-read-if3 : tie.Need-shared-slice-read-if3 Inv-loop μ-loop
-shared-slice-read-if3 c =
-    let test = c .before .before in
-    omega (arith, inside test, entry (test .before .before) .pre .1)
+shared-slice-read-if3 c = search walk-read
 
 returns-2 : tie.Need-returns-2 Inv-loop μ-loop
 returns-2 c =
@@ -64,9 +53,7 @@ returns-2 c =
     and-none (entry turn .args .filled) _ (i .1 ∙ ap (full _) rest ∙ full-here _ _ _ (c .if3 .taken))
 
 add-x : tie.Need-add-x Inv-loop μ-loop
-add-x c =
-    let test = c .before .before .before in
-    omega (arith, inside test, cells-high (entry (test .before .before) .pre .0))
+add-x c = search walk-step
 
 loop-less : tie.Need-loop-less Inv-loop μ-loop
 loop-less c = search needs

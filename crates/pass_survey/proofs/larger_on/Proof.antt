@@ -1,14 +1,13 @@
 -- `pass_survey::larger_on` meets its contract. The loop's invariant: the cell at x has order j, and the larger of m and the numbers from x on is the answer.
-use Prim.Native.Nat.{_+_, _-_, _<_, max}
+use Prim.Native.Nat.{_-_, max}
 use mathlib.Core.Path.{_≡_, _∙_}
 use native.Mathlib.Omega.{arith}
 use lib.Dec.{eqb}
 use borrow.Author.Needs.{needs}
 use Rattle.cells.specs.Box.{triple}
-use Rattle.cells.specs.Grid.{cells, order}
-use Rattle.cells.proofs.ExtentLaws.{cells-high}
+use Rattle.cells.specs.Grid.{order}
 use Rattle.lines.proofs.LineLaws.{order-tests}
-use Rattle.lines.proofs.WalkLaws.{Walking, ahead, walk-first, walk-next, walk-inside, cells-first, cells-next, cells-last}
+use Rattle.lines.proofs.WalkLaws.{Walking, ahead, walk-first, walk-next, cells-first, cells-next, cells-last, walk-sum, walk-step, walk-read}
 use Rattle.pass_survey.specs.Survey.{onLine, most}
 use Rattle.pass_survey.proofs.SurveyLaws.{most-next, most-none}
 use Rattle.pass_survey.proofs.larger_on.Statement.{statement}
@@ -22,12 +21,6 @@ Inv-loop map nx ny nz j l q number line m₀ x₀ m x =
 abbrev μ-loop : tie.MeasureT-loop
 μ-loop map nx ny nz j l q number line m₀ x₀ m x = line .width - x
 
--- The cell at x lies in the grid.
-inside : (c : tie.Then1 Inv-loop μ-loop) → let turn = c .before .before in let a = turn .before .before .before .args in turn .before .line-with .result .base + turn .loop .x < cells (triple (a .nx) (a .ny) (a .nz))
-inside c =
-    let turn = c .before .before in
-    walk-inside (turn .before .line-with .ensures) _ (c .if1 .taken) (turn .before .before .before .pre .3)
-
 sub-line-with : tie.Need-sub-line-with Inv-loop μ-loop
 sub-line-with c = search needs
 
@@ -39,29 +32,19 @@ unfolding onLine
 loop-holds c = let L = c .line-with .ensures in (walk-first L, rw (cells-first L (order-tests _ _ _ (omega arith))))
 
 add-larger : tie.Need-add-larger Inv-loop μ-loop
-add-larger c =
-    let turn = c .before .before .before in
-    omega (arith, inside (c .before), cells-high (turn .before .before .before .pre .0))
+add-larger c = search walk-sum
 
 mul-larger : tie.Need-mul-larger Inv-loop μ-loop
-mul-larger c =
-    let turn = c .before .before .before in
-    omega (arith, inside (c .before), cells-high (turn .before .before .before .pre .0))
+mul-larger c = search (needs, walk-read)
 
 shared-slice-read-larger : tie.Need-shared-slice-read-larger Inv-loop μ-loop
-shared-slice-read-larger c =
-    let test = c .before .before in
-    let turn = test .before .before in
-    omega (arith, inside test, turn .before .before .before .pre .1)
+shared-slice-read-larger c = search walk-read
 
 larger-requires : tie.Need-larger-requires Inv-loop μ-loop
 larger-requires c κs = search needs
 
 add-x : tie.Need-add-x Inv-loop μ-loop
-add-x c =
-    let test = c .before .before .before in
-    let turn = test .before .before in
-    omega (arith, inside test, cells-high (turn .before .before .before .pre .0))
+add-x c = search walk-step
 
 loop-less : tie.Need-loop-less Inv-loop μ-loop
 loop-less c = search needs
