@@ -3,7 +3,7 @@
 use mathlib.Core.Path.{_≡_, refl, sym, ap, ap₂, _∙_}
 use mathlib.Core.Logic.{_⊎_, inl, inr, _≢_}
 use mathlib.Core.Bool.{Bool, cond}
-use mathlib.Core.List.{List, [], _∷_, _++_, map, append-assoc, append-nil, head-eq-of-cons-eq, tail-eq-of-cons-eq}
+use mathlib.Core.List.{List, [], _∷_, _++_, List·Memᴰ, List·Memᴰ·head, List·Memᴰ·tail, map, append-assoc, append-nil, head-eq-of-cons-eq, tail-eq-of-cons-eq}
 use Prim.Native.Nat.{ℕ, zero, suc, _+_, _-_, _*_, _/_, _%_, _≤_, _<_}
 use native.Mathlib.Nat.{mul-le-mul, mul-le-mul-right, div-div-eq-div-mul}
 use native.Mathlib.Omega.{arith}
@@ -376,6 +376,18 @@ pub record Reads (m : List ℕ) (p s : ℕ) : Type 0 where
 
 pub reads : (e : Triple) (m : List ℕ) (p : ℕ) → length m ≡ cells e → p < cells e → (pre : List ℕ) (s : ℕ) (post : List ℕ) → odds e p ≡ pre ++ s ∷ post → Reads m p s
 reads e m p k h pre s post o = let f = flank-at e p h pre s post o in record { low = f .low; here = omega arith; high = omega (arith, f .high) }
+
+-- .. for any of the strides, in a list with n places, one for each cell.
+odd-split : {s : ℕ} {ss : List ℕ} → List·Memᴰ s ss → (pre : List ℕ) × (post : List ℕ) × (ss ≡ pre ++ s ∷ post)
+odd-split (List·Memᴰ·head {x} {xs} i) = ([], xs, ap (λ (n : ℕ). n ∷ xs) (sym i))
+odd-split (List·Memᴰ·tail {x} m) = let r = odd-split m in (x ∷ r .0, r .1, ap {B = List ℕ} (λ ns. x ∷ ns) (r .2))
+
+module _ (e : Triple) {p s : ℕ} {ss : List ℕ} (h : p < cells e) (o : odds e p ≡ ss) (m : List·Memᴰ s ss) where
+  pub below-read : s ≤ p
+  below-read = let r = odd-split m in flank-at e p h (r .0) s (r .1) (o ∙ r .2) .low
+
+  pub above-read : {n : ℕ} → n ≡ cells e → p + s < n
+  above-read k = let r = odd-split m in rw k (flank-at e p h (r .0) s (r .1) (o ∙ r .2) .high)
 
 -- The odd strides, by how many there are.
 pub strided-one : {e : Triple} {p n a w b : ℕ} → Strided e p n a w b → n ≡ 1 → odds e p ≡ a ∷ []

@@ -1,31 +1,25 @@
 -- `lines::curve_row` meets its contract.
 use Prim.Native.Nat.{_-_}
 use mathlib.Core.Path.{_∙_, sym}
-use mathlib.Core.List.{[], _∷_}
+use mathlib.Core.List.{[], _∷_, List·Memᴰ·head, List·Memᴰ·tail}
 use borrow.Author.Needs.{needs}
 use Rattle.cells.specs.Box.{triple}
 use Rattle.lines.specs.Lines.{around}
-use Rattle.lines.proofs.LineLaws.{Reads, reads, row-odds}
+use Rattle.lines.proofs.LineLaws.{below-read, above-read, row-odds}
 use Rattle.lines.proofs.curve_row.Statement.{statement}
 use Rattle.lines.proofs.curve_row.Tie as tie
 
-on-a : (st : tie.Start) → Reads (st .args .map .now) (st .args .p) (st .args .a)
-on-a st = reads (triple (st .args .nx) (st .args .ny) (st .args .nz)) (st .args .map .now) (st .args .p) (st .pre .0) (st .pre .1) ([]) (st .args .a) (st .args .b ∷ []) (st .pre .2)
-
-on-b : (st : tie.Start) → Reads (st .args .map .now) (st .args .p) (st .args .b)
-on-b st = reads (triple (st .args .nx) (st .args .ny) (st .args .nz)) (st .args .map .now) (st .args .p) (st .pre .0) (st .pre .1) (st .args .a ∷ []) (st .args .b) ([]) (st .pre .2)
-
 below-requires : tie.Need-below-requires
-below-requires c κs = let r = on-a (c .before) in (r .low, r .here)
+below-requires c κs = search (needs, below-read, List·Memᴰ·head)
 
 above-requires : tie.Need-above-requires
-above-requires c κs = on-a (c .before .before) .high
+above-requires c κs = search (above-read, List·Memᴰ·head)
 
 below-requires-2 : tie.Need-below-requires-2
-below-requires-2 c κs = let r = on-b (c .before .before .before) in (r .low, r .here)
+below-requires-2 c κs = search (needs, below-read, List·Memᴰ·head, List·Memᴰ·tail)
 
 above-requires-2 : tie.Need-above-requires-2
-above-requires-2 c κs = on-b (c .before .before .before .before) .high
+above-requires-2 c κs = search (above-read, List·Memᴰ·head, List·Memᴰ·tail)
 
 row-of-four-requires : tie.Need-row-of-four-requires
 row-of-four-requires c κs = search needs
