@@ -169,7 +169,7 @@ fn cell_count(nx: usize, ny: usize, nz: usize) -> usize
     requires { ⌜ Sized 64 (triple nx ny nz) ⌝ }
     ensures { λ r. ⌜ r ≡ cells (triple nx ny nz) ⌝ }
 {
-    (2 * nx - 1) * (2 * ny - 1) * (2 * nz - 1)
+    line_count(nx, ny, nz) * (2 * nx - 1)
 }
 
 // Whether the record of a block of nx, ny and nz voxels is damaged. The length comes first: it says what can be read.

@@ -1,12 +1,17 @@
 -- `reader::cell_count` meets its contract.
-use mathlib.Core.Path.{refl}
+use Prim.Native.Nat.{_-_, _*_}
+use mathlib.Core.Path.{_≡_, sym}
 use native.Mathlib.Omega.{arith}
 use borrow.Author.Needs.{needs}
-use Rattle.cells.specs.Box.{triple, volume}
+use Rattle.cells.specs.Box.{triple}
 use Rattle.cells.specs.Grid.{cells, sides}
-use Rattle.cells.proofs.ExtentLaws.{cells-are, layer-high, cells-high}
+use Rattle.cells.proofs.ExtentLaws.{cells-high}
+use Rattle.lines.proofs.LineLaws.{cells-lines}
 use Rattle.reader.proofs.cell_count.Statement.{statement}
 use Rattle.reader.proofs.cell_count.Tie as tie
+
+line-count-requires : tie.Need-line-count-requires
+line-count-requires c κs = search needs
 
 mul-result : tie.Need-mul-result
 mul-result c = search needs
@@ -14,40 +19,16 @@ mul-result c = search needs
 sub-result : tie.Need-sub-result
 sub-result c = search needs
 
+-- The lines, each with its cells, are the grid.
+product : (c : tie.After-line-count) → let a = c .before .args in c .line-count .result * (2 * a .nx - 1) ≡ cells (triple (a .nx) (a .ny) (a .nz))
+unfolding sides
+product c = rw (c .line-count .ensures) (sym (cells-lines _))
+
 mul-result-2 : tie.Need-mul-result-2
-mul-result-2 c = search needs
-
-sub-result-2 : tie.Need-sub-result-2
-sub-result-2 c = search needs
-
-mul-result-3 : tie.Need-mul-result-3
-mul-result-3 c = omega (arith, layer-high (c .pre))
-
-mul-result-4 : tie.Need-mul-result-4
-mul-result-4 c = search needs
-
-sub-result-3 : tie.Need-sub-result-3
-sub-result-3 c = search needs
-
-mul-result-5 : tie.Need-mul-result-5
-mul-result-5 c =
-    let a = c .args in
-    omega (arith, cells-are (triple (a .nx) (a .ny) (a .nz)), cells-high (c .pre))
+mul-result-2 c = omega (arith, product c, cells-high (c .before .pre))
 
 returns : tie.Need-returns
-unfolding cells volume sides
-returns c = refl
+returns c = product c
 
 pub cell-count-spec : {M : Type 1} → statement M
-cell-count-spec =
-    tie.close
-    (tie.spec
-    mul-result
-    sub-result
-    mul-result-2
-    sub-result-2
-    mul-result-3
-    mul-result-4
-    sub-result-3
-    mul-result-5
-    returns)
+cell-count-spec = tie.close (tie.spec line-count-requires mul-result sub-result mul-result-2 returns)
