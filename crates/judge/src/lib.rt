@@ -82,6 +82,24 @@ pub struct Lengths {
     pub listed: KindLengths,
 }
 
+// The lengths of a call that is lent nothing. One that is lent some tables names their lengths, and takes the others from here.
+pub const NO_KIND_LENGTHS: KindLengths = KindLengths {
+    faces: 0,
+    curves: 0,
+    points: 0,
+};
+
+pub const NO_LENGTHS: Lengths = Lengths {
+    ticks: 0,
+    blocks: 0,
+    links: NO_KIND_LENGTHS,
+    keys: NO_KIND_LENGTHS,
+    rows: NO_KIND_LENGTHS,
+    numbers: NO_KIND_LENGTHS,
+    firsts: NO_KIND_LENGTHS,
+    listed: NO_KIND_LENGTHS,
+};
+
 // ---- the tests that come first
 
 // The refusals up to 3, 0 for none: off size, bad cut, wrong stage.

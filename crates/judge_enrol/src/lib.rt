@@ -6,6 +6,8 @@ use joiner::TICKS_PER_BLOCK;
 use judge::CallName;
 use judge::KindLengths;
 use judge::Lengths;
+use judge::NO_KIND_LENGTHS;
+use judge::NO_LENGTHS;
 use judge::judge_lengths;
 use pass_survey::Survey;
 use pass_survey::survey_map;
@@ -117,31 +119,24 @@ pub fn lengths_of(
 ) -> Lengths
     ensures { λ r. ⌜ r ≡ lentLengths ticks blocks «face_links» «curve_links» «face_keys» «curve_keys» «face_rows» «curve_rows» ⌝ }
 {
-    let none = KindLengths {
-        faces: 0,
-        curves: 0,
-        points: 0,
-    };
     Lengths {
         ticks: ticks,
         blocks: blocks,
         links: KindLengths {
             faces: face_links,
             curves: curve_links,
-            points: 0,
+            ..NO_KIND_LENGTHS
         },
         keys: KindLengths {
             faces: face_keys,
             curves: curve_keys,
-            points: 0,
+            ..NO_KIND_LENGTHS
         },
         rows: KindLengths {
             faces: face_rows,
             curves: curve_rows,
-            points: 0,
+            ..NO_KIND_LENGTHS
         },
-        numbers: none,
-        firsts: none,
-        listed: none,
+        ..NO_LENGTHS
     }
 }

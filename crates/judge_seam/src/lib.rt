@@ -11,6 +11,8 @@ use judge::CallName;
 use judge::Entry;
 use judge::KindLengths;
 use judge::Lengths;
+use judge::NO_KIND_LENGTHS;
+use judge::NO_LENGTHS;
 use judge::entry_of;
 use judge::fits;
 use judge::judge_map;
@@ -77,24 +79,15 @@ fn trays_fit(
         (lengthsOf (lent (now (ticks .entry)) (now (table .entry)) (now («face_links» .entry)) (now («curve_links» .entry))))
         (length (now (m .entry))) (length (now (n .entry))) ⌝ }
 {
-    let none = KindLengths {
-        faces: 0,
-        curves: 0,
-        points: 0,
-    };
     let lengths = Lengths {
         ticks: ticks.len(),
         blocks: table.len(),
         links: KindLengths {
             faces: face_links.len(),
             curves: curve_links.len(),
-            points: 0,
+            ..NO_KIND_LENGTHS
         },
-        keys: none,
-        rows: none,
-        numbers: none,
-        firsts: none,
-        listed: none,
+        ..NO_LENGTHS
     };
     if !fits(CallName::Seam, count, low, job, lengths, m.len()) {
         return false;

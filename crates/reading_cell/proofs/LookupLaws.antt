@@ -96,11 +96,11 @@ module _ (j : Job) (cx cy cz ticks table faces curves points : List ℕ) (b : �
       look-4 p = rw (← e, sym (h (j .nx) (j .ny) (j .nz)) ∙ not-true t p) (or-then r _ 4 q refl)
 
       pub look-judged : not t ≡ false → (r′ : Block) → anyExtents cx cy cz (λ k. Tells k b r′) → (i : ℕ) → anyExtents cx cy cz (λ k. i ≡ blocks k)
-          → (u : Bool) → u ≡ fitsIn CallName.Lookup i (sizeOf r′) (entriesOf j) (lengthsOf (before .tables)) (length m) → (d : Entry) → d ≡ entryOf table b
+          → (z : Lengths) → z ≡ lengthsOf (before .tables) → (u : Bool) → u ≡ fitsIn CallName.Lookup i (sizeOf r′) (entriesOf j) z (length m) → (d : Entry) → d ≡ entryOf table b
           → (x : ℕ) → anyCuts (λ cx cy cz. x ≡ mapJudged (jobOf j cx cy cz) (sizeOf r′) d u m) → x ≡ lookJudged before b m c
       unfolding lookJudged blockFits
-      look-judged p r′ T i many u f d g x l =
-          rw (← e, sym (h (j .nx) (j .ny) (j .nz)) ∙ not-false t p, ← many (j .nx) (j .ny) (j .nz), ← T (j .nx) (j .ny) (j .nz) .size, ← f, ← g)
+      look-judged p r′ T i many z Z u f d g x l =
+          rw (← e, sym (h (j .nx) (j .ny) (j .nz)) ∙ not-false t p, ← many (j .nx) (j .ny) (j .nz), ← T (j .nx) (j .ny) (j .nz) .size, ← Z, ← f, ← g)
           (or-then r _ x q (l cx cy cz))
 
   -- ---- the refusal is the joiner's

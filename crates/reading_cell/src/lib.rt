@@ -12,6 +12,8 @@ use judge::CallName;
 use judge::Entry;
 use judge::KindLengths;
 use judge::Lengths;
+use judge::NO_KIND_LENGTHS;
+use judge::NO_LENGTHS;
 use judge::entry_of;
 use judge::fits;
 use judge::judge_map;
@@ -35,6 +37,7 @@ ghost use Rattle.joiner.specs.Calls.{look, answer};
 ghost use Rattle.joiner.specs.Outcomes.{CallStep, bisect, pointNumber};
 ghost use Rattle.blocks.specs.Blocks.{anyExtents};
 ghost use Rattle.job.specs.JobState.{stateOf};
+ghost use Rattle.judge.specs.Judge.{lengthsOf};
 ghost use Rattle.reading_cell.specs.Inner.{lent, lookJudged, halvedOf, orderAt, HasPlace, numberIn, handedIn, lookIn};
 
 // What a lookup answers: the number of its refusal, 0 for none, and the final number of the cell.
@@ -54,6 +57,32 @@ fn has_place(cx: &[u32], cy: &[u32], cz: &[u32], b: u32, x: u32, y: u32, z: u32)
     }
     let block = block_at(cx, cy, cz, b as usize);
     has_cell(block, x as u64, y as u64, z as u64)
+}
+
+// The lengths of the tables that a lookup is lent.
+fn lengths_of(
+    ticks: &[u32],
+    table: &[u32],
+    face_numbers: &[u32],
+    curve_numbers: &[u32],
+    point_firsts: &[u64],
+) -> Lengths
+    ensures { λ r. ⌜ r ≡ lengthsOf (lent (now (ticks .entry)) (now (table .entry)) (now («face_numbers» .entry)) (now («curve_numbers» .entry)) (now («point_firsts» .entry))) ⌝ }
+{
+    Lengths {
+        ticks: ticks.len(),
+        blocks: table.len(),
+        numbers: KindLengths {
+            faces: face_numbers.len(),
+            curves: curve_numbers.len(),
+            ..NO_KIND_LENGTHS
+        },
+        firsts: KindLengths {
+            points: point_firsts.len(),
+            ..NO_KIND_LENGTHS
+        },
+        ..NO_LENGTHS
+    }
 }
 
 // The number of the refusal, the lowest that applies, and 0 for none; but for the final number that is handed out.
@@ -85,28 +114,7 @@ fn refusal(
     if !has_place(cx, cy, cz, b, x, y, z) {
         return NO_SUCH_PLACE;
     }
-    let none = KindLengths {
-        faces: 0,
-        curves: 0,
-        points: 0,
-    };
-    let lengths = Lengths {
-        ticks: ticks.len(),
-        blocks: table.len(),
-        links: none,
-        keys: none,
-        rows: none,
-        numbers: KindLengths {
-            faces: face_numbers.len(),
-            curves: curve_numbers.len(),
-            points: 0,
-        },
-        firsts: KindLengths {
-            points: point_firsts.len(),
-            ..none
-        },
-        listed: none,
-    };
+    let lengths = lengths_of(ticks, table, face_numbers, curve_numbers, point_firsts);
     let block = block_at(cx, cy, cz, b as usize);
     let count = block_count(cx, cy, cz);
     let whole = fits(CallName::Lookup, count, block, job, lengths, m.len());

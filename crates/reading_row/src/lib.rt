@@ -7,6 +7,7 @@ use job::tallies_fit;
 use judge::CallName;
 use judge::KindLengths;
 use judge::Lengths;
+use judge::NO_LENGTHS;
 use judge::has_number;
 use judge::lent_fits;
 use refusals::NO_SUCH_PLACE;
@@ -108,24 +109,13 @@ pub fn row<'a>(
         (reading (kindOf kind) number) (answer (now (refusal .exit)) 0 (now r))
         (stateOf job cx cy cz (lent (now («face_listed» .entry)) (now («curve_listed» .entry)) (now («point_listed» .entry))))) ⌝ }
 {
-    let none = KindLengths {
-        faces: 0,
-        curves: 0,
-        points: 0,
-    };
     let lengths = Lengths {
-        ticks: 0,
-        blocks: 0,
-        links: none,
-        keys: none,
-        rows: none,
-        numbers: none,
-        firsts: none,
         listed: KindLengths {
             faces: face_listed.len(),
             curves: curve_listed.len(),
             points: point_listed.len(),
         },
+        ..NO_LENGTHS
     };
     let declined = refuse(job, kind, number, lengths);
     *refusal = declined;

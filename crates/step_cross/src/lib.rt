@@ -4,6 +4,8 @@ use job::Stage;
 use job::same_stage;
 use judge::KindLengths;
 use judge::Lengths;
+use judge::NO_KIND_LENGTHS;
+use judge::NO_LENGTHS;
 use judge_cross::judge_crossing;
 use store_cross::join_curves;
 use store_cross::number_both;
@@ -121,33 +123,34 @@ pub fn crossing(
         links: KindLengths {
             faces: face_links.len(),
             curves: curve_links.len(),
-            points: 0,
+            ..NO_KIND_LENGTHS
         },
         keys: KindLengths {
             faces: face_keys.len(),
             curves: curve_keys.len(),
-            points: 0,
+            ..NO_KIND_LENGTHS
         },
         rows: KindLengths {
             faces: face_rows.len(),
             curves: curve_rows.len(),
-            points: 0,
+            ..NO_KIND_LENGTHS
         },
         numbers: KindLengths {
             faces: face_numbers.len(),
             curves: curve_numbers.len(),
-            points: 0,
+            ..NO_KIND_LENGTHS
         },
         firsts: KindLengths {
             faces: face_firsts.len(),
             curves: curve_firsts.len(),
-            points: 0,
+            ..NO_KIND_LENGTHS
         },
         listed: KindLengths {
             faces: face_listed.len(),
             curves: curve_listed.len(),
-            points: 0,
+            ..NO_KIND_LENGTHS
         },
+        ..NO_LENGTHS
     };
     let number = judge_crossing(
         job,

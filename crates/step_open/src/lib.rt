@@ -9,6 +9,7 @@ use job::total_trays;
 use judge::CallName;
 use judge::KindLengths;
 use judge::Lengths;
+use judge::NO_KIND_LENGTHS;
 use judge::lent_fits;
 use refusals::BAD_CUT;
 use refusals::OFF_SIZE;
@@ -165,7 +166,7 @@ pub fn open(
         links: KindLengths {
             faces: face_links.len(),
             curves: curve_links.len(),
-            points: 0,
+            ..NO_KIND_LENGTHS
         },
         keys: KindLengths {
             faces: face_keys.len(),

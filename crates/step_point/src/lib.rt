@@ -7,6 +7,8 @@ use joiner::POINT_TICK;
 use joiner::TICKS_PER_BLOCK;
 use judge::KindLengths;
 use judge::Lengths;
+use judge::NO_KIND_LENGTHS;
+use judge::NO_LENGTHS;
 use judge::entry_of;
 use judge_point::judge_points;
 use kind_numbers::number_copied;
@@ -126,36 +128,31 @@ pub fn point(
         (lent (now (ticks .exit)) (now (blocks .entry)) (now («curve_numbers» .entry)) (now («point_keys» .exit)) (now («point_rows» .exit)) (now («point_numbers» .exit))
         (now («point_firsts» .exit)) (now («point_listed» .exit)))) ⌝ }
 {
-    let none = KindLengths {
-        faces: 0,
-        curves: 0,
-        points: 0,
-    };
     let lengths = Lengths {
         ticks: ticks.len(),
         blocks: blocks.len(),
-        links: none,
         keys: KindLengths {
             points: point_keys.len(),
-            ..none
+            ..NO_KIND_LENGTHS
         },
         rows: KindLengths {
             points: point_rows.len(),
-            ..none
+            ..NO_KIND_LENGTHS
         },
         numbers: KindLengths {
-            faces: 0,
             curves: curve_numbers.len(),
             points: point_numbers.len(),
+            ..NO_KIND_LENGTHS
         },
         firsts: KindLengths {
             points: point_firsts.len(),
-            ..none
+            ..NO_KIND_LENGTHS
         },
         listed: KindLengths {
             points: point_listed.len(),
-            ..none
+            ..NO_KIND_LENGTHS
         },
+        ..NO_LENGTHS
     };
     let plan = judge_points(
         job,

@@ -4,6 +4,14 @@ use Rattle.step_point.proofs.DoneLaws.{point-refused, point-ready, poin
 use Rattle.step_point.proofs.point.Statement.{statement}
 use Rattle.step_point.proofs.point.Tie as tie
 
+-- The start, from the answer of the tests.
+abbrev start : tie.After-judge-points → tie.Start
+start asked =
+    let map = asked .before .before .before in
+    let rows = map .before .before .before .before in
+    let ticks = rows .before .before .before .before in
+    ticks .before .before .before .before
+
 judge-points-requires : tie.Need-judge-points-requires
 judge-points-requires c κs = search needs
 
@@ -12,21 +20,15 @@ same-length c = search needs
 
 returns : tie.Need-returns
 returns c =
-    let back4 = c .before .before .before .before in
-    let back8 = back4 .before .before .before .before in
-    let back12 = back8 .before .before .before .before in
-    point-refused (back12 .before .before .before .before .args .job) _ _ _ _ _ _ _ _ _ _ _ _ _ _
-    (c .before .before .judge-points .ensures) (c .if1 .taken)
+    let asked = c .before .before in
+    point-refused (start asked .args .job) _ _ _ _ _ _ _ _ _ _ _ _ _ _ (asked .judge-points .ensures) (c .if1 .taken)
 
 accept-requires : tie.Need-accept-requires
 accept-requires c κs =
-    let back4 = c .before .before .before .before in
-    let back8 = back4 .before .before .before .before in
-    let back12 = back8 .before .before .before .before in
-    let back16 = back12 .before .before .before .before in
-    let back20 = back16 .before .before .before .before in
-    point-ready (back20 .before .before .args .job) _ _ _ _ _ _ _ _ _ _ _ _ _ _
-    (back4 .before .before .before .before .judge-points .ensures) (back4 .before .before .if1 .left)
+    let lent = c .before .before .before .before in
+    let passed = lent .before .before in
+    let asked = passed .before .before in
+    point-ready (start asked .args .job) _ _ _ _ _ _ _ _ _ _ _ _ _ _ (asked .judge-points .ensures) (passed .if1 .left)
 
 same-length-2 : tie.Need-same-length-2
 same-length-2 c = search needs
@@ -50,16 +52,11 @@ returns-2 : tie.Need-returns-2
 returns-2 c =
     let back4 = c .before .before .before .before in
     let back8 = back4 .before .before .before .before in
-    let back12 = back8 .before .before .before .before in
-    let back16 = back12 .before .before .before .before in
-    let back20 = back16 .before .before .before .before in
-    let back24 = back20 .before .before .before .before in
-    let back28 = back24 .before .before .before .before in
-    let back32 = back28 .before .before .before .before in
-    point-accepted (back32 .before .before .before .args .job) _ _ _ _ _ _ _ _ _ _ _ _ _ _
-    (back20 .before .judge-points .ensures)
-    (back16 .before .before .before .if1 .left) _
-    (back8 .before .before .before .before .accept .ensures)
+    let accepted = back8 .before .before .before .before in
+    let lent = accepted .before .before .before .before in
+    let passed = lent .before .before .before in
+    let asked = passed .before .before in
+    point-accepted (start asked .args .job) _ _ _ _ _ _ _ _ _ _ _ _ _ _ (asked .judge-points .ensures) (passed .if1 .left) _ (accepted .accept .ensures)
 
 pub point-spec : {M : Type 1} → statement M
 point-spec =
