@@ -65,10 +65,9 @@ impl Joining {
             m,
         );
         let job = r.job;
-        let joining = Joining { job: job };
         Stepped {
             refusal: r.refusal,
-            joining: joining,
+            joining: Joining { job: job },
         }
     }
 }

@@ -89,10 +89,9 @@ impl Joining {
             face_counts,
         );
         let job = r.job;
-        let joining = Joining { job: job };
         Stepped {
             refusal: r.refusal,
-            joining: joining,
+            joining: Joining { job: job },
         }
     }
 }

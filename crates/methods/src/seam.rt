@@ -45,10 +45,9 @@ impl Joining {
             n,
         );
         let job = r.job;
-        let joining = Joining { job: job };
         Stepped {
             refusal: r.refusal,
-            joining: joining,
+            joining: Joining { job: job },
         }
     }
 }
