@@ -152,11 +152,8 @@ module _ (j : Job) (cx cy cz ticks table faces curves : List ℕ) (b c : ℕ) (m
         differ-is : t ≡ layersDiffer k call
         differ-is = e k b c (record { good = good; is-seam = is-seam; number = number; tells-low = tells-low; tells-high = tells-high })
 
-        pub late-9 : t ≡ true → 9 ≡ lateOf before call
-        late-9 p = rw (late-is, ← first-is, sym holds-is ∙ not-false v o, sym differ-is ∙ p) (or-then x _ 9 z refl)
-
-        pub late-0 : t ≡ false → 0 ≡ lateOf before call
-        late-0 p = rw (late-is, ← first-is, sym holds-is ∙ not-false v o, sym differ-is ∙ p) (or-then x _ 0 z refl)
+        pub late-layers : cond t 9 0 ≡ lateOf before call
+        late-layers = rw (late-is, ← first-is, sym holds-is ∙ not-false v o, ← differ-is) (or-then x _ (cond t 9 0) z refl)
 
   -- ---- the ways of `judge_seam`
 
