@@ -419,6 +419,11 @@ module _ (j : Job) (e : Triple) (d : Entry) (m : List ℕ) where
       unfolding mapJudged
       map-0 w cx cy cz = rw (not-false u q, sym (h cx cy cz) ∙ not-false t p, sym i ∙ not-false v w)
 
+-- a map of the stated length
+pub fits-size : (c : CallName) (i : ℕ) (e : Triple) (n : Kind → ℕ) (z : Lengths) (size : ℕ) (u : Bool) → u ≡ fitsIn c i e n z size → u ≡ true → size ≡ cells e
+unfolding fitsIn
+fits-size c i e n z size u f v = eqb-true _ _ (and-first (eqb size (cells e)) _ (sym f ∙ v))
+
 -- n is what the first tests tell
 module _ (j : Job) (cx cy cz ticks : List ℕ) (c : CallName) (z : Lengths) (b step n : ℕ) (s : joiner.Stage) (f : s ≡ stageFor c) (e : n ≡ reachedOf (jobOf j cx cy cz) s ticks b step) where
   abbrev cut-as : Cutting
@@ -451,17 +456,9 @@ module _ (j : Job) (cx cy cz ticks : List ℕ) (c : CallName) (z : Lengths) (b s
         unfolding blockFits
         fits-told = rw (← many (j .nx) (j .ny) (j .nz), ← T (j .nx) (j .ny) (j .nz) .size) h
 
-        pub fits-size : u ≡ true → size ≡ cells (sizeOf r)
-        unfolding fitsIn
-        fits-size p = eqb-true _ _ (and-first (eqb size (cells (sizeOf r))) _ (sym h ∙ p))
-
-        pub lengths-6 : not u ≡ true → 6 ≡ lengthsJudged (jobOf j cx cy cz) ticks c z b step size
+        pub lengths-last : cond (not u) 6 0 ≡ lengthsJudged (jobOf j cx cy cz) ticks c z b step size
         unfolding lengthsJudged
-        lengths-6 p = rw (← first-is, sym fits-told ∙ not-true u p) (or-then n _ 6 q refl)
-
-        pub lengths-0 : not u ≡ false → 0 ≡ lengthsJudged (jobOf j cx cy cz) ticks c z b step size
-        unfolding lengthsJudged
-        lengths-0 p = rw (← first-is, sym fits-told ∙ not-false u p) (or-then n _ 0 q refl)
+        lengths-last = rw (← first-is, ← fits-told) (or-then n _ (cond (not u) 6 0) q refl)
 
       pub judged-then : (table m : List ℕ) (u : Bool) → u ≡ fitsIn c i (sizeOf r) (entriesOf j) z (length m) → (d : Entry) → d ≡ entryOf table b → (x : ℕ)
           → anyCuts (λ cx cy cz. x ≡ mapJudged (jobOf j cx cy cz) (sizeOf r) d u m) → x ≡ judgedOf (jobOf j cx cy cz) ticks table c z b step m

@@ -3,12 +3,12 @@
 use mathlib.Core.Path.{_≡_, refl, sym, ap, _∙_}
 use mathlib.Core.Bool.{Bool, true, false, not, cond, _&&_, _||_}
 use mathlib.Core.List.{List, [], _∷_, map}
-use Prim.Native.Nat.{ℕ, _≤_}
+use Prim.Native.Nat.{ℕ}
 use lib.Dec.{eqb}
 use lib.ListN.{length}
 use borrow.Author.Tests.{eq-eqb, ne-eqb}
 use Rattle.lists.specs.Lists.{consecutive, allOf}
-use Rattle.cutting.specs.Cutting.{Cutting, blocks, blockExtents, mostBlocks, FewBlocks}
+use Rattle.cutting.specs.Cutting.{Cutting, blocks, blockExtents, goodCut}
 use Rattle.joiner.specs.Job.{Kind, Face, Curve, State, ticked}
 use Rattle.joiner.specs.Job as joiner
 use Rattle.joiner.specs.Stages.{finished, stepsOf, crossingStep}
@@ -21,7 +21,7 @@ use Rattle.judge.specs.declared.CallName.{CallName}
 use Rattle.judge.specs.declared.Lengths.{Lengths}
 use Rattle.judge.specs.declared.Entry.{Entry}
 use Rattle.judge.specs.Judge.{lengthsOf, judgedOf, entryOf}
-use Rattle.judge.proofs.JudgeLaws.{or-first, or-then, judged-passed, few-of, count-few, links-is, refusal-judged, rest-none}
+use Rattle.judge.proofs.JudgeLaws.{or-first, or-then, judged-passed, links-is, refusal-judged, rest-none}
 use Rattle.judge_cross.specs.Tests.{crossedBut, lastIn, rowsIn, allReady, numberable, ownStands, refusalOf}
 
 -- ---- the last crossing
@@ -47,26 +47,17 @@ module _ (j : Job) (cx cy cz ticks : List ℕ) (z : Lengths) (table rows fl cl :
   cross-first q = rw (← f, ← e) (or-first r _ q)
 
   module _ (q : r ≡ 0) where
-    -- what `block_count` requires
-    pub cross-few : FewBlocks cx cy cz
-    cross-few = few-of (toldOf j cx cy cz .cutting) (judged-passed (jobOf j cx cy cz) ticks CallName.Crossing z b step table m (sym e ∙ q) .first .good)
+    pub cross-good : goodCut (toldOf j cx cy cz .cutting) ≡ true
+    cross-good = judged-passed (jobOf j cx cy cz) ticks CallName.Crossing z b step table m (sym e ∙ q) .first .good
 
-    module _ (i : ℕ) (many : i ≡ blocks (toldOf j cx cy cz .cutting)) where
-      -- .. and `own_stands`
-      pub cross-count : i ≤ mostBlocks
-      cross-count = count-few (toldOf j cx cy cz .cutting) (judged-passed (jobOf j cx cy cz) ticks CallName.Crossing z b step table m (sym e ∙ q) .first .good) i many
+    module _ (i : ℕ) (many : i ≡ blocks (toldOf j cx cy cz .cutting)) (d : Entry) (g : d ≡ entryOf table b) (u : Bool)
+        (h : u ≡ ownStands ticks b i d rows (j .«face_entries») (j .faces) (j .curves) fl cl) where
+      own-told : u ≡ ownStands ticks b (blocks (toldOf j cx cy cz .cutting)) (entryOf table b) rows (j .«face_entries») (j .faces) (j .curves) fl cl
+      own-told = rw (← many, ← g) h
 
-      module _ (d : Entry) (g : d ≡ entryOf table b) (u : Bool) (h : u ≡ ownStands ticks b i d rows (j .«face_entries») (j .faces) (j .curves) fl cl) where
-        own-told : u ≡ ownStands ticks b (blocks (toldOf j cx cy cz .cutting)) (entryOf table b) rows (j .«face_entries») (j .faces) (j .curves) fl cl
-        own-told = rw (← many, ← g) h
-
-        pub cross-8 : not u ≡ true → Refuses 8
-        unfolding refusalOf
-        cross-8 p = rw (← f, ← e, ← own-told, p) (or-then r _ 8 q refl)
-
-        pub cross-0 : not u ≡ false → Refuses 0
-        unfolding refusalOf
-        cross-0 p = rw (← f, ← e, ← own-told, p) (or-then r _ 0 q refl)
+      pub cross-last : Refuses (cond (not u) 8 0)
+      unfolding refusalOf
+      cross-last = rw (← f, ← e, ← own-told) (or-then r _ (cond (not u) 8 0) q refl)
 
 -- ---- the tests are the joiner's
 

@@ -28,7 +28,7 @@ use Rattle.judge.specs.declared.CallName.{CallName}
 use Rattle.judge.specs.declared.Entry.{Entry}
 use Rattle.judge.specs.declared.Lengths.{Lengths}
 use Rattle.judge.specs.Judge.{firstRefusal, entriesOf, lengthsOf, lentBy, openedOf, placedOf, lateOf, entryOf, fitsIn, mapJudged, mapStandsIn}
-use Rattle.judge.proofs.JudgeLaws.{or-first, or-then, or-none, or-six, six-none, refusal-opened, late-none, opened-passed, block-sized, stands-is, links-is, lent-is}
+use Rattle.judge.proofs.JudgeLaws.{or-first, or-then, or-none, or-six, six-none, refusal-opened, late-none, opened-passed, block-sized, stands-is, links-is, lent-is, fits-size}
 use Rattle.judge_seam.specs.declared.Shared.{Shared}
 use Rattle.judge_seam.specs.Tests.{lent, fitsBoth, upperStands, anySeam, SharedBy}
 
@@ -57,8 +57,7 @@ module _ (count : ℕ) (e f : Triple) (entries : Kind → ℕ) (z : Lengths) (lo
   fit-both = sym h ∙ v
 
   pub lower-cells : lower ≡ cells e
-  unfolding fitsIn
-  lower-cells = eqb-true lower (cells e) (and-first (eqb lower (cells e)) _ (and-first (fitsIn CallName.Seam count e entries z lower) (eqb upper (cells f)) fit-both))
+  lower-cells = fits-size CallName.Seam count e entries z lower _ refl (and-first (fitsIn CallName.Seam count e entries z lower) (eqb upper (cells f)) fit-both)
 
   pub upper-cells : upper ≡ cells f
   upper-cells = eqb-true upper (cells f) (and-second (fitsIn CallName.Seam count e entries z lower) (eqb upper (cells f)) fit-both)

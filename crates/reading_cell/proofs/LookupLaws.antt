@@ -5,13 +5,12 @@ use mathlib.Core.Bool.{Bool, true, false, not, cond, _&&_}
 use mathlib.Core.List.{List, []}
 use Prim.Native.Nat.{ℕ, _<_}
 use native.Mathlib.Omega.{arith}
-use lib.Dec.{eqb, ltb}
+use lib.Dec.{ltb}
 use lib.ListN.{length}
-use borrow.Author.Tests.{eqb-true, ltb-true, not-true, not-false}
+use borrow.Author.Tests.{ltb-true, not-true, not-false}
 use Rattle.lists.proofs.Cases.{and-first, and-second}
 use Rattle.cells.specs.Box.{Triple}
 use Rattle.cells.specs.Extents.{Sized}
-use Rattle.cells.specs.Grid.{cells}
 use Rattle.cutting.specs.Cutting.{Cutting, blocks, blockExtents, goodCut}
 use Rattle.joiner.specs.Job.{Kind, Closed, State}
 use Rattle.joiner.specs.Stages.{hasCell, local}
@@ -66,11 +65,6 @@ look-passed j cx cy cz b c r e q t h p = (
   opened-passed (jobOf j cx cy cz) Closed (sym e ∙ q) .good,
   ltb-true _ _ (and-first (ltb b (blocks (toldOf j cx cy cz .cutting))) _ (sym (h (j .nx) (j .ny) (j .nz)) ∙ not-false t p)),
 )
-
--- a map of the stated length
-pub fits-cells : (i : ℕ) (e : Triple) (n : Kind → ℕ) (z : Lengths) (size : ℕ) (u : Bool) → u ≡ fitsIn CallName.Lookup i e n z size → u ≡ true → size ≡ cells e
-unfolding fitsIn
-fits-cells i e n z size u f v = eqb-true _ _ (and-first (eqb size (cells e)) _ (sym f ∙ v))
 
 module _ (j : Job) (cx cy cz ticks table faces curves points : List ℕ) (b : ℕ) (m : List ℕ) (c : Triple) where
   abbrev k : Cutting

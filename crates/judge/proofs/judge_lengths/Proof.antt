@@ -1,9 +1,16 @@
 -- `judge::judge_lengths` meets its contract.
+use mathlib.Core.Path.{_≡_}
+use mathlib.Core.Bool.{not, cond}
 use borrow.Author.Needs.{needs}
-use Rattle.judge.proofs.JudgeLaws.{lengths-first, begun-few, begun-sized, lengths-6, lengths-0}
+use Rattle.job.specs.JobState.{jobOf}
+use Rattle.judge.specs.Judge.{lengthsJudged}
+use Rattle.judge.proofs.JudgeLaws.{lengths-first, begun-few, begun-sized, lengths-last}
 use Rattle.judge.proofs.judge_lengths.Statement.{statement}
 use Rattle.judge.proofs.judge_lengths.Tie as tie
-use Rattle.judge.proofs.judge_lengths.Lts as lts
+
+-- The start, from the first tests.
+abbrev start : tie.After-reached → tie.Start
+start ask = let cz = ask .before .before .before in cz .before .before .before
 
 stage-of-requires : tie.Need-stage-of-requires
 stage-of-requires c κs = search needs
@@ -13,47 +20,43 @@ reached-requires c κs = search needs
 
 returns : tie.Need-returns
 returns c =
-    let at04 = c .before .before .before .before in
-    let at0 = at04 .before .before in
-    let start = at0 .before .args in
-    lengths-first (start .job) _ _ _ _ (start .call) (start .z) _ _ _ _ (c .before .before .stage-of .ensures) (c .before .reached .ensures) _ (c .if1 .taken)
+    let ask = c .before in
+    let a = start ask .args in
+    lengths-first (a .job) _ _ _ _ (a .call) (a .z) _ _ _ _ (ask .before .stage-of .ensures) (ask .reached .ensures) _ (c .if1 .taken)
 
 block-at-requires : tie.Need-block-at-requires
 block-at-requires c κs = search needs
 
 block-count-requires : tie.Need-block-count-requires
 block-count-requires c κs =
-    let ask = c .before .before in
-    let at04 = ask .before .before .before .before in
-    let at0 = at04 .before in
-    let start = at0 .before .args in
-    begun-few (start .job) _ _ _ _ (start .call) (start .z) _ _ _ _ (ask .before .stage-of .ensures) (ask .reached .ensures) (c .before .if1 .left)
+    let passed = c .before in
+    let ask = passed .before in
+    let a = start ask .args in
+    begun-few (a .job) _ _ _ _ (a .call) (a .z) _ _ _ _ (ask .before .stage-of .ensures) (ask .reached .ensures) (passed .if1 .left)
 
 fits-requires : tie.Need-fits-requires
 fits-requires c κs =
-    let ask = c .before .before .before in
-    let at04 = ask .before .before .before .before in
-    let at0 = at04 .before in
-    let start = at0 .before .args in
-    begun-sized (start .job) _ _ _ _ (start .call) (start .z) _ _ _ _ (ask .before .stage-of .ensures) (ask .reached .ensures) (c .before .before .if1 .left) _ (c .before .block-at .ensures) _ (c .block-count .ensures)
+    let passed = c .before .before in
+    let ask = passed .before in
+    let a = start ask .args in
+    begun-sized (a .job) _ _ _ _ (a .call) (a .z) _ _ _ _ (ask .before .stage-of .ensures) (ask .reached .ensures) (passed .if1 .left) _ (c .before .block-at .ensures) _ (c .block-count .ensures)
+
+-- The refusal, once the lengths are tested.
+decided : (fit : tie.After-fits2) → let ask = fit .before .before .before .before in let a = start ask .args in
+    cond (not (fit .fits2 .result)) 6 0 ≡ lengthsJudged (jobOf (a .job) (a .cx .now) (a .cy .now) (a .cz .now)) (a .ticks .now) (a .call) (a .z) (a .b) (a .step) (a .length)
+decided fit =
+    let told = fit .before in
+    let passed = told .before .before in
+    let ask = passed .before in
+    let a = start ask .args in
+    lengths-last (a .job) _ _ _ _ (a .call) (a .z) _ _ _ _ (ask .before .stage-of .ensures) (ask .reached .ensures) (passed .if1 .left)
+    _ (told .before .block-at .ensures) _ (told .block-count .ensures) _ _ (fit .fits2 .ensures)
 
 returns-2 : tie.Need-returns-2
-returns-2 c =
-    let told = c .before .before in
-    let ask = told .before .before .before in
-    let at04 = ask .before .before .before .before in
-    let at0 = at04 .before in
-    let start = at0 .before .args in
-    lengths-6 (start .job) _ _ _ _ (start .call) (start .z) _ _ _ _ (ask .before .stage-of .ensures) (ask .reached .ensures) (told .before .before .if1 .left) _ (told .before .block-at .ensures) _ (told .block-count .ensures) _ _ (c .before .fits2 .ensures) (c .if2 .taken)
+returns-2 c = rw (c .if2 .taken) at (decided (c .before))
 
 returns-3 : tie.Need-returns-3
-returns-3 c =
-    let told = c .before .before in
-    let ask = told .before .before .before in
-    let at04 = ask .before .before .before .before in
-    let at0 = at04 .before in
-    let start = at0 .before .args in
-    lengths-0 (start .job) _ _ _ _ (start .call) (start .z) _ _ _ _ (ask .before .stage-of .ensures) (ask .reached .ensures) (told .before .before .if1 .left) _ (told .before .block-at .ensures) _ (told .block-count .ensures) _ _ (c .before .fits2 .ensures) (c .if2 .left)
+returns-3 c = rw (c .if2 .left) at (decided (c .before))
 
 pub judge-lengths-spec : {M : Type 1} → statement M
 judge-lengths-spec =

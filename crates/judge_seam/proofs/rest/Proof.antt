@@ -20,11 +20,11 @@ start told =
     let ticks = map .before .before .before .before in
     ticks .before .before .before .before
 
-lower : (told : tie.After-block-at2) → Sized 64 (sizeOf (told .before .block-at .result))
-lower told = let p = start told .pre in lower-sized _ _ _ (p .0) (p .1) _ (told .before .block-at .ensures _ _ _)
+low-sized : (told : tie.After-block-at2) → Sized 64 (sizeOf (told .before .block-at .result))
+low-sized told = let p = start told .pre in lower-sized _ _ _ (p .0) (p .1) _ (told .before .block-at .ensures _ _ _)
 
-upper : (told : tie.After-block-at2) → Sized 64 (sizeOf (told .block-at2 .result))
-upper told = let p = start told .pre in upper-sized _ _ _ (p .0) (p .1) _ (told .block-at2 .ensures _ _ _)
+high-sized : (told : tie.After-block-at2) → Sized 64 (sizeOf (told .block-at2 .result))
+high-sized told = let p = start told .pre in upper-sized _ _ _ (p .0) (p .1) _ (told .block-at2 .ensures _ _ _)
 
 -- The blocks, from the test of the lengths and from the comparison of the layers.
 abbrev of-fit : tie.After-trays-fit → tie.After-block-at2
@@ -43,7 +43,7 @@ block-count-requires : tie.Need-block-count-requires
 block-count-requires c κs = few-of _ (start c .pre .0)
 
 trays-fit-requires : tie.Need-trays-fit-requires
-trays-fit-requires c κs = let told = c .before in (count-few _ (start told .pre .0) _ (c .block-count .ensures _ _ _), lower told, upper told)
+trays-fit-requires c κs = let told = c .before in (count-few _ (start told .pre .0) _ (c .block-count .ensures _ _ _), low-sized told, high-sized told)
 
 entry-of-requires : tie.Need-entry-of-requires
 entry-of-requires c κs = search needs
@@ -52,7 +52,7 @@ entry-of-requires-2 : tie.Need-entry-of-requires-2
 entry-of-requires-2 c κs = search needs
 
 judge-map-requires : tie.Need-judge-map-requires
-judge-map-requires c κs = let fit = c .before .before in (lower (of-fit fit), lower-cells _ _ _ _ _ _ _ _ (fit .trays-fit .ensures))
+judge-map-requires c κs = let fit = c .before .before in (low-sized (of-fit fit), lower-cells _ _ _ _ _ _ _ _ (fit .trays-fit .ensures))
 
 returns : tie.Need-returns
 returns c = search late-first
@@ -61,20 +61,20 @@ upper-stands-requires : tie.Need-upper-stands-requires
 upper-stands-requires c κs =
     let fit = c .before .before .before .before in
     let whole = judged-fits (start (of-fit fit) .args .job) _ _ _ _ _ (c .before .judge-map .ensures) (c .if1 .left) in
-    (upper (of-fit fit), upper-cells _ _ _ _ _ _ _ _ (fit .trays-fit .ensures) whole)
+    (high-sized (of-fit fit), upper-cells _ _ _ _ _ _ _ _ (fit .trays-fit .ensures) whole)
 
 returns-2 : tie.Need-returns-2
 returns-2 c = search late-8
 
 differ-requires : tie.Need-differ-requires
-differ-requires c κs = (lower (of-stood c), upper (of-stood c))
+differ-requires c κs = (low-sized (of-stood c), high-sized (of-stood c))
 
 -- The refusal, once the layers are compared.
-late : (compared : tie.After-differ) → let a = start (of-stood (compared .before)) .args in
+decided : (compared : tie.After-differ) → let a = start (of-stood (compared .before)) .args in
     cond (compared .differ .result) 9 0 ≡ lateOf
     (stateOf (a .job) (a .cx .now) (a .cy .now) (a .cz .now) (lent (a .ticks .now) (a .table .now) (a .face-links .now) (a .curve-links .now)))
     (join (a .lower) (a .upper) (a .m .now) (a .n .now))
-late compared =
+decided compared =
     let passed = compared .before in
     let judged = passed .before .before .before in
     let fit = judged .before .before .before in
@@ -85,10 +85,10 @@ late compared =
     _ (s .pre .0) (s .pre .1) (s .pre .2) _ (compared .differ .ensures)
 
 returns-3 : tie.Need-returns-3
-returns-3 c = rw (c .if3 .taken) at (late (c .before))
+returns-3 c = rw (c .if3 .taken) at (decided (c .before))
 
 returns-4 : tie.Need-returns-4
-returns-4 c = rw (c .if3 .left) at (late (c .before))
+returns-4 c = rw (c .if3 .left) at (decided (c .before))
 
 pub rest-spec : {M : Type 1} → statement M
 rest-spec =

@@ -5,8 +5,8 @@ use mathlib.Core.Bool.{true}
 use borrow.Author.Needs.{needs}
 use Rattle.cutting.specs.Cutting.{blocks, goodCut}
 use Rattle.job.specs.JobState.{toldOf}
-use Rattle.judge.proofs.JudgeLaws.{few-of, count-few, block-sized}
-use Rattle.reading_cell.proofs.LookupLaws.{look-first, look-4, look-passed, fits-cells, look-judged}
+use Rattle.judge.proofs.JudgeLaws.{few-of, count-few, block-sized, fits-size}
+use Rattle.reading_cell.proofs.LookupLaws.{look-first, look-4, look-passed, look-judged}
 use Rattle.reading_cell.proofs.refusal.Statement.{statement}
 use Rattle.reading_cell.proofs.refusal.Tie as tie
 
@@ -57,7 +57,7 @@ judge-map-requires : tie.Need-judge-map-requires
 judge-map-requires c κs =
     let told = c .before .before .before in
     let p = passed (told .before .before) in
-    (block-sized _ (p .0) _ (p .1) _ (told .block-at .ensures _ _ _), fits-cells _ _ _ _ _ _ (c .before .fits2 .ensures))
+    (block-sized _ (p .0) _ (p .1) _ (told .block-at .ensures _ _ _), fits-size _ _ _ _ _ _ _ (c .before .fits2 .ensures))
 
 returns-3 : tie.Need-returns-3
 returns-3 c = search look-judged
