@@ -1,4 +1,4 @@
-"""Checks that no source gives a symbol of the kit's libraries a meaning of its own, that proofs name their places, and that crates.txt is true.
+"""Checks that no source gives a symbol of the kit's libraries a meaning of its own, that proofs name their places, that imports are used, and that crates.txt is true.
 
 The libraries are read from the kit: every module of those that definitions and proofs cite (LIBRARIES). The kit's
 others are the program logic behind the generated proofs; no source imports from them but proofs by hand (LOGIC).
@@ -10,6 +10,8 @@ symbols of the modules in CORE, which definitions cite bare, may not be fields, 
 Names that the kit's form of a proof file asks for (the answer to a need, the proved statement) are not the author's.
 
 A place on the way of a proof that is more than four steps back has a name: no chain of `.before` is longer than four.
+
+Every name that a source imports is used in it.
 
 crates.txt lists, for each crate, the libraries of the repository that its sources name and no others, and each crate stands under the heading of
 its level, one above the highest that it uses.
@@ -30,6 +32,7 @@ EXPORT = re.compile(r'\s*(?:unfoldable |abbrev )?pub (?:unfoldable |abbrev )?(?!
 IMPORT = re.compile(r'^' + WORDS + r'use ([^\s{;]+?)\.\{([^}]*)\}', re.M)
 TYPE = re.compile(r'\s*' + WORDS + r'(data|record) ([^\s:({]+)')
 NAMES = re.compile(r'\s*' + WORDS + r'(let )?((?:[^\s:({})=λ.→]+ )+): ')
+USE = re.compile(r'^(?:ghost )?use ([^;\n]+);?$', re.M)
 CHAIN = re.compile(r'(?:\s\.before\)*){5}')
 ASKED = re.compile(r'\s*(?:pub )?\S+ : (?:tie\.|\{M : Type 1\} → statement M)')
 
@@ -89,6 +92,18 @@ def imported(text, homes):
                     yield f'{n} is a symbol of {", ".join(sorted(homes[n]))} and is taken from {module}'
 
 
+def idle(text):
+    """The names that are imported and not used. Of an operator any part counts."""
+    rest = USE.sub('', text)
+    for item in USE.findall(text):
+        names = re.search(r'\{([^}]*)\}$', item)
+        for name in names.group(1).split(',') if names else re.split(r'::| as ', item)[-1:]:
+            name = name.split(' as ')[-1].strip()
+            parts = [name] + ([part for part in name.split('_') if part] if '_' in name[:1] + name[-1:] else [])
+            if not any(re.search(rf"(?<![\w′·-]){re.escape(part)}(?![\w′-])", rest) for part in parts):
+                yield f'{name} is imported and not used'
+
+
 def defined(path, homes):
     for line, block in lines_of(path):
         kind, names = TYPE.match(line), NAMES.match(line)
@@ -143,6 +158,7 @@ def main():
     for path, text in sources():
         texts.setdefault(path.split('/')[1], []).append(text)
         faults = list(imported(text, homes)) + (list(defined(path, homes)) if path.endswith('.antt') else [])
+        faults += list(idle(text))
         faults += ['a chain of .before is longer than four: name a place on the way by let'] if CHAIN.search(text) else []
         for fault in faults:
             print(f'{path}: {fault}')

@@ -6,15 +6,12 @@ use mathlib.Core.List.{List}
 use Prim.Native.Nat.{ℕ, _≤_, _<_}
 use native.Mathlib.Nat.{le-antisymm}
 use native.Mathlib.Omega.{arith}
-use lib.Dec.{ltb}
 use lib.ListN.{getD}
-use borrow.Author.Tests.{ltb-true, ltb-false}
-use Rattle.cells.specs.Grid.{cells, order}
+use Rattle.cells.specs.Grid.{order}
 use Rattle.cells.specs.Row.{active}
 use Rattle.labels.specs.Components.{firstCell}
-use Rattle.cutting.specs.Cutting.{Cutting, goodCut, blocks, blockExtents, blockCodes, embed}
+use Rattle.cutting.specs.Cutting.{Cutting, goodCut, blockExtents, blockCodes, embed}
 use Rattle.cutting.specs.Nodes.{uncutMap, part, Sees, Tied}
-use Rattle.lists.proofs.Cases.{by-test}
 use Rattle.labels.proofs.LabelLaws.{labels-numbering, numbered-active}
 use Rattle.labels.proofs.ComponentLaws.{Belongs, least-at, belongs-at}
 use Rattle.cutting.proofs.CutLaws.{InBlock, blocks-cover, embed-order, embed-le}

@@ -7,16 +7,13 @@ use mathlib.Core.Logic.{_↔_}
 use mathlib.Core.List.{List}
 use Prim.Native.Nat.{ℕ, _<_}
 use native.Mathlib.Omega.{arith}
-use lib.Dec.{ltb}
 use lib.ListN.{getD}
-use borrow.Author.Tests.{ltb-true, ltb-false}
 use Rattle.cells.specs.Box.{Triple}
 use Rattle.cells.specs.Grid.{cells, order}
 use Rattle.cells.specs.Row.{row, active, occupied}
 use Rattle.labels.specs.Numbering.{here, step}
 use Rattle.cutting.specs.Cutting.{Cutting, goodCut, blocks, blockExtents, blockCodes, embed}
 use Rattle.cutting.specs.Nodes.{uncutMap, part, BlockHas, SeamPath, stay, next, last, Sees, AtCrossing, Tied, done, over, under, crossed}
-use Rattle.lists.proofs.Cases.{by-test}
 use Rattle.cells.proofs.GridLaws.{Upper, upper-neighbour}
 use Rattle.labels.proofs.LabelLaws.{labels-numbering}
 use Rattle.cutting.proofs.CutLaws.{embed-inside, embed-order, embed-same}

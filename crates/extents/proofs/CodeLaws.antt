@@ -1,6 +1,6 @@
 -- A walk over the codes that looks for a 0.
 -- Assumes nothing.
-use mathlib.Core.Path.{_≡_, refl, sym, _∙_}
+use mathlib.Core.Path.{_≡_, sym, _∙_}
 use mathlib.Core.Bool.{true, false}
 use mathlib.Core.List.{List}
 use Prim.Native.Nat.{ℕ, _+_, _≤_, _<_}
@@ -9,9 +9,6 @@ use lib.ListN.{length, getD, drop, drop-of-length-le}
 use lib.Seq.{drop-cons}
 use borrow.Author.Tests.{eq-eqb, ne-eqb}
 use Rattle.cells.specs.Codes.{blank}
-
-pub blank-start : (xs : List ℕ) → blank xs ≡ blank (drop 0 xs)
-blank-start xs = refl
 
 pub blank-here : (xs : List ℕ) (i : ℕ) → i < length xs → getD xs i 0 ≡ 0 → blank xs ≡ blank (drop i xs) → true ≡ blank xs
 unfolding blank

@@ -33,8 +33,8 @@ abbrev pub toldOf : Job → List ℕ → List ℕ → List ℕ → Told
 toldOf j cx cy cz = toldBy (j .nx) (j .ny) (j .nz) cx cy cz (j .«face_entries») (j .«curve_entries») (j .«point_entries»)
 
 -- How many of each kind were found so far.
-abbrev pub foundOf : Job → Kind → ℕ
-foundOf j = byKind (j .faces) (j .curves) (j .points)
+abbrev pub sofarOf : Job → Kind → ℕ
+sofarOf j = byKind (j .faces) (j .curves) (j .points)
 
 -- How many of each kind are numbered.
 abbrev pub numberedOf : Job → Kind → ℕ
@@ -42,7 +42,7 @@ numberedOf j = byKind (j .«numbered_faces») (j .«numbered_curves») (j .«num
 
 -- Stage and tallies.
 abbrev pub jobOf : Job → List ℕ → List ℕ → List ℕ → joiner.Job
-jobOf j cx cy cz = record { told = toldOf j cx cy cz; stage = stageOf (j .stage); sofar = foundOf j; numbered = numberedOf j }
+jobOf j cx cy cz = record { told = toldOf j cx cy cz; stage = stageOf (j .stage); sofar = sofarOf j; numbered = numberedOf j }
 
 -- The job in another stage, with other tallies.
 abbrev pub jobWith : Job → Stage → (Kind → ℕ) → (Kind → ℕ) → Job

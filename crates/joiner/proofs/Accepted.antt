@@ -1,27 +1,24 @@
 -- What every accepted step keeps.
 -- Assumes nothing.
-use mathlib.Core.Bool.{Bool, _||_, cond, false, not, true}
+use mathlib.Core.Bool.{Bool, _||_, cond, false, not}
 use mathlib.Core.List.{List, List·Memᴰ, _∷_}
 use mathlib.Core.Path.{_∙_, _≡_, ap, ap₂, refl, subst, sym}
-use Prim.Native.Nat.{_*_, _+_, _<_, _≤_, suc, zero, ℕ}
+use Prim.Native.Nat.{_*_, _+_, _<_, _≤_, ℕ}
 use native.Mathlib.Omega.{arith}
 use lib.Dec.{T, eqb, ltb}
 use lib.ListN.{getD, length, set}
 use lib.Seq.{getD-set-other, getD-set-same}
-use borrow.Author.Tests.{eqb-false, eqb-true, ltb-false, not-false}
+use borrow.Author.Tests.{eqb-false, eqb-true, ltb-false}
 use Rattle.lists.specs.Lists.{isIn}
-use Rattle.refusals.specs.Refusals.{Refusal, done-already, layers-differ, no-such-place, number, standsIn, table-full, wrong-stage}
-use Rattle.labels.specs.Number.{numbered}
 use Rattle.cutting.specs.Cutting.{Cutting, blocks}
 use Rattle.joiner.specs.Book.{Book, bookAdds}
-use Rattle.joiner.specs.Calls.{Call, full, layersDiffer, overfull, placed, repeated, stageOf}
-use Rattle.joiner.specs.Declines.{adds, declines, refusal}
+use Rattle.joiner.specs.Calls.{Call, full, overfull}
+use Rattle.joiner.specs.Declines.{adds}
 use Rattle.joiner.specs.Outcomes.{Ticked, same}
-use Rattle.joiner.specs.Job.{Closed, Crossing, Curve, Enrol, Face, Kind, Point, Points, Seam, Stage, State, Told, sameStage, stageNumber, ticked, ticksPerBlock}
+use Rattle.joiner.specs.Job.{Curve, Face, Kind, Point, Stage, State, Told, ticked, ticksPerBlock}
 use Rattle.joiner.specs.Stages.{finished, nextAfter, nextStage, stepsOf}
 use Rattle.lists.proofs.Cases.{by-test, neither}
 use Rattle.lists.proofs.Tests.{all-same}
-use Rattle.refusals.proofs.RefusalLaws.{given-none}
 use Rattle.cells.proofs.GridLaws.{inside}
 use Rattle.joiner.proofs.Inv.{Inv}
 use Rattle.joiner.proofs.Progress.{Progress, progress-more}

@@ -3,7 +3,7 @@
 use mathlib.Core.Bool.{Bool, _&&_, false, true}
 use mathlib.Core.List.{List, List·Memᴰ}
 use mathlib.Core.Path.{_∙_, _≡_, ap, refl, subst, sym}
-use Prim.Native.Nat.{_*_, _+_, _-_, _<_, _≤_, ℕ}
+use Prim.Native.Nat.{_*_, _+_, _<_, _≤_, ℕ}
 use native.Mathlib.Omega.{arith}
 use lib.Dec.{leb, ltb}
 use lib.ListN.{getD}
@@ -11,12 +11,11 @@ use borrow.Author.Tests.{eq-eqb, eqb-true, le-leb, leb-true, lt-ltb, ltb-true, n
 use borrow.Fn.PlainCycle.{is}
 use Rattle.lists.specs.Lists.{consecutive, keep, someOf, tabulate}
 use Rattle.closure.specs.Joined.{edge}
-use Rattle.cells.specs.Box.{Axis, Triple, X, Y, Z, coord, each, index, place, volume}
+use Rattle.cells.specs.Box.{Axis, Triple, X, Y, Z, coord, index, place, volume}
 use Rattle.cells.specs.Grid.{cells, order, sides, voxel, voxelCell}
-use Rattle.labels.specs.Number.{orderBelow}
 use Rattle.labels.specs.Numbering.{Numbering}
 use Rattle.cutting.specs.Cutting.{Cutting, blockCodes, blockExtents, blocks, cuts, embed, goodCut, interval, origin, seam}
-use Rattle.cutting.specs.Nodes.{BlockHas, SeamPath, part, uncutMap}
+use Rattle.cutting.specs.Nodes.{BlockHas, SeamPath, part}
 use Rattle.joiner.specs.Calls.{differs}
 use Rattle.joiner.specs.Stages.{codeIn, codesOf, hasCell, hasOn, local, lowestBlock, shared}
 use Rattle.joiner.specs.Statement.{Labelling}
@@ -24,11 +23,11 @@ use Rattle.lists.proofs.Cases.{and-both, and-first, and-second}
 use Rattle.lists.proofs.Lists.{consecutive-in, consecutive-out, getD-tabulate, keep-in, keep-out, map-same}
 use Rattle.lists.proofs.Table.{at}
 use Rattle.lists.proofs.Tests.{first-in, some-none}
-use Rattle.cells.proofs.BoxLaws.{Inside, coord-each, index-inside, index-place, same-triple}
+use Rattle.cells.proofs.BoxLaws.{index-place}
 use Rattle.cells.proofs.GridLaws.{cell-voxel, side-on, voxel-cell-inside, voxel-inside}
 use Rattle.labels.proofs.LabelLaws.{labels-numbering, numbering-unique}
 use Rattle.cutting.proofs.BlockLaws.{block-code}
-use Rattle.cutting.proofs.CutLaws.{InBlock, Spans, blocks-cover, embed-at, embed-inside, embed-order, embed-same, extent-on, has-spans, its-interval, origin-on, shiftInto, shift-on, local-in-block}
+use Rattle.cutting.proofs.CutLaws.{InBlock, Spans, blocks-cover, embed-inside, embed-order, embed-same, extent-on, has-spans, its-interval, origin-on, local-in-block}
 use Rattle.cutting.proofs.SeamLaws.{seam-path}
 use Rattle.joiner.proofs.Shared.{Shares, shared-in}
 

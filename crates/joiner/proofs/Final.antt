@@ -14,7 +14,7 @@ use Rattle.cells.specs.Grid.{cells, order, upperNeighbours}
 use Rattle.cells.specs.Row.{active, occupied, row, rowOf}
 use Rattle.union_find.specs.Links.{root}
 use Rattle.labels.specs.Components.{componentRow, firstCell, largest, ofOrder}
-use Rattle.labels.specs.Number.{orderBelow, labels, numbered}
+use Rattle.labels.specs.Number.{labels, numbered}
 use Rattle.cutting.specs.Cutting.{blockCodes, blockExtents, blocks, embed, goodCut, seam}
 use Rattle.cutting.specs.Nodes.{part, uncutMap}
 use Rattle.joiner.specs.Book.{Book, bookAdds, uncut}

@@ -1,7 +1,7 @@
 -- What holds between the day book and the job with its tables after each call of a list, and the refusals that follow from it.
 -- Assumes nothing.
 use mathlib.Core.Bool.{Bool, _&&_, cond, false, not, true}
-use mathlib.Core.List.{List, List·Memᴰ, Memᴰ·map, []}
+use mathlib.Core.List.{List, List·Memᴰ, Memᴰ·map}
 use mathlib.Core.Logic.{_≢_, _⊎_}
 use mathlib.Core.Path.{_∙_, _≡_, ap, ap₂, refl, subst, sym}
 use Prim.Native.Nat.{_%_, _*_, _+_, _/_, _<_, _≤_, ℕ}

@@ -1,6 +1,6 @@
 -- Where no enrolled link is longer than its place and every enrolled final number is one of the closed table's, what the steps and lookups read stands.
 -- Assumes nothing.
-use mathlib.Core.Bool.{_&&_, _||_, true}
+use mathlib.Core.Bool.{true}
 use mathlib.Core.List.{List}
 use mathlib.Core.Path.{_≡_, ap, refl}
 use Prim.Native.Nat.{_+_, _<_, _≤_, ℕ}

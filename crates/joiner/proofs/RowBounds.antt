@@ -11,7 +11,6 @@ use Rattle.cells.specs.Box.{Triple}
 use Rattle.cells.specs.Grid.{cells, order, upperNeighbours}
 use Rattle.cells.specs.Row.{insertAscending, once, padTo, row, rowOf, sortAscending}
 use Rattle.labels.specs.Components.{component, componentRow, largest, rowAtFirst}
-use Rattle.cutting.specs.Cutting.{sameInterval}
 use Rattle.lists.proofs.Cases.{picked}
 use Rattle.cells.proofs.GridLaws.{Upper, upper-neighbour}
 use Rattle.labels.proofs.ComponentLaws.{Belongs, component-out}

@@ -20,14 +20,13 @@ use Rattle.joiner.specs.Book.{Book, begun, uncut}
 use Rattle.joiner.specs.Outcomes.{allTrays, lookedUp}
 use Rattle.joiner.specs.Job.{Closed, Kind, State, Told, lengthsFit, orderOf, stageNumber, width}
 use Rattle.joiner.specs.Sheets.{ClosedJob, Sheet}
-use Rattle.joiner.specs.Stages.{codeIn, codesOf, hasCell, local, lowestBlock}
+use Rattle.joiner.specs.Stages.{codeIn, codesOf, hasCell}
 use Rattle.joiner.specs.Statement.{Labelling, Uncut}
 use Rattle.lists.proofs.Lists.{getD-tabulate, length-tabulate}
-use Rattle.cells.proofs.BoxLaws.{index-place}
 use Rattle.cells.proofs.GridLaws.{voxel-cell, voxel-cell-inside, voxel-cell-order, voxel-inside}
 use Rattle.labels.proofs.LabelLaws.{labels-numbering}
 use Rattle.cutting.proofs.BlockLaws.{block-code, voxel-same}
-use Rattle.cutting.proofs.CutLaws.{embed-inside, embed-order}
+use Rattle.cutting.proofs.CutLaws.{embed-inside}
 use Rattle.joiner.proofs.Codes.{lowestOf, localOf, in-lowest}
 use Rattle.joiner.proofs.Final.{uncut-is}
 use Rattle.joiner.proofs.Readings.{cell-read}

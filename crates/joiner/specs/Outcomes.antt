@@ -3,7 +3,7 @@
 -- Assumes nothing.
 use mathlib.Core.Path.{_≡_}
 use mathlib.Core.Logic.{_↔_, _≢_}
-use mathlib.Core.Bool.{Bool, true, false, not, cond, _&&_, _||_}
+use mathlib.Core.Bool.{Bool, true, not, cond, _&&_, _||_}
 use mathlib.Core.List.{List, [], _∷_, _++_, map, List·Memᴰ}
 use Prim.Native.Nat.{ℕ, zero, suc, _+_, _-_, _*_, _/_, _%_}
 use lib.Dec.{eqb, leb, ltb}
@@ -18,7 +18,7 @@ use Rattle.cells.specs.Grid.{sides, order, upperNeighbours}
 use Rattle.cells.specs.Row.{rowOf, sortAscending, padTo}
 use Rattle.labels.specs.Components.{ofOrder, largest, component, componentRow}
 use Rattle.cutting.specs.Cutting.{Cutting, blockExtents, embed, goodCut}
-use Rattle.joiner.specs.Job.{Kind, Face, Curve, Point, orderOf, width, Stage, Enrol, Points, Closed, Told, Job, Tables, State, ticked, node, column, keyOf, firstAt, Tray, lengthsFit, blockTrays, linkTrays, kindTrays, numbersPerBlock}
+use Rattle.joiner.specs.Job.{Kind, Face, Curve, Point, orderOf, width, Enrol, Points, Closed, Told, Job, Tables, State, ticked, node, keyOf, firstAt, Tray, lengthsFit, blockTrays, linkTrays, kindTrays, numbersPerBlock}
 use Rattle.joiner.specs.Stages.{local, shared, enrolStep, seamStep, crossingStep, pointStep, nextAfter}
 use Rattle.joiner.specs.Calls.{Call, enrol, join, cross, point, look, reading, Answer, answer}
 use Rattle.joiner.specs.Declines.{finalOf, finalRow, pointCells, adds, refusal}

@@ -1,12 +1,12 @@
 -- The tests that the calls share are the joiner's.
 -- Assumes nothing.
-use mathlib.Core.Path.{_≡_, refl, sym, ap, subst, _∙_}
+use mathlib.Core.Path.{_≡_, refl, sym, ap, _∙_}
 use mathlib.Core.Bool.{Bool, true, false, not, cond, _&&_}
 use mathlib.Core.List.{List, [], _++_}
 use Prim.Native.Nat.{ℕ, _+_, _*_, _≤_, _<_}
 use native.Mathlib.Omega.{arith}
 use lib.Dec.{eqb, leb, ltb}
-use lib.ListN.{getD, length, set}
+use lib.ListN.{getD, length}
 use borrow.Author.Tests.{eqb-true, eqb-false, ne-eqb, eq-eqb, le-ltb, leb-true, lt-ltb, ltb-true, not-true, not-false}
 use Rattle.lists.proofs.Cases.{by-test, and-first, and-second}
 use Rattle.refusals.specs.Refusals.{number, table, first, givenBy, standsIn}
@@ -18,10 +18,9 @@ use Rattle.labels.specs.Components.{largest}
 use Rattle.cutting.specs.Cutting.{Cutting, blocks, blockExtents, goodCut, mostBlocks, FewBlocks}
 use Rattle.joiner.specs.Job.{Kind, Face, Curve, Point, Told, Tables, State, Tray, sameStage, countOf, fromOf, ticked, lengthsFit, blockTrays, linkTrays, foundTrays, numberTrays, firstTrays, listedTrays, kindTrays, numbersPerBlock}
 use Rattle.joiner.specs.Job as joiner
-use Rattle.joiner.specs.Stages.{nextAfter}
 use Rattle.joiner.specs.Calls.{Call, enrol, join, cross, point, look, reading, Answer, answer, stageOf, placed, repeated, mapsFit, layersDiffer, full, overfull}
 use Rattle.joiner.specs.Declines.{adds, counted, cutFor, declines, filled, lentTo, linksStand, mapStands, numberStands, refusal, standing, standsFor, stray, talliesFit, waysStand}
-use Rattle.joiner.specs.Outcomes.{Done, CallStep, Ticked, allTrays}
+use Rattle.joiner.specs.Outcomes.{Done, CallStep, allTrays}
 use Rattle.joiner.proofs.Passed.{tally-fits}
 use Rattle.blocks.specs.Blocks.{anyExtents, sizeOf, Tells}
 use Rattle.blocks.specs.declared.Block.{Block}
@@ -30,11 +29,10 @@ use Rattle.blocks.proofs.CodeLaws.{blocks-are}
 use Rattle.pass_survey.specs.declared.Survey.{Survey}
 use Rattle.job.specs.declared.Job.{Job}
 use Rattle.job.specs.declared.Stage.{Stage}
-use Rattle.job.specs.JobState.{anyCuts, byKind, jobOf, toldOf, stateOf}
+use Rattle.job.specs.JobState.{anyCuts, jobOf, toldOf}
 use Rattle.job.specs.JobState as job
 use Rattle.job.proofs.JobLaws.{fits-append}
 use Rattle.stages.specs.Ticks.{tickedIn}
-use Rattle.stages.proofs.StageLaws.{next-told}
 use Rattle.judge.specs.declared.CallName.{CallName}
 use Rattle.judge.specs.declared.Lengths.{Lengths}
 use Rattle.judge.specs.declared.Entry.{Entry}

@@ -1,11 +1,10 @@
 -- The tests that the joiner's calls have in common, in the order of the refusals.
 -- Assumes nothing.
-use mathlib.Core.Path.{_≡_}
 use mathlib.Core.Bool.{Bool, not, cond, _&&_}
 use mathlib.Core.List.{List, [], _∷_, _++_}
 use Prim.Native.Nat.{ℕ, _+_, _*_}
 use lib.Dec.{eqb, leb, ltb}
-use lib.ListN.{getD, length, set}
+use lib.ListN.{getD, length}
 use Rattle.union_find.specs.Links.{soundWays}
 use Rattle.cells.specs.Box.{Triple}
 use Rattle.cells.specs.Extents.{offSize}
@@ -14,12 +13,11 @@ use Rattle.labels.specs.Components.{largest}
 use Rattle.cutting.specs.Cutting.{blocks, blockExtents, goodCut}
 use Rattle.joiner.specs.Job.{Kind, Face, Curve, Point, Tables, State, Tray, tray, sameStage, ticked, lengthsFit, numbersPerBlock}
 use Rattle.joiner.specs.Job as joiner
-use Rattle.joiner.specs.Stages.{nextAfter}
-use Rattle.joiner.specs.Calls.{Call, enrol, join, cross, point, look, reading, stageOf, repeated, placed, mapsFit, layersDiffer, full}
+use Rattle.joiner.specs.Calls.{Call, enrol, join, cross, point, look, reading, repeated, placed, mapsFit, layersDiffer, full}
 use Rattle.joiner.specs.Declines.{filled, lentTo, stray, talliesFit, adds}
 use Rattle.job.specs.declared.Job.{Job}
 use Rattle.job.specs.declared.Stage.{Stage}
-use Rattle.job.specs.JobState.{byKind, toldOf, blockLengths, linkLengths, foundLengths, kindLengths}
+use Rattle.job.specs.JobState.{byKind, blockLengths, linkLengths, foundLengths, kindLengths}
 use Rattle.job.specs.JobState as job
 use Rattle.stages.specs.Ticks.{tickedIn}
 use Rattle.judge.specs.declared.CallName.{CallName}

@@ -5,12 +5,10 @@ use mathlib.Core.Bool.{Bool, true, false, not, cond, _&&_, _||_}
 use mathlib.Core.List.{List, [], _∷_, map}
 use Prim.Native.Nat.{ℕ}
 use lib.Dec.{eqb}
-use lib.ListN.{length}
 use borrow.Author.Tests.{eq-eqb, ne-eqb}
 use Rattle.lists.specs.Lists.{consecutive, allOf}
-use Rattle.cutting.specs.Cutting.{Cutting, blocks, blockExtents, goodCut}
+use Rattle.cutting.specs.Cutting.{Cutting, blocks, goodCut}
 use Rattle.joiner.specs.Job.{Kind, Face, Curve, State, ticked}
-use Rattle.joiner.specs.Job as joiner
 use Rattle.joiner.specs.Stages.{finished, stepsOf, crossingStep}
 use Rattle.joiner.specs.Calls.{cross}
 use Rattle.joiner.specs.Declines.{adds, allLinksStand, lastCrossing, linksStand, refusal, rowsStand}

@@ -1,8 +1,8 @@
 -- The ways of the tests of an enrolment, over plain lists and numbers. Assumes nothing.
 use mathlib.Core.Path.{_≡_, refl, sym, ap, _∙_}
-use mathlib.Core.Bool.{Bool, true, false, not, _||_, or-false}
+use mathlib.Core.Bool.{Bool, true, false, not, or-false}
 use mathlib.Core.List.{List, []}
-use Prim.Native.Nat.{ℕ, _+_, _*_, _≤_}
+use Prim.Native.Nat.{ℕ, _+_, _≤_}
 use native.Mathlib.Omega.{arith}
 use lib.Dec.{ltb}
 use lib.ListN.{length}
@@ -26,7 +26,6 @@ use Rattle.judge.specs.declared.Lengths.{Lengths}
 use Rattle.judge.specs.Judge.{lengthsOf, lengthsJudged}
 use Rattle.judge.proofs.JudgeLaws.{or-first, or-then, block-sized, refusal-lengths, lengths-passed}
 use Rattle.pass_survey.specs.declared.Survey.{Survey}
-use Rattle.judge_enrol.specs.declared.Plan.{Plan}
 use Rattle.judge_enrol.specs.Tests.{lateOf, refusalOf, Judged}
 
 -- ---- tallies

@@ -106,9 +106,6 @@ seam-follows k b c z =
     go (suc (suc (suc (suc n)))) h x d = absurd (omega (arith, h))
 
 module _ (k : Cutting) (good : goodCut k ≡ true) (b c : ℕ) (a : Axis) (F : Follows k b c a) where
-  lowerExtents : Triple
-  lowerExtents = blockExtents k b
-
   G : Triple
   G = blockExtents k c
 

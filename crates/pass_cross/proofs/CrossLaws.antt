@@ -2,14 +2,14 @@
 -- Assumes nothing.
 use mathlib.Core.List.{List, [], _∷_, _++_, List·Memᴰ, List·Memᴰ·head, List·Memᴰ·tail}
 use mathlib.Core.Path.{_≡_, refl, sym, ap, _∙_}
-use Prim.Native.Nat.{ℕ, zero, suc, _+_, _-_, _*_, _%_, _≤_, _<_}
+use Prim.Native.Nat.{ℕ, zero, suc, _+_, _-_, _≤_, _<_}
 use native.Mathlib.Omega.{arith}
 use lib.ListN.{length, getD}
 use Rattle.closure.specs.Joined.{Edge, joins}
 use Rattle.union_find.specs.Links.{root, Rooted}
 use Rattle.union_find.proofs.LinkLaws.{Left, left-all, left-fewer, left-none, rooted-refl}
-use Rattle.cells.specs.Box.{Triple, Y, Z, stride}
-use Rattle.cells.specs.Grid.{sides, cells, order, upperNeighbours}
+use Rattle.cells.specs.Box.{Triple}
+use Rattle.cells.specs.Grid.{cells, order, upperNeighbours}
 use Rattle.cells.specs.Row.{padTo, numbersAt}
 use Rattle.cells.proofs.GridLaws.{length-up}
 use Rattle.lines.specs.Lines.{lineCount, StridedAt}

@@ -1,6 +1,6 @@
 -- Point cells, their rows over the final curves, and how many of them are points.
 -- Assumes nothing.
-use mathlib.Core.Path.{_≡_, refl, sym, ap, _∙_}
+use mathlib.Core.Path.{_≡_, refl, ap, _∙_}
 use mathlib.Core.Logic.{_≢_}
 use mathlib.Core.List.{List, [], _∷_, _++_, map-map}
 use Prim.Native.Nat.{ℕ, _+_, _-_, _*_, _≤_, _<_}

@@ -2,7 +2,6 @@
 use union_find::unite;
 ghost use mathlib.Core.Path.{_≡_};
 ghost use mathlib.Core.Bool.{not, cond, _&&_};
-ghost use Prim.Native.Nat.{ℕ};
 ghost use lib.ListN.{length};
 ghost use Rattle.closure.specs.Joined.{joins};
 ghost use Rattle.cells.specs.Box.{triple};

@@ -18,7 +18,7 @@ use Rattle.cells.specs.Grid.{cells}
 use Rattle.cells.specs.Row.{row}
 use Rattle.extents.proofs.SizeLaws.{sized-of}
 use Rattle.labels.specs.Components.{largest, firstCell, componentRow}
-use Rattle.text.specs.Listing.{decimal, spaced, letter, width, coordinates, line, linesFor, linesOf, heading, listing, refusedLine}
+use Rattle.text.specs.Listing.{spaced, letter, width, coordinates, line, linesFor, linesOf, heading, listing, refusedLine}
 use Rattle.text_tray.specs.Sunk.{State, sunk, fitting, part}
 use Rattle.printer.specs.Printing.{tooMany, hasListing, Outcome, outcome, listed, printing, Ready}
 use Rattle.text_tray.proofs.SinkLaws.{sunk-then, sunk-more, sunk-whole}

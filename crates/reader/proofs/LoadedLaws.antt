@@ -15,7 +15,6 @@ use borrow.Author.Tests.{eqb-true, eq-eqb, ne-eqb, leb-true, le-leb, lt-leb, not
 use Rattle.lists.proofs.Cases.{neither}
 use Rattle.lists.specs.Lists.{consecutive, tabulate, someOf}
 use Rattle.lists.proofs.Lists.{tabulate-snoc}
-use Rattle.lists.proofs.Tests.{some-append, some-end}
 use Rattle.closure.specs.Numbered.{countBelow}
 use Rattle.refusals.specs.Refusals.{off-size, wrong-tray, bad-record, number, table, first, givenBy, listedNumbers, standsIn}
 use Rattle.refusals.proofs.RefusalLaws.{given-none}

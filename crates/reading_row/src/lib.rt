@@ -20,8 +20,8 @@ ghost use Prim.Native.Nat.{_-_, _*_, _≤_, _<_};
 ghost use lib.ListN.{length, take, drop};
 ghost use Rattle.joiner.specs.Calls.{reading, answer};
 ghost use Rattle.joiner.specs.Outcomes.{CallStep};
-ghost use Rattle.job.specs.JobState.{anyCuts, stateOf};
-ghost use Rattle.reading_row.specs.Inner.{kindOf, lent, numberedOf, refusalOf, HasRow, rowIn};
+ghost use Rattle.job.specs.JobState.{anyCuts, numberedOf, stateOf};
+ghost use Rattle.reading_row.specs.Inner.{kindOf, lent, refusalOf, HasRow, rowIn};
 
 // What the tables hold.
 pub enum Kind {
@@ -32,7 +32,7 @@ pub enum Kind {
 
 // How many of a kind are numbered.
 fn numbered(job: Job, kind: Kind) -> u32
-    ensures { λ r. ⌜ r ≡ numberedOf job kind ⌝ }
+    ensures { λ r. ⌜ r ≡ numberedOf job (kindOf kind) ⌝ }
 {
     match kind {
         Kind::Face => job.numbered_faces,

@@ -9,7 +9,6 @@ use judge::NO_LENGTHS;
 use judge_cross::judge_crossing;
 use store_cross::join_curves;
 use store_cross::number_both;
-ghost use mathlib.Core.Path.{_≡_};
 ghost use mathlib.Core.List.{[]};
 ghost use Rattle.joiner.specs.Calls.{cross, answer};
 ghost use Rattle.joiner.specs.Outcomes.{CallStep, CrossingDone};

@@ -14,7 +14,6 @@ use judge_point::judge_points;
 use kind_numbers::number_copied;
 use pass_point::store_points;
 use stages::advance;
-ghost use mathlib.Core.Path.{_≡_};
 ghost use mathlib.Core.List.{[]};
 ghost use Prim.Native.Nat.{_+_, _*_, _≤_};
 ghost use lib.ListN.{length};

@@ -7,8 +7,6 @@ use kind_numbers::number_copied;
 use kind_numbers::number_curves;
 use pass_cross::cross_cells;
 use stages::advance;
-ghost use mathlib.Core.Path.{_≡_};
-ghost use Prim.Native.Nat.{_+_, _*_, _≤_};
 ghost use lib.ListN.{length};
 ghost use Rattle.blocks.specs.Blocks.{cutOf};
 ghost use Rattle.job.specs.JobState.{jobOf};

@@ -1,9 +1,9 @@
 -- What the listing program is asked (document 01, "Volumes to try"): "three extents (each at most 8) and the codes, exactly as many as
 -- voxels", and when the text is refused.
 -- Assumes nothing.
-use mathlib.Core.Bool.{Bool, true, false, not, _&&_}
+use mathlib.Core.Bool.{Bool, true, not, _&&_}
 use mathlib.Core.List.{List, [], _∷_, map}
-use Prim.Native.Nat.{ℕ, _+_}
+use Prim.Native.Nat.{ℕ}
 use lib.Dec.{eqb, leb}
 use lib.ListN.{length, getD, drop}
 use Rattle.refusals.specs.Refusals.{off-size, blank-voxel, bad-record, Case, _if_, givenRefusal}

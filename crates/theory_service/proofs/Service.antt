@@ -13,7 +13,6 @@ use Rattle.joiner.proofs.Statement3.{statement3}
 use Rattle.strain_calls.specs.Tables.{TotalTables}
 use Rattle.strain_calls.specs.Outcomes.{TotalsOpening}
 use Rattle.job.specs.Lent.{noTables}
-use Rattle.theory_frames.specs.Frames.{}
 use Rattle.theory_frames.proofs.FrameLaws.{framed}
 use Rattle.theory_service.specs.Contracts.{Held, stateIn, CalledThrough, enrolled, joined, crossed, pointed, looked, read, OpenedBy, opened, Calls, none, next}
 

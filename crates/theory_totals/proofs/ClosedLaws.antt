@@ -25,13 +25,12 @@ use Rattle.labels.specs.Number.{labels}
 use Rattle.labels.specs.Components.{ofOrder, component}
 use Rattle.labels.proofs.OrderCounts.{component-cells-fit}
 use Rattle.labels.proofs.LabelLaws.{labels-numbering, numbered-active}
-use Rattle.cutting.specs.Cutting.{Cutting, blocks, goodCut, blockExtents, embed}
-use Rattle.cutting.proofs.CutLaws.{embed-order}
+use Rattle.cutting.specs.Cutting.{Cutting, blocks, goodCut, blockExtents}
 use Rattle.joiner.specs.Book.{Book, uncut}
 use Rattle.joiner.specs.Declines.{finalOf}
 use Rattle.joiner.specs.Outcomes.{cellNumber, lookedUp}
 use Rattle.joiner.specs.Job.{Face, Point, State, Told, Tables, stageNumber, Closed}
-use Rattle.joiner.specs.Stages.{hasCell, local, lowestBlock}
+use Rattle.joiner.specs.Stages.{local, lowestBlock}
 use Rattle.joiner.specs.Statement.{Labelling}
 use Rattle.joiner.proofs.Codes.{lowestOf, localOf, InLowest, in-lowest}
 use Rattle.joiner.proofs.Readings.{cell-read}

@@ -5,14 +5,13 @@ use mathlib.Core.Bool.{true}
 use mathlib.Core.List.{List, List·Memᴰ, Memᴰ·of-map}
 use Prim.Native.Nat.{ℕ, suc, _<_}
 use lib.Ieee.{Float}
-use Rattle.cells.specs.Box.{place, index, volume}
+use Rattle.cells.specs.Box.{place, volume}
 use Rattle.cells.specs.Grid.{sides, cells, order, upperNeighbours, voxel, voxelCell}
-use Rattle.cells.proofs.BoxLaws.{index-place}
 use Rattle.cells.proofs.GridLaws.{Upper, upper-neighbour, voxel-inside, cell-voxel}
 use Rattle.labels.specs.Number.{labels}
 use Rattle.cutting.specs.Cutting.{Cutting, blocks, goodCut, blockExtents, embed}
-use Rattle.cutting.proofs.CutLaws.{embed-order, embed-up}
-use Rattle.joiner.specs.Stages.{hasCell, local, lowestBlock}
+use Rattle.cutting.proofs.CutLaws.{embed-up}
+use Rattle.joiner.specs.Stages.{local}
 use Rattle.joiner.proofs.Codes.{lowestOf, localOf, InLowest, in-lowest}
 use Rattle.joiner.proofs.Sheets.{codes-back}
 use Rattle.joiner.proofs.Statement3.{opened-passed}

@@ -9,13 +9,12 @@ use lib.Dec.{eqb}
 use Rattle.lists.specs.Lists.{allOf}
 use Rattle.lists.proofs.Cases.{by-test, and-both, and-first, and-second, picked}
 use Rattle.lists.proofs.Tests.{all-in, all-out}
-use Rattle.cells.specs.Box.{Triple, place, volume}
-use Rattle.cells.specs.Grid.{sides, cells, upperNeighbours, voxel}
+use Rattle.cells.specs.Box.{Triple, volume}
+use Rattle.cells.specs.Grid.{cells, upperNeighbours, voxel}
 use Rattle.cells.proofs.GridLaws.{upper-neighbour, voxel-inside}
 use Rattle.labels.proofs.ComponentLaws.{of-order-out}
 use Rattle.labels.specs.Components.{ofOrder}
 use Rattle.cutting.specs.Cutting.{Cutting, blocks, goodCut, blockExtents}
-use Rattle.joiner.specs.Stages.{local, lowestBlock}
 use Rattle.joiner.proofs.Codes.{lowestOf, localOf, in-lowest}
 use Rattle.strains.specs.Readings.{isGood}
 use Rattle.strains.specs.declared.Reading.{Reading}

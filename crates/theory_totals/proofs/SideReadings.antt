@@ -14,11 +14,10 @@ use Rattle.lists.specs.Lists.{keep}
 use Rattle.lists.proofs.Cases.{by-test}
 use Rattle.lists.proofs.Lists.{keep-out}
 use Rattle.lists.proofs.Tests.{keep-same}
-use Rattle.cells.specs.Box.{Triple, index, place}
+use Rattle.cells.specs.Box.{Triple}
 use Rattle.cells.specs.Extents.{offSize}
 use Rattle.cells.specs.Grid.{sides, cells, order, upperNeighbours, voxel}
 use Rattle.cells.specs.Row.{row}
-use Rattle.cells.proofs.BoxLaws.{index-place}
 use Rattle.cells.proofs.GridLaws.{Upper, upper-neighbour}
 use Rattle.labels.specs.Components.{ofOrder, component}
 use Rattle.labels.proofs.ComponentLaws.{of-order-out}
@@ -26,10 +25,10 @@ use Rattle.cutting.specs.Cutting.{Cutting, blocks, goodCut, blockExtents, embed
 use Rattle.cutting.specs.Nodes.{part, uncutMap}
 use Rattle.cutting.proofs.RenameLaws.{keep-map}
 use Rattle.cutting.proofs.BlockLaws.{voxel-same, face-row}
-use Rattle.cutting.proofs.CutLaws.{embed-order, embed-up}
+use Rattle.cutting.proofs.CutLaws.{embed-up}
 use Rattle.joiner.specs.Book.{Book, uncut}
 use Rattle.joiner.specs.Job.{Closed, State, Told, stageNumber}
-use Rattle.joiner.specs.Stages.{codesOf, hasCell, local, lowestBlock}
+use Rattle.joiner.specs.Stages.{codesOf}
 use Rattle.joiner.specs.Statement.{Labelling}
 use Rattle.joiner.proofs.Codes.{lowestOf, localOf, InLowest, in-lowest}
 use Rattle.joiner.proofs.Final.{part-is, uncut-is}

@@ -4,7 +4,7 @@ ghost use mathlib.Core.Path.{_≡_};
 ghost use Prim.Native.Nat.{_-_};
 ghost use lib.ListN.{length};
 ghost use Rattle.lists.specs.Lists.{zeros};
-ghost use Rattle.union_find.specs.Links.{parent, root, soundBelow, soundWays, united, Rooted, Walked, Found};
+ghost use Rattle.union_find.specs.Links.{parent, soundBelow, soundWays, united, Rooted, Walked, Found};
 
 // Where a link of d leads from x.
 fn back(x: u32, d: u32) -> u32

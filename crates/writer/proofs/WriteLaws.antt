@@ -11,11 +11,10 @@ use lib.Dec.{eqb, ltb}
 use lib.ListN.{length, getD, take, drop, set, drop-of-length-le, length-append, length-drop}
 use lib.Seq.{drop-cons, take-all}
 use borrow.Author.Tests.{eqb-true, eq-eqb, ne-eqb, ltb-false, lt-ltb, le-ltb, not-false}
-use Rattle.lists.specs.Lists.{consecutive, tabulate, someOf}
+use Rattle.lists.specs.Lists.{consecutive, tabulate}
 use Rattle.labels.specs.Components.{blankVoxel}
 use Rattle.lists.proofs.Cases.{by-test, neither}
 use Rattle.lists.proofs.Lists.{length-tabulate, tabulate-snoc, drop-down}
-use Rattle.lists.proofs.Tests.{some-append}
 use Rattle.cells.specs.Box.{Triple}
 use Rattle.cells.specs.Extents.{offPlace}
 use Rattle.cells.specs.Grid.{cells}

@@ -1,6 +1,6 @@
 -- What `write_record` answers and leaves in the tray, for every input (document 01, "Block record" and "What the service declines").
 -- Assumes nothing.
-use mathlib.Core.Bool.{Bool, false, cond, not, _||_}
+use mathlib.Core.Bool.{cond, not, _||_}
 use mathlib.Core.List.{List, [], _∷_, _++_}
 use Prim.Native.Nat.{ℕ}
 use lib.Dec.{eqb, ltb}

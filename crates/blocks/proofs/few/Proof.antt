@@ -1,7 +1,6 @@
 -- `blocks::few` meets its contract.
 use mathlib.Core.Path.{refl}
 use native.Mathlib.Omega.{arith}
-use borrow.Author.Needs.{needs}
 use Rattle.blocks.proofs.CodeLaws.{many-x, many-y, many-z, layer-room, room}
 use Rattle.blocks.proofs.few.Statement.{statement}
 use Rattle.blocks.proofs.few.Tie as tie

@@ -1,5 +1,4 @@
 -- `extents::is_extent` meets its contract.
-use Prim.Native.Nat.{_-_}
 use native.Mathlib.Omega.{arith}
 use borrow.Author.Tests.{lt-leb, le-leb}
 use Rattle.cells.specs.Extents.{isExtent}

@@ -1,5 +1,4 @@
 -- `extents::off_size` meets its contract.
-use Prim.Native.Nat.{_-_}
 use mathlib.Core.Path.{_∙_, sym}
 use borrow.Author.Needs.{needs}
 use Rattle.cells.specs.Extents.{offSize}

@@ -1,5 +1,4 @@
 -- `job_numbers::stage_in` meets its contract.
-use borrow.Author.Needs.{needs}
 use Rattle.job_numbers.proofs.NumberLaws.{stage-0, stage-1, stage-2, stage-3, stage-4, stage-none}
 use Rattle.job_numbers.proofs.stage_in.Statement.{statement}
 use Rattle.job_numbers.proofs.stage_in.Tie as tie

@@ -3,7 +3,6 @@ use borrow.Author.Needs.{needs}
 use Rattle.judge.proofs.JudgeLaws.{fits-join}
 use Rattle.judge.proofs.enrol_lent.Statement.{statement}
 use Rattle.judge.proofs.enrol_lent.Tie as tie
-use Rattle.judge.proofs.enrol_lent.Lts as lts
 
 seam-lent-requires : tie.Need-seam-lent-requires
 seam-lent-requires c κs = search needs

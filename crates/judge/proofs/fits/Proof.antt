@@ -4,7 +4,6 @@ use Rattle.lists.proofs.Cases.{and-here, and-next}
 use Rattle.judge.specs.Judge.{fitsIn}
 use Rattle.judge.proofs.fits.Statement.{statement}
 use Rattle.judge.proofs.fits.Tie as tie
-use Rattle.judge.proofs.fits.Lts as lts
 
 map-fits-requires : tie.Need-map-fits-requires
 map-fits-requires c κs = search needs

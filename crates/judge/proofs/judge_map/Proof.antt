@@ -5,7 +5,6 @@ use Rattle.blocks.specs.Blocks.{sizeOf}
 use Rattle.judge.proofs.JudgeLaws.{map-6, map-tallies, map-8, map-0}
 use Rattle.judge.proofs.judge_map.Statement.{statement}
 use Rattle.judge.proofs.judge_map.Tie as tie
-use Rattle.judge.proofs.judge_map.Lts as lts
 
 returns : tie.Need-returns
 returns c =

@@ -3,7 +3,6 @@ use borrow.Author.Needs.{needs}
 use Rattle.judge.proofs.JudgeLaws.{lent-same}
 use Rattle.judge.proofs.lent_fits.Statement.{statement}
 use Rattle.judge.proofs.lent_fits.Tie as tie
-use Rattle.judge.proofs.lent_fits.Lts as lts
 
 enum-told : tie.Need-enum-told
 enum-told c = search needs

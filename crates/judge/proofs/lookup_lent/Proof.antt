@@ -3,7 +3,6 @@ use borrow.Author.Needs.{needs}
 use Rattle.judge.proofs.JudgeLaws.{fits-join}
 use Rattle.judge.proofs.lookup_lent.Statement.{statement}
 use Rattle.judge.proofs.lookup_lent.Tie as tie
-use Rattle.judge.proofs.lookup_lent.Lts as lts
 
 block-trays-requires : tie.Need-block-trays-requires
 block-trays-requires c κs = search needs

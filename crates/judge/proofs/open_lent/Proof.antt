@@ -3,7 +3,6 @@ use borrow.Author.Needs.{needs}
 use Rattle.judge.proofs.JudgeLaws.{fits-join}
 use Rattle.judge.proofs.open_lent.Statement.{statement}
 use Rattle.judge.proofs.open_lent.Tie as tie
-use Rattle.judge.proofs.open_lent.Lts as lts
 
 crossing-lent-requires : tie.Need-crossing-lent-requires
 crossing-lent-requires c κs = search needs

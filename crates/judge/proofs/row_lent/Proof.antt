@@ -3,7 +3,6 @@ use borrow.Author.Needs.{needs}
 use Rattle.judge.proofs.JudgeLaws.{fits-join}
 use Rattle.judge.proofs.row_lent.Statement.{statement}
 use Rattle.judge.proofs.row_lent.Tie as tie
-use Rattle.judge.proofs.row_lent.Lts as lts
 
 row-tray-requires : tie.Need-row-tray-requires
 row-tray-requires c κs = search needs

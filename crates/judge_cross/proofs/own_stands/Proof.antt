@@ -4,7 +4,6 @@ use Rattle.judge_cross.specs.Tests.{ownStands}
 use Rattle.lists.proofs.Cases.{and-here, and-next}
 use Rattle.judge_cross.proofs.own_stands.Statement.{statement}
 use Rattle.judge_cross.proofs.own_stands.Tie as tie
-use Rattle.judge_cross.proofs.own_stands.Lts as lts
 
 links-stand-requires : tie.Need-links-stand-requires
 links-stand-requires c κs = search needs

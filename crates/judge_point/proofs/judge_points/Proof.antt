@@ -4,7 +4,6 @@ use borrow.Author.Needs.{needs}
 use Rattle.judge_point.proofs.TestLaws.{points-first, points-map, points-late}
 use Rattle.judge_point.proofs.judge_points.Statement.{statement}
 use Rattle.judge_point.proofs.judge_points.Tie as tie
-use Rattle.judge_point.proofs.judge_points.Lts as lts
 
 mul-step : tie.Need-mul-step
 mul-step c = search needs

@@ -3,7 +3,6 @@ use borrow.Author.Needs.{needs}
 use Rattle.judge_point.proofs.TestLaws.{late-stray, late-full, late-found}
 use Rattle.judge_point.proofs.late.Statement.{statement}
 use Rattle.judge_point.proofs.late.Tie as tie
-use Rattle.judge_point.proofs.late.Lts as lts
 
 numbers-stand-requires : tie.Need-numbers-stand-requires
 numbers-stand-requires c κs = search needs

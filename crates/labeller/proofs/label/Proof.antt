@@ -1,5 +1,4 @@
 -- `labeller::label` meets its contract.
-use Prim.Native.Nat.{_-_}
 use mathlib.Core.Path.{_∙_, sym}
 use borrow.Author.Needs.{needs}
 use Rattle.labeller.proofs.LabellingLaws.{ready-of, label-refused, label-accepted}

@@ -1,5 +1,4 @@
 -- `lines::face_row` meets its contract.
-use Prim.Native.Nat.{_-_}
 use mathlib.Core.Path.{_∙_, sym}
 use mathlib.Core.List.{[], _∷_, List·Memᴰ·head}
 use borrow.Author.Needs.{needs}

@@ -1,5 +1,5 @@
 -- `lines::first_x` meets its contract.
-use Prim.Native.Nat.{suc, _-_}
+use Prim.Native.Nat.{suc}
 use native.Mathlib.Omega.{arith}
 use borrow.Author.Needs.{needs}
 use borrow.Author.Tests.{eq-eqb, ne-eqb}

@@ -1,5 +1,4 @@
 -- `lines::row_near` meets its contract.
-use Prim.Native.Nat.{_-_}
 use borrow.Author.Needs.{needs}
 use Rattle.lines.proofs.LineLaws.{strided-one, strided-two, strided-three}
 use Rattle.lines.proofs.row_near.Statement.{statement}

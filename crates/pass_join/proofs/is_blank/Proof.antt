@@ -1,5 +1,4 @@
 -- `pass_join::is_blank` meets its contract.
-use Prim.Native.Nat.{_-_}
 use mathlib.Core.Path.{sym}
 use lib.ListN.{getD}
 use borrow.Author.Needs.{needs}

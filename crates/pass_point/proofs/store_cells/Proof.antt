@@ -1,5 +1,5 @@
 -- `pass_point::store_cells` meets its contract. The loop's invariant: the cell at x is a point cell, and those from x on are left.
-use Prim.Native.Nat.{_-_, _<_}
+use Prim.Native.Nat.{_-_}
 use native.Mathlib.Omega.{arith}
 use lib.Dec.{eqb}
 use borrow.Author.Needs.{needs}

@@ -1,6 +1,5 @@
 -- `pass_seam::columns_of` meets its contract.
 -- Assumes nothing.
-use Prim.Native.Nat.{_-_}
 use borrow.Author.Needs.{needs}
 use Rattle.pass_seam.proofs.LayerOf.{columns-x, columns-off}
 use Rattle.pass_seam.proofs.columns_of.Statement.{statement}

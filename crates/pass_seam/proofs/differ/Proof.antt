@@ -1,6 +1,5 @@
 -- `pass_seam::differ` meets its contract.
 -- Assumes nothing.
-use Prim.Native.Nat.{_-_}
 use Rattle.pass_seam.proofs.WalkLaws.{voxels-differ, blank-differs, active-differs}
 use Rattle.pass_seam.proofs.differ.Statement.{statement}
 use Rattle.pass_seam.proofs.differ.Tie as tie

@@ -1,6 +1,5 @@
 -- `pass_seam::differ_at` meets its contract.
 -- Assumes nothing.
-use Prim.Native.Nat.{_-_}
 use borrow.Author.Needs.{needs}
 use Rattle.pass_seam.specs.Walks.{differAt}
 use Rattle.pass_seam.proofs.differ_at.Statement.{statement}

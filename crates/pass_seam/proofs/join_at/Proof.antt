@@ -1,6 +1,5 @@
 -- `pass_seam::join_at` meets its contract.
 -- Assumes nothing.
-use Prim.Native.Nat.{_-_}
 use native.Mathlib.Omega.{arith}
 use borrow.Author.Needs.{needs}
 use Rattle.pass_seam.proofs.WalkLaws.{placed, joined-off, joined-lost, joined-there}

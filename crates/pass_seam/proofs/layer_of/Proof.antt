@@ -1,6 +1,5 @@
 -- `pass_seam::layer_of` meets its contract.
 -- Assumes nothing.
-use Prim.Native.Nat.{_-_}
 use native.Mathlib.Omega.{arith}
 use borrow.Author.Needs.{needs}
 use Rattle.pass_seam.proofs.LayerOf.{layer-x, layer-y, layer-z, area-fits, line-fits, layer-fits}

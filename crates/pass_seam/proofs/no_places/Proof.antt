@@ -1,6 +1,5 @@
 -- `pass_seam::no_places` meets its contract.
 -- Assumes nothing.
-use Prim.Native.Nat.{_-_}
 use borrow.Author.Needs.{needs}
 use Rattle.pass_seam.proofs.WalkLaws.{no-first, no-second, no-last, has-not, has-beyond}
 use Rattle.pass_seam.proofs.no_places.Statement.{statement}

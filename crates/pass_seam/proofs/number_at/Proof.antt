@@ -1,6 +1,5 @@
 -- `pass_seam::number_at` meets its contract.
 -- Assumes nothing.
-use Prim.Native.Nat.{_-_}
 use native.Mathlib.Omega.{arith}
 use borrow.Author.Needs.{needs}
 use Rattle.pass_seam.proofs.WalkLaws.{product-fits, number-inside, number-outside}

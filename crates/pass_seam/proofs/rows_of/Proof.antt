@@ -1,6 +1,5 @@
 -- `pass_seam::rows_of` meets its contract.
 -- Assumes nothing.
-use Prim.Native.Nat.{_-_}
 use borrow.Author.Needs.{needs}
 use Rattle.pass_seam.proofs.LayerOf.{rows-x, rows-y, rows-z}
 use Rattle.pass_seam.proofs.rows_of.Statement.{statement}

@@ -20,15 +20,15 @@ sub-result : tie.Need-sub-result
 sub-result c = search needs
 
 -- The lines, each with its cells, are the grid.
-product : (c : tie.After-line-count) → let a = c .before .args in c .line-count .result * (2 * a .nx - 1) ≡ cells (triple (a .nx) (a .ny) (a .nz))
+all-cells : (c : tie.After-line-count) → let a = c .before .args in c .line-count .result * (2 * a .nx - 1) ≡ cells (triple (a .nx) (a .ny) (a .nz))
 unfolding sides
-product c = rw (c .line-count .ensures) (sym (cells-lines _))
+all-cells c = rw (c .line-count .ensures) (sym (cells-lines _))
 
 mul-result-2 : tie.Need-mul-result-2
-mul-result-2 c = omega (arith, product c, cells-high (c .before .pre))
+mul-result-2 c = omega (arith, all-cells c, cells-high (c .before .pre))
 
 returns : tie.Need-returns
-returns c = product c
+returns c = all-cells c
 
 pub cell-count-spec : {M : Type 1} → statement M
 cell-count-spec = tie.close (tie.spec line-count-requires mul-result sub-result mul-result-2 returns)

@@ -1,5 +1,4 @@
 -- `service::tugrelis_read_record` meets its contract.
-use Prim.Native.Nat.{_-_}
 use borrow.Author.Needs.{needs}
 use Rattle.service.proofs.ExportLaws.{reading-stored, reading-refused}
 use Rattle.service.proofs.tugrelis_read_record.Statement.{statement}

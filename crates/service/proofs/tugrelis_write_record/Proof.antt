@@ -1,5 +1,4 @@
 -- `service::tugrelis_write_record` meets its contract.
-use Prim.Native.Nat.{_-_}
 use borrow.Author.Needs.{needs}
 use Rattle.service.proofs.ExportLaws.{writing-stored, writing-refused}
 use Rattle.service.proofs.tugrelis_write_record.Statement.{statement}

@@ -4,7 +4,6 @@ use Rattle.step_open.specs.Inner.{tablesFit}
 use Rattle.lists.proofs.Cases.{and-here, and-next}
 use Rattle.step_open.proofs.tables_fit.Statement.{statement}
 use Rattle.step_open.proofs.tables_fit.Tie as tie
-use Rattle.step_open.proofs.tables_fit.Lts as lts
 
 lent-fits-requires : tie.Need-lent-fits-requires
 lent-fits-requires c κs = search needs

@@ -1,10 +1,7 @@
 -- `strains::is_strain` meets its contract.
-use mathlib.Core.Path.{_≡_, sym, subst}
-use mathlib.Core.Bool.{true, false}
-use lib.IntN.{pos}
-use lib.Ieee.{Float, fin, binary64, add, sub, eq, le, ofBits}
+use mathlib.Core.Path.{sym}
+use lib.Ieee.{ofBits}
 use borrow.Author.Needs.{needs}
-use Rattle.strains.specs.Units.{isUnits}
 use Rattle.strains.proofs.Whole.{in-range, out-of-range}
 use Rattle.strains.proofs.is_strain.Statement.{statement}
 use Rattle.strains.proofs.is_strain.Tie as tie

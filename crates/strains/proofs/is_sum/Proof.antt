@@ -1,10 +1,6 @@
 -- `strains::is_sum` meets its contract.
-use mathlib.Core.Path.{_≡_, sym, subst}
-use mathlib.Core.Bool.{true, false}
-use lib.IntN.{pos}
-use lib.Ieee.{Float, fin, binary64, add, sub, eq, le, lt, ofBits}
+use lib.Ieee.{ofBits}
 use borrow.Author.Needs.{needs}
-use Rattle.strains.specs.Units.{isUnits}
 use Rattle.strains.proofs.Whole.{below-large, from-large}
 use Rattle.strains.proofs.is_sum.Statement.{statement}
 use Rattle.strains.proofs.is_sum.Tie as tie

@@ -1,8 +1,8 @@
 -- `union_find::walk` meets its contract. The invariant: `at` is inside, its way is sound where that of x is, and the steps made and left are those
 -- of x. The measure is `at`.
 -- Assumes nothing.
-use Prim.Native.Nat.{_+_, _-_, _<_}
-use mathlib.Core.Path.{_≡_, refl, _∙_, sym}
+use Prim.Native.Nat.{_+_, _<_}
+use mathlib.Core.Path.{_≡_, refl}
 use native.Mathlib.Omega.{arith}
 use lib.ListN.{length}
 use borrow.Author.Needs.{needs}
