@@ -51,6 +51,10 @@ size-fits limit most e h s =
       le-leb (e .z) most (omega (arith, s .z-high)),
     )
 
+-- .. and are within it too.
+pub sized-within : {limit most : ℕ} {e : Triple} → limit ≤ most → Sized limit e → Sized most e
+sized-within {limit} {most} {e} h s = sized-of most e (size-fits limit most e h s)
+
 -- A block in its place is of a right size.
 pub sized-at : (e o : Triple) → offPlace e o ≡ false → Sized 64 e
 unfolding offPlace

@@ -51,15 +51,23 @@ pub fn off_place(nx: u16, ny: u16, nz: u16, ox: u16, oy: u16, oz: u16) -> bool
     beyond(nz, oz)
 }
 
-// How many cells the grid of a volume has. Not an entry.
+// How many cells the grid of a block or a volume has. Not an entry.
+pub fn grid_cells(nx: usize, ny: usize, nz: usize) -> usize
+    requires { ⌜ Sized 1024 (triple nx ny nz) ⌝ }
+    ensures { λ r. ⌜ r ≡ cells (triple nx ny nz) ⌝ }
+{
+    let w = 2 * nx - 1;
+    let h = 2 * ny - 1;
+    let d = 2 * nz - 1;
+    w * h * d
+}
+
+// How many cells the grid of a volume has, by extents as a job has them. Not an entry.
 pub fn cell_count(nx: u32, ny: u32, nz: u32) -> u64
     requires { ⌜ Sized 1024 (triple nx ny nz) ⌝ }
     ensures { λ r. ⌜ r ≡ cells (triple nx ny nz) ⌝ }
 {
-    let w = 2 * nx as u64 - 1;
-    let h = 2 * ny as u64 - 1;
-    let d = 2 * nz as u64 - 1;
-    w * h * d
+    grid_cells(nx as usize, ny as usize, nz as usize) as u64
 }
 
 // Whether a code is 0.

@@ -5,6 +5,7 @@ use blocks::block_at;
 use blocks::block_count;
 use blocks::good_cut;
 use blocks::has_block;
+use extents::grid_cells;
 use extents::off_size;
 use job::Job;
 use job::Stage;
@@ -317,10 +318,7 @@ pub fn map_fits(block: Block, length: usize) -> bool
     requires { ⌜ Sized 64 (sizeOf block) ⌝ }
     ensures { λ r. ⌜ r ≡ eqb length (cells (sizeOf block)) ⌝ }
 {
-    let w = 2 * block.nx - 1;
-    let h = 2 * block.ny - 1;
-    let d = 2 * block.nz - 1;
-    length == w * h * d
+    length == grid_cells(block.nx, block.ny, block.nz)
 }
 
 // What the block table tells of block b.

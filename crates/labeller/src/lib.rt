@@ -1,4 +1,5 @@
 // The labeller of one block.
+use extents::grid_cells;
 use extents::has_blank;
 use extents::off_size;
 use pass_fill::fill;
@@ -35,7 +36,7 @@ fn wrong_tray(nx: usize, ny: usize, nz: usize, codes: usize, map: usize, work: u
     if codes != nx * ny * nz {
         return true;
     }
-    let cells = (2 * nx - 1) * (2 * ny - 1) * (2 * nz - 1);
+    let cells = grid_cells(nx, ny, nz);
     if map != cells {
         return true;
     }

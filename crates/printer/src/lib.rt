@@ -1,5 +1,6 @@
 // The listing of a map as text, and the line of a refusal, from any place of the text on, into a tray of any size. Nothing is refused: where
 // there is no listing, no byte is put. None of the functions is an entry.
+use extents::grid_cells;
 use extents::off_size;
 use pass_first::count_of;
 use pass_first::mark_order;
@@ -191,7 +192,7 @@ fn has_listing(nx: usize, ny: usize, nz: usize, map: &[u32], marks: usize) -> bo
     if off_size(8, nx, ny, nz) {
         return false;
     }
-    let cells = (2 * nx - 1) * (2 * ny - 1) * (2 * nz - 1);
+    let cells = grid_cells(nx, ny, nz);
     if map.len() != cells {
         return false;
     }

@@ -1,5 +1,6 @@
 // The listing program (document 01, "Volumes to try"). It reads a volume from standard input, to its end, and prints the listing of its
 // map, or the line of its refusal. Where reading or writing fails it says so on standard error, and prints no more.
+use extents::grid_cells;
 use labeller::label;
 use libc::STDIN_FILENO;
 use libc::STDOUT_FILENO;
@@ -141,7 +142,7 @@ fn list_codes(codes: &[u32], nx: u16, ny: u16, nz: u16)
     let y = ny as usize;
     let z = nz as usize;
     let n = x * y * z;
-    let cells = (2 * x - 1) * (2 * y - 1) * (2 * z - 1);
+    let cells = grid_cells(x, y, z);
     let mut map = tray();
     let mut work = tray();
     list(

@@ -1,4 +1,5 @@
 // The reader of block records.
+use extents::grid_cells;
 use extents::off_place;
 use lines::line_at;
 use lines::line_count;
@@ -164,20 +165,12 @@ fn zero_listed(bytes: &[u8], at: usize, count: usize) -> bool
     false
 }
 
-// How many cells a block of nx, ny and nz voxels has.
-fn cell_count(nx: usize, ny: usize, nz: usize) -> usize
-    requires { ⌜ Sized 64 (triple nx ny nz) ⌝ }
-    ensures { λ r. ⌜ r ≡ cells (triple nx ny nz) ⌝ }
-{
-    line_count(nx, ny, nz) * (2 * nx - 1)
-}
-
 // Whether the record of a block of nx, ny and nz voxels is damaged. The length comes first: it says what can be read.
 fn is_damaged(bytes: &[u8], nx: usize, ny: usize, nz: usize) -> bool
     requires { ⌜ Sized 64 (triple nx ny nz) ⌝ }
     ensures { λ r. ⌜ r ≡ damaged (triple nx ny nz) (now (bytes .entry)) ⌝ }
 {
-    let n = cell_count(nx, ny, nz);
+    let n = grid_cells(nx, ny, nz);
     let at = 12 + (n + 7) / 8;
     if bytes.len() < at {
         return true;
@@ -225,7 +218,7 @@ fn refusal(bytes: &[u8], tray: usize) -> u32
     let nx = h.nx as usize;
     let ny = h.ny as usize;
     let nz = h.nz as usize;
-    let n = cell_count(nx, ny, nz);
+    let n = grid_cells(nx, ny, nz);
     if tray != n {
         return WRONG_TRAY;
     }

@@ -1,4 +1,5 @@
 // The writer of block records. Everything is decided before the first store.
+use extents::grid_cells;
 use extents::off_place;
 use lines::line_at;
 use lines::line_count;
@@ -90,7 +91,7 @@ fn refusal(nx: u16, ny: u16, nz: u16, ox: u16, oy: u16, oz: u16, map: &[u32], tr
     let x = nx as usize;
     let y = ny as usize;
     let z = nz as usize;
-    if map.len() != (2 * x - 1) * (2 * y - 1) * (2 * z - 1) {
+    if map.len() != grid_cells(x, y, z) {
         return WRONG_TRAY;
     }
     if tray < record_length(map) {

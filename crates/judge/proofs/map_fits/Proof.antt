@@ -1,42 +1,13 @@
 -- `judge::map_fits` meets its contract.
 use borrow.Author.Needs.{needs}
-use mathlib.Core.Path.{refl}
-use native.Mathlib.Omega.{arith}
-use Rattle.cells.specs.Box.{volume}
-use Rattle.cells.specs.Grid.{cells, sides}
-use Rattle.cells.proofs.ExtentLaws.{cells-are, layer-high, cells-high}
-use Rattle.blocks.specs.Blocks.{sizeOf}
 use Rattle.judge.proofs.map_fits.Statement.{statement}
 use Rattle.judge.proofs.map_fits.Tie as tie
 
-mul-w : tie.Need-mul-w
-mul-w c = search needs
-
-sub-w : tie.Need-sub-w
-sub-w c = search needs
-
-mul-h : tie.Need-mul-h
-mul-h c = search needs
-
-sub-h : tie.Need-sub-h
-sub-h c = search needs
-
-mul-d : tie.Need-mul-d
-mul-d c = search needs
-
-sub-d : tie.Need-sub-d
-sub-d c = search needs
-
-mul-result : tie.Need-mul-result
-mul-result c = omega (arith, layer-high (c .before .before .before .pre))
-
-mul-result-2 : tie.Need-mul-result-2
-mul-result-2 c = omega (arith, cells-are (sizeOf (c .before .before .before .args .block)), cells-high (c .before .before .before .pre))
+grid-cells-requires : tie.Need-grid-cells-requires
+grid-cells-requires c κs = search needs
 
 returns : tie.Need-returns
-unfolding cells volume sides
-returns c = refl
+returns c = rw (c .grid-cells .ensures)
 
 pub map-fits-spec : {M : Type 1} → statement M
-map-fits-spec =
-    tie.close (tie.spec mul-w sub-w mul-h sub-h mul-d sub-d mul-result mul-result-2 returns)
+map-fits-spec = tie.close (tie.spec grid-cells-requires returns)

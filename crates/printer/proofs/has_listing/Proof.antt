@@ -2,10 +2,9 @@
 use mathlib.Core.Path.{_∙_, sym}
 use native.Mathlib.Omega.{arith}
 use borrow.Author.Needs.{needs}
-use Rattle.cells.specs.Box.{volume}
-use Rattle.cells.specs.Grid.{sides, cells}
-use Rattle.cells.proofs.ExtentLaws.{layer-high, cells-high}
-use Rattle.extents.proofs.SizeLaws.{sized-of}
+use Rattle.cells.specs.Box.{triple}
+use Rattle.cells.specs.Extents.{Sized}
+use Rattle.extents.proofs.SizeLaws.{sized-of, sized-within}
 use Rattle.printer.proofs.PrintLaws.{none-size, none-map, none-tray, by-numbers}
 use Rattle.printer.proofs.has_listing.Statement.{statement}
 use Rattle.printer.proofs.has_listing.Tie as tie
@@ -16,46 +15,35 @@ off-size-requires c κs = search needs
 returns : tie.Need-returns
 returns c = search none-size
 
-mul-cells : tie.Need-mul-cells
-mul-cells c = let s = sized-of 8 _ (sym (c .before .off-size .ensures) ∙ c .if1 .left) in omega arith
+-- the extents are within the limit, once the first test has passed
+sized : (c : tie.Else1) → let a = c .before .before .before .args in Sized 8 (triple (a .nx) (a .ny) (a .nz))
+sized c = sized-of 8 _ (sym (c .before .off-size .ensures) ∙ c .if1 .left)
 
-sub-cells : tie.Need-sub-cells
-sub-cells c = let s = sized-of 8 _ (sym (c .before .off-size .ensures) ∙ c .if1 .left) in omega arith
-
-mul-cells-2 : tie.Need-mul-cells-2
-mul-cells-2 c = let s = sized-of 8 _ (sym (c .before .off-size .ensures) ∙ c .if1 .left) in omega arith
-
-sub-cells-2 : tie.Need-sub-cells-2
-sub-cells-2 c = let s = sized-of 8 _ (sym (c .before .off-size .ensures) ∙ c .if1 .left) in omega arith
-
-mul-cells-3 : tie.Need-mul-cells-3
-mul-cells-3 c = let s = sized-of 8 _ (sym (c .before .off-size .ensures) ∙ c .if1 .left) in omega (arith, layer-high s)
-
-mul-cells-4 : tie.Need-mul-cells-4
-mul-cells-4 c = let s = sized-of 8 _ (sym (c .before .off-size .ensures) ∙ c .if1 .left) in omega arith
-
-sub-cells-3 : tie.Need-sub-cells-3
-sub-cells-3 c = let s = sized-of 8 _ (sym (c .before .off-size .ensures) ∙ c .if1 .left) in omega arith
-
-mul-cells-5 : tie.Need-mul-cells-5
-unfolding cells volume sides
-mul-cells-5 c = let s = sized-of 8 _ (sym (c .before .off-size .ensures) ∙ c .if1 .left) in omega (arith, cells-high s)
+grid-cells-requires : tie.Need-grid-cells-requires
+grid-cells-requires c κs = sized-within (omega arith) (sized c)
 
 returns-2 : tie.Need-returns-2
-unfolding cells volume sides
-returns-2 c = none-map _ _ _ _ (c .before .before .off-size .ensures) (c .before .if1 .left) (c .if2 .taken)
+returns-2 c =
+    let else1 = c .before .before in
+    none-map _ _ _ _ (else1 .before .off-size .ensures) (else1 .if1 .left) (λ h. c .if2 .taken (h ∙ sym (c .before .grid-cells .ensures)))
 
 returns-3 : tie.Need-returns-3
-unfolding cells volume sides
-returns-3 c = none-tray _ _ _ _ (c .before .before .before .off-size .ensures) (c .before .before .if1 .left) (c .before .if2 .left) (c .if3 .taken)
+returns-3 c =
+    let told = c .before .before in
+    let else1 = told .before in
+    none-tray _ _ _ _ (else1 .before .off-size .ensures) (else1 .if1 .left) (c .before .if2 .left ∙ told .grid-cells .ensures) (λ h. c .if3 .taken (h ∙ sym (told .grid-cells .ensures)))
 
 too-many-requires : tie.Need-too-many-requires
-unfolding cells volume sides
-too-many-requires c κs = record { sized = sized-of 8 _ (sym (c .before .before .before .off-size .ensures) ∙ c .before .before .if1 .left); whole = c .before .if2 .left; below = omega arith }
+too-many-requires c κs =
+    let told = c .before .before in
+    record { sized = sized (told .before); whole = c .before .if2 .left ∙ told .grid-cells .ensures; below = omega arith }
 
 returns-4 : tie.Need-returns-4
-unfolding cells volume sides
-returns-4 c = by-numbers _ _ _ _ (c .before .before .before .before .off-size .ensures) (c .before .before .before .if1 .left) (c .before .before .if2 .left) _ (c .before .if3 .left) (c .too-many .ensures)
+returns-4 c =
+    let else3 = c .before in
+    let told = else3 .before .before in
+    let else1 = told .before in
+    by-numbers _ _ _ _ (else1 .before .off-size .ensures) (else1 .if1 .left) (else3 .before .if2 .left ∙ told .grid-cells .ensures) _ (else3 .if3 .left ∙ told .grid-cells .ensures) (c .too-many .ensures)
 
 pub has-listing-spec : {M : Type 1} → statement M
 has-listing-spec =
@@ -63,14 +51,7 @@ has-listing-spec =
     (tie.spec
     off-size-requires
     returns
-    mul-cells
-    sub-cells
-    mul-cells-2
-    sub-cells-2
-    mul-cells-3
-    mul-cells-4
-    sub-cells-3
-    mul-cells-5
+    grid-cells-requires
     returns-2
     returns-3
     too-many-requires

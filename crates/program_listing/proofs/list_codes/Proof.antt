@@ -1,10 +1,10 @@
 -- `program_listing::list_codes` meets its contract.
+use Prim.Native.Nat.{_≤_}
 use native.Mathlib.Omega.{arith}
 use borrow.Author.Needs.{needs}
 use lib.ListN.{length-take}
 use Rattle.cells.specs.Box.{volume}
-use Rattle.cells.specs.Grid.{sides, cells}
-use Rattle.cells.proofs.ExtentLaws.{layer-high, cells-high, area-high, volume-high}
+use Rattle.cells.proofs.ExtentLaws.{cells-high, area-high, volume-high}
 use Rattle.program_listing.proofs.list_codes.Statement.{statement}
 use Rattle.program_listing.proofs.list_codes.Tie as tie
 
@@ -15,30 +15,12 @@ mul-n-2 : tie.Need-mul-n-2
 unfolding volume
 mul-n-2 c = omega (arith, volume-high (c .before .pre .0))
 
-mul-cells : tie.Need-mul-cells
-mul-cells c = search needs
+grid-cells-requires : tie.Need-grid-cells-requires
+grid-cells-requires c κs = search needs
 
-sub-cells : tie.Need-sub-cells
-sub-cells c = search needs
-
-mul-cells-2 : tie.Need-mul-cells-2
-mul-cells-2 c = search needs
-
-sub-cells-2 : tie.Need-sub-cells-2
-sub-cells-2 c = search needs
-
-mul-cells-3 : tie.Need-mul-cells-3
-mul-cells-3 c = omega (arith, layer-high (c .before .pre .0))
-
-mul-cells-4 : tie.Need-mul-cells-4
-mul-cells-4 c = search needs
-
-sub-cells-3 : tie.Need-sub-cells-3
-sub-cells-3 c = search needs
-
-mul-cells-5 : tie.Need-mul-cells-5
-unfolding cells volume sides
-mul-cells-5 c = omega (arith, cells-high (c .before .pre .0))
+-- a tray has room for the cells
+few : (c : tie.After-grid-cells) → c .grid-cells .result ≤ 3375
+few c = omega (arith, c .grid-cells .ensures, cells-high (c .before .before .pre .0))
 
 tray-requires : tie.Need-tray-requires
 tray-requires c κs = search needs
@@ -48,29 +30,23 @@ tray-requires-2 c κs = search needs
 
 slice-aggregate-list : tie.Need-slice-aggregate-list
 unfolding volume
-slice-aggregate-list c = simp length-take (omega (arith, volume-high (c .before .before .before .before .pre .0)))
+slice-aggregate-list c =
+    let back4 = c .before .before .before .before in
+    simp length-take (omega (arith, volume-high (back4 .before .pre .0)))
 
 array-borrow-prefix-map : tie.Need-array-borrow-prefix-map
-unfolding cells volume sides
-array-borrow-prefix-map c = omega (arith, cells-high (c .before .before .before .before .pre .0))
+array-borrow-prefix-map c = omega (arith, few (c .before .before .before))
 
 slice-aggregate-list-2 : tie.Need-slice-aggregate-list-2
-unfolding cells volume sides
-slice-aggregate-list-2 c =
-    let back4 = c .before .before .before .before in
-    simp length-take (omega (arith, cells-high (back4 .before .pre .0)))
+slice-aggregate-list-2 c = simp length-take (omega (arith, few (c .before .before .before .before)))
 
 array-borrow-prefix-work : tie.Need-array-borrow-prefix-work
-unfolding cells volume sides
-array-borrow-prefix-work c =
-    let back4 = c .before .before .before .before in
-    omega (arith, cells-high (back4 .before .pre .0))
+array-borrow-prefix-work c = omega (arith, few (c .before .before .before .before))
 
 slice-aggregate-list-3 : tie.Need-slice-aggregate-list-3
-unfolding cells volume sides
 slice-aggregate-list-3 c =
     let back4 = c .before .before .before .before in
-    simp length-take (omega (arith, cells-high (back4 .before .before .pre .0)))
+    simp length-take (omega (arith, few (back4 .before)))
 
 list-requires : tie.Need-list-requires
 list-requires c κs = search needs
@@ -84,14 +60,7 @@ list-codes-spec =
     (tie.spec
     mul-n
     mul-n-2
-    mul-cells
-    sub-cells
-    mul-cells-2
-    sub-cells-2
-    mul-cells-3
-    mul-cells-4
-    sub-cells-3
-    mul-cells-5
+    grid-cells-requires
     tray-requires
     tray-requires-2
     slice-aggregate-list

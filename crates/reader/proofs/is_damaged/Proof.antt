@@ -12,29 +12,29 @@ use Rattle.reader.proofs.is_damaged.Statement.{statement}
 use Rattle.reader.proofs.is_damaged.Tie as tie
 
 -- what the bits ask, once the length has room for them
-mapped : (c : tie.Else1) → Mapped (c .before .before .before .args .bytes .now) (c .before .cell-count .result)
+mapped : (c : tie.Else1) → Mapped (c .before .before .before .args .bytes .now) (c .before .grid-cells .result)
 unfolding bitmapLength
-mapped c = record { few = omega (arith, c .before .cell-count .ensures, cells-high (c .before .before .before .pre)); bits = omega arith }
+mapped c = record { few = omega (arith, c .before .grid-cells .ensures, cells-high (c .before .before .before .pre)); bits = omega arith }
 
-cell-count-requires : tie.Need-cell-count-requires
-cell-count-requires c κs = c .before .pre
+grid-cells-requires : tie.Need-grid-cells-requires
+grid-cells-requires c κs = search needs
 
 add-at : tie.Need-add-at
-add-at c = omega (arith, c .cell-count .ensures, cells-high (c .before .before .pre))
+add-at c = omega (arith, c .grid-cells .ensures, cells-high (c .before .before .pre))
 
 add-at-2 : tie.Need-add-at-2
 add-at-2 c = search needs
 
 returns : tie.Need-returns
 unfolding bitmapLength
-returns c = damaged-length _ _ (c .before .cell-count .ensures) refl (λ e. omega arith)
+returns c = damaged-length _ _ (c .before .grid-cells .ensures) refl (λ e. omega arith)
 
 count-bits-requires : tie.Need-count-bits-requires
 count-bits-requires c κs = mapped c
 
 few-stand : (c : tie.After-count-bits) → c .count-bits .result ≤ 2048383
 few-stand c =
-    omega (arith, c .count-bits .ensures, bits-bound (c .before .before .before .before .args .bytes .now) (c .before .before .cell-count .result), mapped (c .before) .few)
+    omega (arith, c .count-bits .ensures, bits-bound (c .before .before .before .before .args .bytes .now) (c .before .before .grid-cells .result), mapped (c .before) .few)
 
 mul-if2 : tie.Need-mul-if2
 mul-if2 c = omega (arith, few-stand c)
@@ -44,7 +44,7 @@ add-if2 c = omega (arith, few-stand c)
 
 returns-2 : tie.Need-returns-2
 unfolding bitmapLength
-returns-2 c = damaged-length _ _ (c .before .before .before .cell-count .ensures) (c .before .count-bits .ensures) (c .if2 .taken)
+returns-2 c = damaged-length _ _ (c .before .before .before .grid-cells .ensures) (c .before .count-bits .ensures) (c .if2 .taken)
 
 spare-set-requires : tie.Need-spare-set-requires
 spare-set-requires c κs = mapped (c .before .before)
@@ -53,18 +53,18 @@ returns-3 : tie.Need-returns-3
 unfolding bitmapLength
 returns-3 c =
     let back4 = c .before .before .before .before in
-    or-here _ _ _ (c .before .spare-set .ensures) (c .if3 .taken) ∙ sym (damaged-rest _ _ (back4 .before .cell-count .ensures) (c .before .before .before .count-bits .ensures) (c .before .before .if2 .left))
+    or-here _ _ _ (c .before .spare-set .ensures) (c .if3 .taken) ∙ sym (damaged-rest _ _ (back4 .before .grid-cells .ensures) (c .before .before .before .count-bits .ensures) (c .before .before .if2 .left))
 
 voxel-clear-requires : tie.Need-voxel-clear-requires
 voxel-clear-requires c κs =
     let back4 = c .before .before .before .before in
-    (back4 .before .before .before .pre, rw (back4 .before .cell-count .ensures) at (mapped (c .before .before .before .before)))
+    (back4 .before .before .before .pre, rw (back4 .before .grid-cells .ensures) at (mapped (c .before .before .before .before)))
 
 returns-4 : tie.Need-returns-4
 unfolding bitmapLength
 returns-4 c =
     let back4 = c .before .before .before .before in
-    or-next _ _ _ (c .before .before .before .spare-set .ensures) (c .before .before .if3 .left) (or-here _ _ _ (c .before .voxel-clear .ensures) (c .if4 .taken)) ∙ sym (damaged-rest _ _ (back4 .before .before .before .cell-count .ensures) (back4 .before .count-bits .ensures) (c .before .before .before .before .if2 .left))
+    or-next _ _ _ (c .before .before .before .spare-set .ensures) (c .before .before .if3 .left) (or-here _ _ _ (c .before .voxel-clear .ensures) (c .if4 .taken)) ∙ sym (damaged-rest _ _ (back4 .before .before .before .grid-cells .ensures) (back4 .before .count-bits .ensures) (c .before .before .before .before .if2 .left))
 
 zero-listed-requires : tie.Need-zero-listed-requires
 zero-listed-requires c κs = omega arith
@@ -73,13 +73,13 @@ returns-5 : tie.Need-returns-5
 unfolding bitmapLength
 returns-5 c =
     let back4 = c .before .before .before .before in
-    or-next _ _ _ (c .before .before .before .before .spare-set .ensures) (c .before .before .before .if3 .left) (or-next _ _ _ (c .before .before .voxel-clear .ensures) (c .before .if4 .left) (c .zero-listed .ensures)) ∙ sym (damaged-rest _ _ (back4 .before .before .before .before .cell-count .ensures) (back4 .before .before .count-bits .ensures) (back4 .before .if2 .left))
+    or-next _ _ _ (c .before .before .before .before .spare-set .ensures) (c .before .before .before .if3 .left) (or-next _ _ _ (c .before .before .voxel-clear .ensures) (c .before .if4 .left) (c .zero-listed .ensures)) ∙ sym (damaged-rest _ _ (back4 .before .before .before .before .grid-cells .ensures) (back4 .before .before .count-bits .ensures) (back4 .before .if2 .left))
 
 pub is-damaged-spec : {M : Type 1} → statement M
 is-damaged-spec =
     tie.close
     (tie.spec
-    cell-count-requires
+    grid-cells-requires
     add-at
     add-at-2
     returns

@@ -1,11 +1,12 @@
 -- `reader::refusal` meets its contract.
 use mathlib.Core.Path.{_≡_, _∙_, sym}
 use mathlib.Core.Bool.{false, cond}
+use native.Mathlib.Omega.{arith}
 use borrow.Author.Needs.{needs}
 use Rattle.cells.specs.Box.{triple}
 use Rattle.cells.specs.Extents.{offPlace}
 use Rattle.reader.specs.Loaded.{refusalOf}
-use Rattle.extents.proofs.SizeLaws.{sized-at}
+use Rattle.extents.proofs.SizeLaws.{sized-at, sized-within}
 use Rattle.reader.proofs.LoadedLaws.{refusal-short, refusal-size, refusal-tray, refusal-last}
 use Rattle.reader.proofs.refusal.Statement.{statement}
 use Rattle.reader.proofs.refusal.Tie as tie
@@ -35,13 +36,13 @@ cast-ny c = search needs
 cast-nz : tie.Need-cast-nz
 cast-nz c = search needs
 
-cell-count-requires : tie.Need-cell-count-requires
-cell-count-requires c κs = sized-at _ _ (placed (c .before .before .before))
+grid-cells-requires : tie.Need-grid-cells-requires
+grid-cells-requires c κs = sized-within (omega arith) (sized-at _ _ (placed (c .before .before .before)))
 
 returns-3 : tie.Need-returns-3
 returns-3 c =
     let back4 = c .before .before .before .before in
-    refusal-tray _ _ (back4 .before .before .before .before .if1 .left) (back4 .before .before .before .head-of .ensures) (placed (back4 .before)) (λ e. c .if3 .taken (e ∙ sym (c .before .cell-count .ensures)))
+    refusal-tray _ _ (back4 .before .before .before .before .if1 .left) (back4 .before .before .before .head-of .ensures) (placed (back4 .before)) (λ e. c .if3 .taken (e ∙ sym (c .before .grid-cells .ensures)))
 
 is-damaged-requires : tie.Need-is-damaged-requires
 is-damaged-requires c κs =
@@ -54,7 +55,7 @@ last-refusal c =
     let back4 = c .before .before .before .before in
     let back8 = back4 .before .before .before .before in
     refusal-last _ _ (back8 .before .if1 .left) (back4 .before .before .before .before .head-of .ensures) (placed (back4 .before .before))
-    (c .before .if3 .left ∙ c .before .before .cell-count .ensures)
+    (c .before .if3 .left ∙ c .before .before .grid-cells .ensures)
     ∙ rw (c .is-damaged .ensures)
 
 returns-4 : tie.Need-returns-4
@@ -74,7 +75,7 @@ refusal-spec =
     cast-nx
     cast-ny
     cast-nz
-    cell-count-requires
+    grid-cells-requires
     returns-3
     is-damaged-requires
     returns-4

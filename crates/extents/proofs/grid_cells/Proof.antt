@@ -1,12 +1,12 @@
--- `extents::cell_count` meets its contract.
+-- `extents::grid_cells` meets its contract.
 use mathlib.Core.Path.{refl}
 use native.Mathlib.Omega.{arith}
 use borrow.Author.Needs.{needs}
 use Rattle.cells.specs.Box.{triple, volume}
 use Rattle.cells.specs.Grid.{cells, sides}
 use Rattle.cells.proofs.ExtentLaws.{cells-are, layer-high, cells-high}
-use Rattle.extents.proofs.cell_count.Statement.{statement}
-use Rattle.extents.proofs.cell_count.Tie as tie
+use Rattle.extents.proofs.grid_cells.Statement.{statement}
+use Rattle.extents.proofs.grid_cells.Tie as tie
 
 mul-w : tie.Need-mul-w
 mul-w c = search needs
@@ -36,6 +36,6 @@ returns : tie.Need-returns
 unfolding cells volume sides
 returns c = refl
 
-pub cell-count-spec : {M : Type 1} → statement M
-cell-count-spec =
+pub grid-cells-spec : {M : Type 1} → statement M
+grid-cells-spec =
     tie.close (tie.spec mul-w sub-w mul-h sub-h mul-d sub-d mul-result mul-result-2 returns)
