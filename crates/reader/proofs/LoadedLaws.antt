@@ -14,7 +14,8 @@ use lib.Seq.{take-all, take-suc-set}
 use borrow.Author.Tests.{eqb-true, eq-eqb, ne-eqb, leb-true, le-leb, lt-leb, not-false}
 use Rattle.lists.proofs.Cases.{neither}
 use Rattle.lists.specs.Lists.{consecutive, tabulate, someOf}
-use Rattle.lists.proofs.Lists.{tabulate-snoc}
+use Rattle.lists.proofs.Lists.{consecutive-left, tabulate-snoc}
+use Rattle.lists.proofs.Tests.{some-here, some-next}
 use Rattle.closure.specs.Numbered.{countBelow}
 use Rattle.refusals.specs.Refusals.{off-size, wrong-tray, bad-record, number, table, first, givenBy, listedNumbers, standsIn}
 use Rattle.refusals.proofs.RefusalLaws.{given-none}
@@ -41,10 +42,30 @@ or-here t b d e h = rw (sym e ∙ h)
 pub or-next : (t b d : Bool) {r : Bool} → t ≡ b → t ≡ false → r ≡ d → r ≡ (b || d)
 or-next t b d e h q = rw (sym e ∙ h) q
 
--- Nothing is left past the last number.
-pub none-left : (i n : ℕ) → n ≤ i → consecutive i (n - i) ≡ []
-unfolding consecutive
-none-left i n h = let e : n - i ≡ 0 = omega arith in rw e
+-- ---- a loop that asks whether f is v at one of the places up to n
+
+abbrev pub some-equal : (ℕ → ℕ) → ℕ → List ℕ → Bool
+some-equal f v ps = someOf (λ p. eqb (f p) v) ps
+
+-- b is the answer, and the places from i on give it.
+pub record PlacesAsked (f : ℕ → ℕ) (v n : ℕ) (b : Bool) (i : ℕ) : Type 0 where
+  pub rest : b ≡ some-equal f v (consecutive i (n - i))
+
+-- At the first of k places, at one with v, at another, and past the last.
+module _ {f : ℕ → ℕ} {v n : ℕ} where
+  pub places-asked-first : {i k : ℕ} → k ≡ n - i → PlacesAsked f v n (some-equal f v (consecutive i k)) i
+  places-asked-first e = record { rest = rw e }
+
+  module _ {b : Bool} {i : ℕ} (A : PlacesAsked f v n b i) where
+    pub places-asked-found : {x : ℕ} → i < n → x ≡ f i → x ≡ v → true ≡ b
+    places-asked-found h u z = some-here _ (A .rest) (consecutive-left i n h) (eq-eqb _ _ (sym u ∙ z))
+
+    pub places-asked-next : {x : ℕ} → i < n → x ≡ f i → x ≢ v → PlacesAsked f v n b (i + 1)
+    places-asked-next h u z = record { rest = rw (add-one i) (some-next _ (A .rest) (consecutive-left i n h) (ne-eqb _ _ (λ e. z (u ∙ e)))) }
+
+    pub places-asked-last : n ≤ i → false ≡ b
+    unfolding consecutive
+    places-asked-last h = let e : n - i ≡ 0 = omega arith in sym (A .rest ∙ rw e)
 
 -- ---- one cell
 

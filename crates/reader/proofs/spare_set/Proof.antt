@@ -1,22 +1,16 @@
 -- `reader::spare_set` meets its contract. The loop's invariant: the bits from c on answer for all of them.
-use Prim.Native.Nat.{_-_, _≤_}
-use mathlib.Core.Path.{_≡_, refl, _∙_, sym}
+use Prim.Native.Nat.{_-_}
+use mathlib.Core.Path.{refl}
 use native.Mathlib.Omega.{arith}
-use native.Mathlib.Numerals.{add-one}
-use lib.Dec.{eqb}
 use borrow.Author.Needs.{needs}
-use borrow.Author.Tests.{eq-eqb, ne-eqb}
-use Rattle.lists.specs.Lists.{consecutive, someOf}
-use Rattle.lists.proofs.Lists.{consecutive-left}
-use Rattle.lists.proofs.Tests.{some-here, some-next, some-end}
+use Rattle.lists.specs.Lists.{consecutive}
 use Rattle.records.specs.Record.{bitAt, bitmapLength}
-use Rattle.reader.proofs.LoadedLaws.{none-left}
+use Rattle.reader.proofs.LoadedLaws.{some-equal, PlacesAsked, places-asked-first, places-asked-found, places-asked-next, places-asked-last}
 use Rattle.reader.proofs.spare_set.Statement.{statement}
 use Rattle.reader.proofs.spare_set.Tie as tie
 
 abbrev Inv-loop : tie.InvT-loop
-Inv-loop bytes n end c₀ c =
-    (c ≤ end) × (someOf (λ d. eqb (bitAt bytes d) 1) (consecutive n (end - n)) ≡ someOf (λ d. eqb (bitAt bytes d) 1) (consecutive c (end - c)))
+Inv-loop bytes n end c₀ c = PlacesAsked (bitAt bytes) 1 end (some-equal (bitAt bytes) 1 (consecutive n (end - n))) c
 
 abbrev μ-loop : tie.MeasureT-loop
 μ-loop bytes n end c₀ c = end - c
@@ -28,7 +22,7 @@ mul-end : tie.Need-mul-end Inv-loop μ-loop
 mul-end c = search needs
 
 loop-holds : tie.Need-loop-holds Inv-loop μ-loop
-loop-holds c = (omega arith, refl)
+loop-holds c = places-asked-first refl
 
 bit-at-requires : tie.Need-bit-at-requires Inv-loop μ-loop
 unfolding bitmapLength
@@ -36,8 +30,7 @@ bit-at-requires c κs = let m = c .before .before .before .pre in omega (arith, 
 
 returns : tie.Need-returns Inv-loop μ-loop
 unfolding bitmapLength
-returns c =
-    some-here _ (c .before .before .before .loop .inv .1) (consecutive-left _ _ (c .before .before .loop-test .taken)) (eq-eqb _ _ (sym (c .before .bit-at .ensures) ∙ c .if1 .taken))
+returns c = search places-asked-found
 
 add-c : tie.Need-add-c Inv-loop μ-loop
 add-c c = search needs
@@ -46,13 +39,11 @@ loop-less : tie.Need-loop-less Inv-loop μ-loop
 loop-less c = search needs
 
 loop-again : tie.Need-loop-again Inv-loop μ-loop
-loop-again c =
-    let l = c .before .before .before .loop in
-    (omega arith, rw (add-one (l .c)) (some-next _ (l .inv .1) (consecutive-left _ _ (c .before .before .loop-test .taken)) (ne-eqb _ _ (λ e. c .if1 .left (c .before .bit-at .ensures ∙ e)))))
+loop-again c = search places-asked-next
 
 returns-2 : tie.Need-returns-2 Inv-loop μ-loop
 unfolding bitmapLength
-returns-2 c = some-end _ (c .before .loop .inv .1) (none-left _ _ (omega arith))
+returns-2 c = search places-asked-last
 
 pub spare-set-spec : {M : Type 1} → statement M
 spare-set-spec =
