@@ -14,7 +14,6 @@ use Rattle.lists.specs.Lists.{overlay}
 use Rattle.lists.proofs.Cases.{by-test, and-both}
 use Rattle.lists.proofs.Overlay.{overlay-same}
 use Rattle.cells.specs.Box.{Triple, Axis, X, Y, Z, coord, each, index, place}
-use Rattle.cells.specs.Extents.{Sized}
 use Rattle.cells.specs.Grid.{sides, cells, parity, order}
 use Rattle.cells.specs.Row.{rowOf, row}
 use Rattle.cells.proofs.BoxLaws.{Inside, same-triple, index-place, place-index, index-inside}
@@ -128,9 +127,6 @@ row-none v r m p z = rw (eq-eqb p 0 z)
 pub row-some : (v : Triple) (r : Block) (m : List ℕ) (p q : ℕ) (x : List ℕ) → p ≢ 0 → q ≡ localIn r (place (sides v) p) → x ≡ row (sizeOf r) m q → x ≡ rowFor v r m p
 unfolding rowFor
 row-some v r m p q x z e i = rw (ne-eqb p 0 z, ← e) i
-
-pub row-sized : (e : Triple) → Sized 64 e → Sized 1024 e
-row-sized e s = record { x-low = s .x-low; y-low = s .y-low; z-low = s .z-low; x-high = omega (arith, s .x-high); y-high = omega (arith, s .y-high); z-high = omega (arith, s .z-high) }
 
 module _ {v : Triple} {r : Block} (L : Lies v r) (m : List ℕ) (j n : ℕ) (below : j ≤ 2) where
   abbrev numbered : List ℕ

@@ -13,7 +13,7 @@ use Rattle.cells.specs.Box.{Triple, volume}
 use Rattle.cells.specs.Codes.{blank}
 use Rattle.cells.specs.Extents.{Sized}
 use Rattle.cells.specs.Grid.{cells}
-use Rattle.extents.proofs.SizeLaws.{sized-of, size-fits}
+use Rattle.extents.proofs.SizeLaws.{sized-of, sized-within}
 use Rattle.labels.specs.Number.{labels}
 use Rattle.text.specs.Request.{textRefusal, askedExtents, askedCodes}
 use Rattle.text.specs.Listing.{refusedLine, printed}
@@ -33,7 +33,7 @@ labelled : (e : Triple) (codes m w : List ℕ) → Sized 8 e → length codes �
     → labeller.labelling e codes m w ≡ labeller.accepted e codes
 unfolding labeller.labelling
 labelled e codes m w s k b i j =
-    let ready : labeller.Ready e (length codes) (length m) (length w) = record { sized = sized-of 64 e (size-fits 8 64 e (omega arith) s); codes-are = k; map-is = i; work-is = j } in
+    let ready : labeller.Ready e (length codes) (length m) (length w) = record { sized = sized-within (omega arith) s; codes-are = k; map-is = i; work-is = j } in
     let z : labeller.refusalOf e codes (length m) (length w) ≡ 0 = ready-accepted e codes (length m) (length w) ready b in
     rw z
 
