@@ -14,6 +14,7 @@ use Rattle.joiner.specs.Declines.{refusal, declines, stray, mapStands, waysStan
 use Rattle.joiner.specs.Outcomes.{CallStep, Done, Ticked, EnrolDone, SeamDone, CrossingDone, PointDone, KeptFound, NumberedKind, Merged, AtSeam, AtCrossing, blockEntry, throughLinks, joinedRow, notAfter, classOf, isOne, leads, heads, rank, headOf, rowAt, finalFace, rowFinal, cellNumber, lookedUp, rowTaken}
 use Rattle.joiner.proofs.Roots.{together-map}
 use Rattle.joiner.proofs.Kept.{found-kept, numbers-kept}
+use Rattle.joiner.proofs.Later.{move-cross, move-seam}
 use Rattle.theory_frames.specs.Frames.{around}
 
 -- ---- what is refused
@@ -55,26 +56,12 @@ module _ (e o : Tables) (s : State) where
   seam-same : (b c : ℕ) (m n : List ℕ) (κ : Kind) (x y : ℕ) → AtSeam (s .job .told .cutting) (around (join b c m n) e s .tables) κ b c m n x y
       → AtSeam (s .job .told .cutting) (around (join b c m n) o s .tables) κ b c m n x y
   unfolding node fromOf
-  seam-same b c m n κ x y A =
-      record { cell = A .cell; both = A .both; level = A .level; one = A .one; two = A .two; x-is = A .x-is; y-is = A .y-is }
+  seam-same b c m n κ x y = move-seam _ _ (λ d i. refl)
 
   crossing-same : (b : ℕ) (m : List ℕ) (x y : ℕ) → AtCrossing (s .job .told .cutting) (around (cross b m) e s .tables) b m x y
       → AtCrossing (s .job .told .cutting) (around (cross b m) o s .tables) b m x y
   unfolding node fromOf joinedRow throughLinks
-  crossing-same b m x y A =
-      record {
-        at = A .at;
-        p = A .p;
-        q = A .q;
-        cell = A .cell;
-        up-p = A .up-p;
-        up-q = A .up-q;
-        one = A .one;
-        two = A .two;
-        rows = A .rows;
-        x-is = A .x-is;
-        y-is = A .y-is;
-      }
+  crossing-same b m x y = move-cross _ _ (λ d i. refl) (λ p h i. refl)
 
 merged-same : (before after : List ℕ) (R S : ℕ → ℕ → Type 0) → ((x y : ℕ) → R x y → S x y) → ((x y : ℕ) → S x y → R x y) → Merged before after R → Merged before after S
 merged-same before after R S f g M = record {
