@@ -26,21 +26,6 @@ use Rattle.theory_model.proofs.Merging.{joins-merged-by}
 use Rattle.pass_cross.specs.CrossEdges.{placeOf, readThrough, numbersThrough, rowThrough, edgeIf, crossPair, crossAt, crossEdges}
 use Rattle.pass_cross.proofs.FlatLaws.{flat-in, flat-out}
 
--- x and y are the places of two cells of order j that meet at a cell of the order below: both active, and with equal rows, read through
--- the order above.
-pub record Crossing (e : Triple) (m : List ℕ) (j : ℕ) (f : ℕ → ℕ) (start from x y : ℕ) : Type 0 where
-  pub at : ℕ
-  pub p : ℕ
-  pub q : ℕ
-  pub cell : List·Memᴰ at (ofOrder e (j - 1))
-  pub up-p : List·Memᴰ p (upperNeighbours e at)
-  pub up-q : List·Memᴰ q (upperNeighbours e at)
-  pub one : getD m p 0 ≢ 0
-  pub two : getD m q 0 ≢ 0
-  pub rows : rowThrough m f start (upperNeighbours e p) ≡ rowThrough m f start (upperNeighbours e q)
-  pub x-is : x ≡ placeOf from (getD m p 0)
-  pub y-is : y ≡ placeOf from (getD m q 0)
-
 -- ---- two numbers
 
 if-in : (from x y : ℕ) (r s : List ℕ) → x ≢ 0 → y ≢ 0 → r ≡ s → List·Memᴰ (edge (placeOf from x) (placeOf from y)) (edgeIf from x y r s)
@@ -78,7 +63,7 @@ module _ (e : Triple) (m : List ℕ) (j : ℕ) (f : ℕ → ℕ) (start from : �
       flat-in (crossAt e m f start from) (ofOrder e (j - 1)) c (flat-in (crossPair e m f start from) (pairs (upperNeighbours e t)) i (if-in from (getD m p 0) (getD m q 0) _ _ h k r))
 
   -- What crosses is joined.
-  pub crossing-joined : (g : ℕ → ℕ) (t p q : ℕ) → List·Memᴰ t (ofOrder e (j - 1)) → List·Memᴰ p (upperNeighbours e t) → List·Memᴰ q (upperNeighbours e t) → getD m p 0 ≢ 0 → getD m q 0 ≢ 0
+  crossing-joined : (g : ℕ → ℕ) (t p q : ℕ) → List·Memᴰ t (ofOrder e (j - 1)) → List·Memᴰ p (upperNeighbours e t) → List·Memᴰ q (upperNeighbours e t) → getD m p 0 ≢ 0 → getD m q 0 ≢ 0
       → rowThrough m f start (upperNeighbours e p) ≡ rowThrough m f start (upperNeighbours e q)
       → joins g (crossEdges e m j f start from) (placeOf from (getD m p 0)) ≡ joins g (crossEdges e m j f start from) (placeOf from (getD m q 0))
   crossing-joined g t p q c u v h k r = go (pairs-in (upperNeighbours e t) u v)
@@ -91,29 +76,6 @@ module _ (e : Triple) (m : List ℕ) (j : ℕ) (f : ℕ → ℕ) (start from : �
       go (inr (inl i)) = joins-edge es g (edge-in t p q c i h k r)
       go (inr (inr i)) = sym (joins-edge es g (edge-in t q p c i k h (sym r)))
 
-  -- Every edge is between what crosses.
-  pub edge-crossing : (d : Edge) → List·Memᴰ d (crossEdges e m j f start from) → Crossing e m j f start from (d .from) (d .to)
-  unfolding crossEdges crossAt crossPair
-  edge-crossing d i =
-      let s = flat-out (crossAt e m f start from) (ofOrder e (j - 1)) i in
-      let u = flat-out (crossPair e m f start from) (pairs (upperNeighbours e (s .0))) (s .2) in
-      let b : Edge = u .0 in
-      let w = pairs-out (upperNeighbours e (s .0)) {p = b .from} {q = b .to} (u .1) in
-      let z = if-out from (getD m (b .from) 0) (getD m (b .to) 0) _ _ d (u .2) in
-      record {
-        at = s .0;
-        p = b .from;
-        q = b .to;
-        cell = s .1;
-        up-p = w .0;
-        up-q = w .1;
-        one = z .one;
-        two = z .two;
-        rows = z .rows;
-        x-is = ap (λ (c : Edge). c .from) (z .is);
-        y-is = ap (λ (c : Edge). c .to) (z .is);
-      }
-
 -- ---- curves, at the point cells of a block
 
 module _ (k : Cutting) (t : Tables) (b : ℕ) (m : List ℕ) where
@@ -125,22 +87,28 @@ module _ (k : Cutting) (t : Tables) (b : ℕ) (m : List ℕ) where
   curves-joined g x y c =
       rw (c .x-is, c .y-is) (crossing-joined (blockExtents k b) m 1 (root (t .links Face)) (fromOf t Face b) (fromOf t Curve b) g (c .at) (c .p) (c .q) (c .cell) (c .up-p) (c .up-q) (c .one) (c .two) (c .rows))
 
+  -- Every edge is between what crosses.
   curve-edge : (d : Edge) → List·Memᴰ d curves → AtCrossing k t b m (d .from) (d .to)
-  unfolding joinedRow throughLinks node rowThrough numbersThrough readThrough placeOf
+  unfolding crossEdges crossAt crossPair joinedRow throughLinks node rowThrough numbersThrough readThrough placeOf
   curve-edge d i =
-      let c = edge-crossing (blockExtents k b) m 1 (root (t .links Face)) (fromOf t Face b) (fromOf t Curve b) d i in
+      let e = blockExtents k b in
+      let s = flat-out (crossAt e m (root (t .links Face)) (fromOf t Face b) (fromOf t Curve b)) (ofOrder e 0) i in
+      let u = flat-out (crossPair e m (root (t .links Face)) (fromOf t Face b) (fromOf t Curve b)) (pairs (upperNeighbours e (s .0))) (s .2) in
+      let c : Edge = u .0 in
+      let w = pairs-out (upperNeighbours e (s .0)) {p = c .from} {q = c .to} (u .1) in
+      let z = if-out (fromOf t Curve b) (getD m (c .from) 0) (getD m (c .to) 0) _ _ d (u .2) in
       record {
-        at = c .at;
-        p = c .p;
-        q = c .q;
-        cell = c .cell;
-        up-p = c .up-p;
-        up-q = c .up-q;
-        one = c .one;
-        two = c .two;
-        rows = c .rows;
-        x-is = c .x-is;
-        y-is = c .y-is;
+        at = s .0;
+        p = c .from;
+        q = c .to;
+        cell = s .1;
+        up-p = w .0;
+        up-q = w .1;
+        one = z .one;
+        two = z .two;
+        rows = z .rows;
+        x-is = ap (λ (v : Edge). v .from) (z .is);
+        y-is = ap (λ (v : Edge). v .to) (z .is);
       }
 
 -- With the edges at its point cells joined, a block's curves are crossed.
