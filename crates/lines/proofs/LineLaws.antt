@@ -60,30 +60,19 @@ evened Z X k = k
 evened Z Y k = k
 evened Z Z k = 0
 
--- one step along an odd axis makes that axis even, and leaves the others
-raised-odd : (a b : Axis) (c : Triple) → 0 < coord c a % 2 → coord (raised a c) b % 2 ≡ evened a b (coord c b % 2)
-unfolding raised evened
-raised-odd X X c o = omega arith
-raised-odd X Y c o = refl
-raised-odd X Z c o = refl
-raised-odd Y X c o = refl
-raised-odd Y Y c o = omega arith
-raised-odd Y Z c o = refl
-raised-odd Z X c o = refl
-raised-odd Z Y c o = refl
-raised-odd Z Z c o = omega arith
-
-lowered-odd : (a b : Axis) (c : Triple) → 0 < coord c a % 2 → coord (lowered a c) b % 2 ≡ evened a b (coord c b % 2)
-unfolding lowered evened
-lowered-odd X X c o = omega arith
-lowered-odd X Y c o = refl
-lowered-odd X Z c o = refl
-lowered-odd Y X c o = refl
-lowered-odd Y Y c o = omega arith
-lowered-odd Y Z c o = refl
-lowered-odd Z X c o = refl
-lowered-odd Z Y c o = refl
-lowered-odd Z Z c o = omega arith
+-- one step up or down along an odd axis makes that axis even, and leaves the others
+stepped-odd : (a b : Axis) (c : Triple) → 0 < coord c a % 2
+    → (coord (raised a c) b % 2 ≡ evened a b (coord c b % 2)) × (coord (lowered a c) b % 2 ≡ evened a b (coord c b % 2))
+unfolding raised lowered evened
+stepped-odd X X c o = omega arith
+stepped-odd X Y c o = (refl, refl)
+stepped-odd X Z c o = (refl, refl)
+stepped-odd Y X c o = (refl, refl)
+stepped-odd Y Y c o = omega arith
+stepped-odd Y Z c o = (refl, refl)
+stepped-odd Z X c o = (refl, refl)
+stepped-odd Z Y c o = (refl, refl)
+stepped-odd Z Z c o = omega arith
 
 -- The cells one stride down and up from p lie in the grid, and ss are the strides of their odd axes.
 pub record Flank (e : Triple) (p s : ℕ) (ss : List ℕ) : Type 0 where
@@ -114,7 +103,7 @@ module _ (e : Triple) where
         let s = sides e in
         let c = place s p in
         let at : index s (lowered a c) ≡ p - stride s a = index-lowered s c a (low-side e p a o) ∙ ap (λ (n : ℕ). n - stride s a) (index-place s p) in
-        ap (λ (n : ℕ). parity e n b) (sym at) ∙ odd-at e (lowered a c) (lowered-inside s c a (inside e p h)) b ∙ lowered-odd a b c o
+        ap (λ (n : ℕ). parity e n b) (sym at) ∙ odd-at e (lowered a c) (lowered-inside s c a (inside e p h)) b ∙ stepped-odd a b c o .1
 
     odd-above : (b : Axis) → parity e (p + stride (sides e) a) b ≡ evened a b (parity e p b)
     unfolding parity
@@ -122,7 +111,7 @@ module _ (e : Triple) where
         let s = sides e in
         let c = place s p in
         let at : index s (raised a c) ≡ p + stride s a = index-raised s c a ∙ ap (λ (n : ℕ). n + stride s a) (index-place s p) in
-        ap (λ (n : ℕ). parity e n b) (sym at) ∙ odd-at e (raised a c) (raised-inside s c a (inside e p h) (high-side e p a h o)) b ∙ raised-odd a b c o
+        ap (λ (n : ℕ). parity e n b) (sym at) ∙ odd-at e (raised a c) (raised-inside s c a (inside e p h) (high-side e p a h o)) b ∙ stepped-odd a b c o .0
 
     flank : (kx ky kz : ℕ) → parity e p X ≡ kx → parity e p Y ≡ ky → parity e p Z ≡ kz → Flank e p (stride (sides e) a) (listed (evened a X kx) (evened a Y ky) (evened a Z kz) 1 w wh)
     flank kx ky kz x y z = record {
@@ -377,11 +366,12 @@ pub record Reads (m : List ℕ) (p s : ℕ) : Type 0 where
 pub reads : (e : Triple) (m : List ℕ) (p : ℕ) → length m ≡ cells e → p < cells e → (pre : List ℕ) (s : ℕ) (post : List ℕ) → odds e p ≡ pre ++ s ∷ post → Reads m p s
 reads e m p k h pre s post o = let f = flank-at e p h pre s post o in record { low = f .low; here = omega arith; high = omega (arith, f .high) }
 
--- .. for any of the strides, in a list with n places, one for each cell.
+-- A list, split at one of its members.
 odd-split : {s : ℕ} {ss : List ℕ} → List·Memᴰ s ss → (pre : List ℕ) × (post : List ℕ) × (ss ≡ pre ++ s ∷ post)
 odd-split (List·Memᴰ·head {x} {xs} i) = ([], xs, ap (λ (n : ℕ). n ∷ xs) (sym i))
 odd-split (List·Memᴰ·tail {x} m) = let r = odd-split m in (x ∷ r .0, r .1, ap {B = List ℕ} (λ ns. x ∷ ns) (r .2))
 
+-- .. for any of the strides, in a list with n places, one for each cell.
 module _ (e : Triple) {p s : ℕ} {ss : List ℕ} (h : p < cells e) (o : odds e p ≡ ss) (m : List·Memᴰ s ss) where
   pub below-read : s ≤ p
   below-read = let r = odd-split m in flank-at e p h (r .0) s (r .1) (o ∙ r .2) .low

@@ -136,32 +136,32 @@ module _ (f : ℕ → Bool) (e : Triple) where
 
 -- ---- a loop that asks whether f is 0 at a voxel
 
-abbrev is-voxel : Triple → ℕ → Bool
-is-voxel e p = eqb (order e p) 3
+abbrev isVoxel : Triple → ℕ → Bool
+isVoxel e p = eqb (order e p) 3
 
-abbrev pub voxels-on : Triple → ℕ → List ℕ
-voxels-on e l = keep (is-voxel e) (consecutive (l * sides e .x) (sides e .x))
+abbrev pub voxelsOn : Triple → ℕ → List ℕ
+voxelsOn e l = keep (isVoxel e) (consecutive (l * sides e .x) (sides e .x))
 
-abbrev pub some-zero : (ℕ → ℕ) → List ℕ → Bool
-some-zero f ps = someOf (λ p. eqb (f p) 0) ps
+abbrev pub someZero : (ℕ → ℕ) → List ℕ → Bool
+someZero f ps = someOf (λ p. eqb (f p) 0) ps
 
-voxel-tests : (e : Triple) (l : ℕ) → Tests (is-voxel e) (l * sides e .x) (sides e .x) 0 (lineY e l + lineZ e l)
+voxel-tests : (e : Triple) (l : ℕ) → Tests (isVoxel e) (l * sides e .x) (sides e .x) 0 (lineY e l + lineZ e l)
 voxel-tests e l = order-tests e 3 l (omega arith)
 
 -- b is the answer for a line, and its voxels from x on give it.
 pub record CellsAsked (f : ℕ → ℕ) (e : Triple) (l : ℕ) (r : Line) (b : Bool) (x : ℕ) : Type 0 where
   pub told : LineAt e 0 l r
   pub walking : Walking e 0 l x
-  pub rest : b ≡ some-zero f (ahead (is-voxel e) r x)
+  pub rest : b ≡ someZero f (ahead (isVoxel e) r x)
 
 -- b is the answer for the grid, and the voxels from line l on give it.
 pub record LinesAsked (f : ℕ → ℕ) (e : Triple) (b : Bool) (l : ℕ) : Type 0 where
-  pub rest : b ≡ some-zero f (onwards (is-voxel e) e l)
+  pub rest : b ≡ someZero f (onwards (isVoxel e) e l)
 
 -- At the first voxel, at one with 0, at another, and past the last.
 module _ {f : ℕ → ℕ} {e : Triple} {l : ℕ} {r : Line} where
-  pub cells-asked-first : LineAt e 0 l r → CellsAsked f e l r (some-zero f (voxels-on e l)) (r .start)
-  cells-asked-first L = record { told = L; walking = walk-first L; rest = ap (some-zero f) (cells-first L (voxel-tests e l)) }
+  pub cells-asked-first : LineAt e 0 l r → CellsAsked f e l r (someZero f (voxelsOn e l)) (r .start)
+  cells-asked-first L = record { told = L; walking = walk-first L; rest = ap (someZero f) (cells-first L (voxel-tests e l)) }
 
   module _ {b : Bool} {x : ℕ} (A : CellsAsked f e l r b x) where
     pub cells-asked-found : {v : ℕ} → x < r .width → v ≡ f (r .base + x) → v ≡ 0 → true ≡ b
@@ -179,16 +179,16 @@ module _ {f : ℕ → ℕ} {e : Triple} {l : ℕ} {r : Line} where
 
 -- At the first line, at one with such a voxel, at another, and past the last. There are n lines, and t is what line l answers.
 module _ {f : ℕ → ℕ} {e : Triple} where
-  pub lines-asked-first : LinesAsked f e (some-zero f (keep (is-voxel e) (consecutive 0 (cells e)))) 0
-  lines-asked-first = record { rest = ap (some-zero f) (lines-first (is-voxel e) e) }
+  pub lines-asked-first : LinesAsked f e (someZero f (keep (isVoxel e) (consecutive 0 (cells e)))) 0
+  lines-asked-first = record { rest = ap (someZero f) (lines-first (isVoxel e) e) }
 
   module _ {b : Bool} {l n : ℕ} (A : LinesAsked f e b l) (c : n ≡ lineCount e) where
-    module _ {t : Bool} (h : l < n) (u : t ≡ some-zero f (voxels-on e l)) where
+    module _ {t : Bool} (h : l < n) (u : t ≡ someZero f (voxelsOn e l)) where
       pub lines-asked-found : t ≡ true → true ≡ b
-      lines-asked-found z = some-part _ (voxels-on e l) _ (A .rest) (lines-next (is-voxel e) e (omega arith)) (sym z ∙ u)
+      lines-asked-found z = some-part _ (voxelsOn e l) _ (A .rest) (lines-next (isVoxel e) e (omega arith)) (sym z ∙ u)
 
       pub lines-asked-next : t ≡ false → LinesAsked f e b (l + 1)
-      lines-asked-next z = record { rest = some-rest _ (voxels-on e l) (onwards (is-voxel e) e (l + 1)) (A .rest) (lines-next (is-voxel e) e (omega arith)) (sym z ∙ u) }
+      lines-asked-next z = record { rest = some-rest _ (voxelsOn e l) (onwards (isVoxel e) e (l + 1)) (A .rest) (lines-next (isVoxel e) e (omega arith)) (sym z ∙ u) }
 
     pub lines-asked-last : n ≤ l → false ≡ b
     lines-asked-last h = some-end _ (A .rest) (lines-last _ e {l = l} (omega arith))
