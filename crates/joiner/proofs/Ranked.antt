@@ -13,7 +13,6 @@ use lib.IntN.{pos}
 use lib.ListN.{getD, length}
 use borrow.Author.Tests.{eq-eqb, eqb-false, eqb-true, le-leb, leb-false, leb-true, lt-leb, lt-ltb, ltb-false, ltb-true, ne-eqb}
 use Rattle.lists.specs.Lists.{consecutive, keep}
-use Rattle.cells.specs.Grid.{upperNeighbours}
 use Rattle.cells.specs.Row.{once}
 use Rattle.joiner.specs.Outcomes.{classOf, headOf, heads, isOne, leads, notAfter, rank}
 use Rattle.joiner.specs.Job.{Kind, Tables, firstAt}
@@ -146,7 +145,7 @@ count-split v N (w ∷ h) =
     (λ b. let d : v w ≢ suc N = eqb-false _ _ b in rw (a, b, lt-leb (v w) (suc N) (omega arith)) (count-split v N h)))
 
 -- numbers that are each had by exactly one entry of an ascending list
-module _ (v : ℕ → ℕ) (h : List ℕ) (L : ℕ) (upperNeighbours : Ascends 0 h) (pos : (y : ℕ) → List·Memᴰ y h → 0 < v y) (had : (N : ℕ) → 0 < N → N ≤ L → (x : ℕ) × List·Memᴰ x h × (v x ≡ N))
+module _ (v : ℕ → ℕ) (h : List ℕ) (L : ℕ) (ascending : Ascends 0 h) (pos : (y : ℕ) → List·Memᴰ y h → 0 < v y) (had : (N : ℕ) → 0 < N → N ≤ L → (x : ℕ) × List·Memᴰ x h × (v x ≡ N))
     (once : (x y : ℕ) → List·Memᴰ x h → List·Memᴰ y h → v x ≡ v y → x ≡ y) where
   zero-none : (l : List ℕ) → ((y : ℕ) → List·Memᴰ y l → 0 < v y) → length (keep (λ y. leb (v y) 0) l) ≡ 0
   zero-none [] f = refl
@@ -157,7 +156,7 @@ module _ (v : ℕ → ℕ) (h : List ℕ) (L : ℕ) (upperNeighbours : Ascends 0
   counted-to (suc N) l =
       let x = had (suc N) (omega arith) l in
       let one : length (keep (λ y. eqb (v y) (suc N)) h) ≡ 1 =
-      count-one (λ y. eqb (v y) (suc N)) 0 h (x .0) upperNeighbours (x .1) (eq-eqb _ _ (x .2)) (λ y m e. once y (x .0) m (x .1) (eqb-true _ _ e ∙ sym (x .2))) in
+      count-one (λ y. eqb (v y) (suc N)) 0 h (x .0) ascending (x .1) (eq-eqb _ _ (x .2)) (λ y m e. once y (x .0) m (x .1) (eqb-true _ _ e ∙ sym (x .2))) in
       omega (arith, count-split v N h, counted-to N (omega arith), one)
 
 -- ---- ranks

@@ -12,7 +12,7 @@ use lib.ListN.{drop, getD, length, length-drop, length-take, take}
 use lib.Seq.{ext-getD, getD-drop, getD-take}
 use borrow.Author.Tests.{eq-eqb, eqb-false, eqb-true, lt-ltb, ltb-false, ltb-true}
 use Rattle.cells.specs.Box.{Triple, index}
-use Rattle.cells.specs.Grid.{cells, order, sides, upperNeighbours}
+use Rattle.cells.specs.Grid.{cells, order, sides}
 use Rattle.cells.specs.Row.{active, padTo}
 use Rattle.labels.specs.Components.{componentRow, firstCell, largest}
 use Rattle.labels.specs.Number.{labels, numbered}
@@ -40,7 +40,7 @@ use Rattle.joiner.proofs.RowsFinal.{final-cell}
 
 -- ---- bisection
 
-module _ (xs : List ℕ) (n v : ℕ) (upperNeighbours : (i j : ℕ) → i < j → j < n → getD xs i 0 < getD xs j 0) where
+module _ (xs : List ℕ) (n v : ℕ) (ascending : (i j : ℕ) → i < j → j < n → getD xs i 0 < getD xs j 0) where
   -- r parts the m places from lo on: below v before it, not below v from it on
   record Parts (lo m r : ℕ) : Type 0 where
     low : lo ≤ r
@@ -49,7 +49,7 @@ module _ (xs : List ℕ) (n v : ℕ) (upperNeighbours : (i j : ℕ) → i < j �
     above : (j : ℕ) → r ≤ j → j < lo + m → v ≤ getD xs j 0
 
   ascends-le : (i j : ℕ) → i ≤ j → j < n → getD xs i 0 ≤ getD xs j 0
-  ascends-le i j h l = by-test (ltb i j) (λ t. omega (arith, upperNeighbours i j (ltb-true i j t) l)) (λ t. let e : i ≡ j = omega (arith, ltb-false i j t) in rw e (omega arith))
+  ascends-le i j h l = by-test (ltb i j) (λ t. omega (arith, ascending i j (ltb-true i j t) l)) (λ t. let e : i ≡ j = omega (arith, ltb-false i j t) in rw e (omega arith))
 
   bisect-parts : (f lo m : ℕ) → m ≤ f → lo + m ≤ n → Parts lo m (bisect f xs lo m v)
   unfolding bisect
@@ -93,7 +93,7 @@ module _ (xs : List ℕ) (n v : ℕ) (upperNeighbours : (i j : ℕ) → i < j �
   number-found i h e =
       let a : r ≤ i = by-test (ltb i r) (λ t. absurd (omega (arith, parts .below i (omega arith) (ltb-true i r t)))) (λ t. ltb-false i r t) in
       let b : v ≤ getD xs r 0 = parts .above r (omega arith) (omega arith) in
-      let c : r ≡ i = by-test (ltb r i) (λ t. absurd (omega (arith, upperNeighbours r i (ltb-true r i t) h))) (λ t. omega (arith, ltb-false r i t)) in
+      let c : r ≡ i = by-test (ltb r i) (λ t. absurd (omega (arith, ascending r i (ltb-true r i t) h))) (λ t. omega (arith, ltb-false r i t)) in
       rw (lt-ltb r n (omega arith), eq-eqb (getD xs r 0) v (ap (λ (j : ℕ). getD xs j 0) c ∙ e)) (ap suc c)
 
   pub number-missing : ((i : ℕ) → i < n → getD xs i 0 ≢ v) → pointNumber xs n v ≡ 0
