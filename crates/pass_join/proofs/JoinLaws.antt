@@ -2,8 +2,8 @@
 -- Assumes nothing.
 use mathlib.Core.Path.{_≡_, refl, sym, ap, _∙_}
 use mathlib.Core.Bool.{Bool, true, false, cond, not, _&&_, false≢true}
-use mathlib.Core.List.{List, [], _∷_, _++_, map, append-assoc, append-nil}
-use Prim.Native.Nat.{ℕ, zero, suc, _+_, _-_, _*_, _%_, _≤_, _<_}
+use mathlib.Core.List.{List, [], _∷_, _++_, List·Memᴰ, map, append-assoc, append-nil}
+use Prim.Native.Nat.{ℕ, zero, suc, _+_, _-_, _*_, _%_, _^_, _≤_, _<_}
 use native.Mathlib.Numerals.{add-one}
 use native.Mathlib.Omega.{arith}
 use lib.Dec.{eqb·suc-zero, eqb·suc-suc}
@@ -23,7 +23,7 @@ use Rattle.cells.proofs.RowLaws.{same-row}
 use Rattle.cells.proofs.ExtentLaws.{cells-high}
 use Rattle.labels.specs.Number.{pairs, alike, edgesAt, orderBelow}
 use Rattle.lines.specs.Lines.{odds, around, lineY, lineZ}
-use Rattle.lines.proofs.LineLaws.{up-around, flank-at, Tests, order-tests}
+use Rattle.lines.proofs.LineLaws.{up-around, flank-at, above-read, Tests, order-tests}
 use Rattle.pass_join.specs.JoinTrays.{Trays, alikeTo, alikePairs}
 
 -- Links that a loop has changed still fit the block.
@@ -101,22 +101,24 @@ idle-around e m {ls} t ss o rs q b =
     sym (pairs-alike e m [] [] tt (around t ss)) ∙ rw (append-nil (around t ss), append-nil (map (row e m) (around t ss)), ← q) (pairs-blank (around t ss) rs b) in
     rw (up-around e t, o, none) (rooted-refl ls)
 
--- The cells one stride s down and up from t: their positions fit 32 bits, and their rows are read by the strides ss.
+-- The positions one stride s down and up from t fit, as the needs ask it.
+module _ {e : Triple} {m ls : List ℕ} {t s : ℕ} {ss : List ℕ} (trays : Trays e m ls) (h : t < cells e) (o : odds e t ≡ ss) (i : List·Memᴰ s ss) where
+  pub below-fits : t - s < 2 ^ 32
+  below-fits = omega (arith, cells-high (trays .sized))
+
+  pub above-fits : t + s < 2 ^ 32
+  above-fits = omega (arith, above-read e h o i refl, cells-high (trays .sized))
+
+  pub above-sum : t + s < 2 ^ 64
+  above-sum = omega (arith, above-fits)
+
+-- The cells there have rows that are read by the strides ss.
 pub record Near (e : Triple) (m : List ℕ) (t s : ℕ) (ss : List ℕ) : Type 0 where
-  pub low : s ≤ t
-  pub fits : t + s < 4294967296
   pub down : (length m ≡ cells e) × (t - s < cells e) × (odds e (t - s) ≡ ss)
   pub up : (length m ≡ cells e) × (t + s < cells e) × (odds e (t + s) ≡ ss)
 
 pub near : {e : Triple} {m ls : List ℕ} {t : ℕ} → Trays e m ls → t < cells e → (pre : List ℕ) (s : ℕ) (post : List ℕ) → odds e t ≡ pre ++ s ∷ post → Near e m t s (pre ++ post)
-near {e} {m} {ls} {t} trays h pre s post o =
-    let f = flank-at e t h pre s post o in
-    record {
-      low = f .low;
-      fits = omega (arith, cells-high (trays .sized));
-      down = (trays .whole, omega arith, f .below);
-      up = (trays .whole, f .high, f .above);
-    }
+near {e} {m} {ls} {t} trays h pre s post o = let f = flank-at e t h pre s post o in record { down = (trays .whole, omega arith, f .below); up = (trays .whole, f .high, f .above) }
 
 -- Every entry is below n, and so is the 0 that is read past the end.
 abbrev pub EntriesBelow : ℕ → List ℕ → Type 0

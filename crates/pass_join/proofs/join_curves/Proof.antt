@@ -2,13 +2,14 @@
 -- Assumes nothing.
 use Prim.Native.Nat.{_+_, _-_}
 use mathlib.Core.Bool.{_&&_}
-use mathlib.Core.List.{[], _∷_}
+use mathlib.Core.List.{[], _∷_, List·Memᴰ·head, List·Memᴰ·tail}
 use native.Mathlib.Omega.{arith}
 use borrow.Author.Needs.{needs}
 use Rattle.lists.proofs.Cases.{and-first, and-second}
 use Rattle.cells.specs.Box.{Triple, triple}
 use Rattle.lines.specs.Lines.{around}
-use Rattle.pass_join.proofs.JoinLaws.{blank-row, joined-around, idle-around, Near, near, getD-below}
+use Rattle.lines.proofs.LineLaws.{below-read}
+use Rattle.pass_join.proofs.JoinLaws.{blank-row, joined-around, idle-around, below-fits, above-fits, above-sum, Near, near, getD-below}
 use Rattle.pass_join.proofs.join_curves.Statement.{statement}
 use Rattle.pass_join.proofs.join_curves.Tie as tie
 
@@ -26,27 +27,25 @@ on-c : (s : tie.Start) → Near (extents-of s) (s .args .map .now) (s .args .t) 
 on-c s = near (s .pre .0) (s .pre .1) (s .args .a ∷ s .args .b ∷ []) _ [] (s .pre .2)
 
 sub-curve-row : tie.Need-sub-curve-row
-sub-curve-row c = on-a (c .before .before) .low
+sub-curve-row c = search (below-read, List·Memᴰ·head)
 
 curve-row-requires : tie.Need-curve-row-requires
 curve-row-requires c κs = on-a (c .before .before) .down
 
 add-curve-row : tie.Need-add-curve-row
-add-curve-row c = omega (arith, on-a (c .before .before .before) .fits)
+add-curve-row c = search (above-sum, List·Memᴰ·head)
 
 curve-row-requires-2 : tie.Need-curve-row-requires-2
 curve-row-requires-2 c κs = on-a (c .before .before .before) .up
 
 sub-curve-row-2 : tie.Need-sub-curve-row-2
-sub-curve-row-2 c = on-b (c .before .before .before .before) .low
+sub-curve-row-2 c = search (below-read, List·Memᴰ·head, List·Memᴰ·tail)
 
 curve-row-requires-3 : tie.Need-curve-row-requires-3
 curve-row-requires-3 c κs = on-b (c .before .before .before .before) .down
 
 add-curve-row-2 : tie.Need-add-curve-row-2
-add-curve-row-2 c =
-    let back4 = c .before .before .before .before in
-    omega (arith, on-b (back4 .before) .fits)
+add-curve-row-2 c = search (above-sum, List·Memᴰ·head, List·Memᴰ·tail)
 
 curve-row-requires-4 : tie.Need-curve-row-requires-4
 curve-row-requires-4 c κs =
@@ -54,9 +53,7 @@ curve-row-requires-4 c κs =
     on-b (back4 .before) .up
 
 sub-curve-row-3 : tie.Need-sub-curve-row-3
-sub-curve-row-3 c =
-    let back4 = c .before .before .before .before in
-    on-c (back4 .before .before) .low
+sub-curve-row-3 c = search (below-read, List·Memᴰ·head, List·Memᴰ·tail)
 
 curve-row-requires-5 : tie.Need-curve-row-requires-5
 curve-row-requires-5 c κs =
@@ -64,9 +61,7 @@ curve-row-requires-5 c κs =
     on-c (back4 .before .before) .down
 
 add-curve-row-3 : tie.Need-add-curve-row-3
-add-curve-row-3 c =
-    let back4 = c .before .before .before .before in
-    omega (arith, on-c (back4 .before .before .before) .fits)
+add-curve-row-3 c = search (above-sum, List·Memᴰ·head, List·Memᴰ·tail)
 
 curve-row-requires-6 : tie.Need-curve-row-requires-6
 curve-row-requires-6 c κs =
@@ -110,88 +105,40 @@ returns c =
     (blank-row _ (back4 .before .before .is-blank .ensures) t0, (blank-row _ (back4 .before .is-blank2 .ensures) (and-second (back4 .before .before .is-blank .result) (back4 .before .is-blank2 .result) t1), (blank-row _ (c .before .before .before .before .is-blank3 .ensures) (and-second (back4 .before .before .is-blank .result && back4 .before .is-blank2 .result) (c .before .before .before .before .is-blank3 .result) t2), (blank-row _ (c .before .before .before .is-blank4 .ensures) (and-second ((back4 .before .before .is-blank .result && back4 .before .is-blank2 .result) && c .before .before .before .before .is-blank3 .result) (c .before .before .before .is-blank4 .result) t3), (blank-row _ (c .before .before .is-blank5 .ensures) (and-second (((back4 .before .before .is-blank .result && back4 .before .is-blank2 .result) && c .before .before .before .before .is-blank3 .result) && c .before .before .before .is-blank4 .result) (c .before .before .is-blank5 .result) t4), (blank-row _ (c .before .is-blank6 .ensures) (and-second ((((back4 .before .before .is-blank .result && back4 .before .is-blank2 .result) && c .before .before .before .before .is-blank3 .result) && c .before .before .before .is-blank4 .result) && c .before .before .is-blank5 .result) (c .before .is-blank6 .result) t5), tt))))))
 
 sub-t17 : tie.Need-sub-t17
-sub-t17 c =
-    let back4 = c .before .before .before .before in
-    let back8 = back4 .before .before .before .before in
-    let back12 = back8 .before .before .before .before in
-    on-a (back12 .before .before .before) .low
+sub-t17 c = search (below-read, List·Memᴰ·head)
 
 cast-t29 : tie.Need-cast-t29
-cast-t29 c =
-    let back4 = c .before .before .before .before in
-    let back8 = back4 .before .before .before .before in
-    let back12 = back8 .before .before .before .before in
-    omega (arith, on-a (back12 .before .before .before) .fits)
+cast-t29 c = search (below-fits, List·Memᴰ·head)
 
 add-t30 : tie.Need-add-t30
-add-t30 c =
-    let back4 = c .before .before .before .before in
-    let back8 = back4 .before .before .before .before in
-    let back12 = back8 .before .before .before .before in
-    omega (arith, on-a (back12 .before .before .before) .fits)
+add-t30 c = search (above-sum, List·Memᴰ·head)
 
 cast-t31 : tie.Need-cast-t31
-cast-t31 c =
-    let back4 = c .before .before .before .before in
-    let back8 = back4 .before .before .before .before in
-    let back12 = back8 .before .before .before .before in
-    omega (arith, on-a (back12 .before .before .before) .fits)
+cast-t31 c = search (above-fits, List·Memᴰ·head)
 
 sub-t32 : tie.Need-sub-t32
-sub-t32 c =
-    let back4 = c .before .before .before .before in
-    let back8 = back4 .before .before .before .before in
-    let back12 = back8 .before .before .before .before in
-    on-b (back12 .before .before .before) .low
+sub-t32 c = search (below-read, List·Memᴰ·head, List·Memᴰ·tail)
 
 cast-t33 : tie.Need-cast-t33
-cast-t33 c =
-    let back4 = c .before .before .before .before in
-    let back8 = back4 .before .before .before .before in
-    let back12 = back8 .before .before .before .before in
-    omega (arith, on-b (back12 .before .before .before) .fits)
+cast-t33 c = search (below-fits, List·Memᴰ·head, List·Memᴰ·tail)
 
 add-t34 : tie.Need-add-t34
-add-t34 c =
-    let back4 = c .before .before .before .before in
-    let back8 = back4 .before .before .before .before in
-    let back12 = back8 .before .before .before .before in
-    omega (arith, on-b (back12 .before .before .before) .fits)
+add-t34 c = search (above-sum, List·Memᴰ·head, List·Memᴰ·tail)
 
 cast-t35 : tie.Need-cast-t35
-cast-t35 c =
-    let back4 = c .before .before .before .before in
-    let back8 = back4 .before .before .before .before in
-    let back12 = back8 .before .before .before .before in
-    omega (arith, on-b (back12 .before .before .before) .fits)
+cast-t35 c = search (above-fits, List·Memᴰ·head, List·Memᴰ·tail)
 
 sub-t36 : tie.Need-sub-t36
-sub-t36 c =
-    let back4 = c .before .before .before .before in
-    let back8 = back4 .before .before .before .before in
-    let back12 = back8 .before .before .before .before in
-    on-c (back12 .before .before .before) .low
+sub-t36 c = search (below-read, List·Memᴰ·head, List·Memᴰ·tail)
 
 cast-t37 : tie.Need-cast-t37
-cast-t37 c =
-    let back4 = c .before .before .before .before in
-    let back8 = back4 .before .before .before .before in
-    let back12 = back8 .before .before .before .before in
-    omega (arith, on-c (back12 .before .before .before) .fits)
+cast-t37 c = search (below-fits, List·Memᴰ·head, List·Memᴰ·tail)
 
 add-t38 : tie.Need-add-t38
-add-t38 c =
-    let back4 = c .before .before .before .before in
-    let back8 = back4 .before .before .before .before in
-    let back12 = back8 .before .before .before .before in
-    omega (arith, on-c (back12 .before .before .before) .fits)
+add-t38 c = search (above-sum, List·Memᴰ·head, List·Memᴰ·tail)
 
 cast-t39 : tie.Need-cast-t39
-cast-t39 c =
-    let back4 = c .before .before .before .before in
-    let back8 = back4 .before .before .before .before in
-    let back12 = back8 .before .before .before .before in
-    omega (arith, on-c (back12 .before .before .before) .fits)
+cast-t39 c = search (above-fits, List·Memᴰ·head, List·Memᴰ·tail)
 
 join-alike-requires : tie.Need-join-alike-requires
 join-alike-requires c κs k h =

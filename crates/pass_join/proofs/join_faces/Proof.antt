@@ -4,14 +4,15 @@
 use Prim.Native.Nat.{ℕ, _+_, _-_}
 use mathlib.Core.Path.{refl}
 use mathlib.Core.Bool.{_&&_}
-use mathlib.Core.List.{List, [], _∷_}
+use mathlib.Core.List.{List, [], _∷_, List·Memᴰ·head, List·Memᴰ·tail}
 use native.Mathlib.Omega.{arith}
 use borrow.Author.Needs.{needs}
 use Rattle.lists.proofs.Cases.{and-first, and-second}
 use Rattle.cells.specs.Box.{Triple, triple}
 use Rattle.cells.specs.Row.{occupied}
 use Rattle.lines.specs.Lines.{around}
-use Rattle.pass_join.proofs.JoinLaws.{blank-row, joined-around, idle-around, Near, near, getD-below}
+use Rattle.lines.proofs.LineLaws.{below-read}
+use Rattle.pass_join.proofs.JoinLaws.{blank-row, joined-around, idle-around, below-fits, above-fits, above-sum, Near, near, getD-below}
 use Rattle.pass_join.proofs.join_faces.Statement.{statement}
 use Rattle.pass_join.proofs.join_faces.Tie as tie
 
@@ -30,16 +31,16 @@ on-b : (s : tie.Start) → Near (extents-of s) (s .args .map .now) (s .args .t) 
 on-b s = near (s .pre .0) (s .pre .1) (s .args .a ∷ []) _ [] (s .pre .2)
 
 sub-p : tie.Need-sub-p
-sub-p c = on-a (c .before .before) .low
+sub-p c = search (below-read, List·Memᴰ·head)
 
 add-q : tie.Need-add-q
-add-q c = omega (arith, on-a (c .before .before) .fits)
+add-q c = search (above-sum, List·Memᴰ·head)
 
 sub-u : tie.Need-sub-u
-sub-u c = on-b (c .before .before) .low
+sub-u c = search (below-read, List·Memᴰ·head, List·Memᴰ·tail)
 
 add-v : tie.Need-add-v
-add-v c = omega (arith, on-b (c .before .before) .fits)
+add-v c = search (above-sum, List·Memᴰ·head, List·Memᴰ·tail)
 
 face-row-requires : tie.Need-face-row-requires
 face-row-requires c κs = on-a (c .before .before) .down
@@ -83,28 +84,16 @@ returns c =
     (blank-row _ (c .before .before .before .before .is-blank .ensures) t0, (blank-row _ (c .before .before .before .is-blank2 .ensures) (and-second (c .before .before .before .before .is-blank .result) (c .before .before .before .is-blank2 .result) t1), (blank-row _ (c .before .before .is-blank3 .ensures) (and-second (c .before .before .before .before .is-blank .result && c .before .before .before .is-blank2 .result) (c .before .before .is-blank3 .result) t2), (blank-row _ (c .before .is-blank4 .ensures) (and-second ((c .before .before .before .before .is-blank .result && c .before .before .before .is-blank2 .result) && c .before .before .is-blank3 .result) (c .before .is-blank4 .result) t3), tt))))
 
 cast-t26 : tie.Need-cast-t26
-cast-t26 c =
-    let back4 = c .before .before .before .before in
-    let back8 = back4 .before .before .before .before in
-    omega (arith, on-a (back8 .before .before .before) .fits)
+cast-t26 c = search (below-fits, List·Memᴰ·head)
 
 cast-t27 : tie.Need-cast-t27
-cast-t27 c =
-    let back4 = c .before .before .before .before in
-    let back8 = back4 .before .before .before .before in
-    omega (arith, on-a (back8 .before .before .before) .fits)
+cast-t27 c = search (above-fits, List·Memᴰ·head)
 
 cast-t28 : tie.Need-cast-t28
-cast-t28 c =
-    let back4 = c .before .before .before .before in
-    let back8 = back4 .before .before .before .before in
-    omega (arith, on-b (back8 .before .before .before) .fits)
+cast-t28 c = search (below-fits, List·Memᴰ·head, List·Memᴰ·tail)
 
 cast-t29 : tie.Need-cast-t29
-cast-t29 c =
-    let back4 = c .before .before .before .before in
-    let back8 = back4 .before .before .before .before in
-    omega (arith, on-b (back8 .before .before .before) .fits)
+cast-t29 c = search (above-fits, List·Memᴰ·head, List·Memᴰ·tail)
 
 join-alike-requires : tie.Need-join-alike-requires
 join-alike-requires c κs k h =
