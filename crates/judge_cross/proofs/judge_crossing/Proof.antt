@@ -14,8 +14,8 @@ use Rattle.judge_cross.proofs.judge_crossing.Tie as tie
 -- The start, from the first tests.
 abbrev start : tie.After-judge → tie.Start
 start ask =
-    let map = ask .before .before in
-    let table = map .before .before .before .before in
+    let own-map = ask .before .before in
+    let table = own-map .before .before .before .before in
     let cx = table .before .before .before .before in
     cx .before
 

@@ -16,8 +16,8 @@ use Rattle.judge_seam.proofs.rest.Tie as tie
 -- The start, from the two blocks.
 abbrev start : tie.After-block-at2 → tie.Start
 start told =
-    let map = told .before .before .before in
-    let ticks = map .before .before .before .before in
+    let own-map = told .before .before .before in
+    let ticks = own-map .before .before .before .before in
     ticks .before .before .before .before
 
 low-sized : (told : tie.After-block-at2) → Sized 64 (sizeOf (told .before .block-at .result))

@@ -9,8 +9,8 @@ use Rattle.step_enrol.proofs.act.Tie as tie
 abbrev start : tie.After-block-at → tie.Start
 start c =
     let known = c .before .before .before .before in
-    let map = known .before in
-    let tables = map .before .before .before .before in
+    let own-map = known .before in
+    let tables = own-map .before .before .before .before in
     let lists = tables .before .before .before .before in
     lists .before .before .before .before
 

@@ -7,8 +7,8 @@ use Rattle.step_point.proofs.point.Tie as tie
 -- The start, from the answer of the tests.
 abbrev start : tie.After-judge-points → tie.Start
 start asked =
-    let map = asked .before .before .before in
-    let rows = map .before .before .before .before in
+    let own-map = asked .before .before .before in
+    let rows = own-map .before .before .before .before in
     let ticks = rows .before .before .before .before in
     ticks .before .before .before .before
 
