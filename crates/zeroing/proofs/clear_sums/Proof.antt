@@ -1,8 +1,7 @@
 -- `zeroing::clear_sums` meets its contract. The invariant: the entries before the next one are +0, and the rest are as they came.
 use Prim.Native.Nat.{_+_, _-_, _≤_}
-use mathlib.Core.Path.{_≡_, refl}
-use native.Mathlib.Omega.{arith}
-use lib.ListN.{length, length-set}
+use mathlib.Core.Path.{_≡_}
+use lib.ListN.{length}
 use lib.Ieee.{ofBits}
 use borrow.Author.Needs.{needs}
 use Rattle.strains.specs.Units.{plusZero}
@@ -17,7 +16,7 @@ abbrev μ-loop : tie.MeasureT-loop
 μ-loop sums₀ next₀ sums next = length sums₀ + 1 - next
 
 loop-holds : tie.Need-loop-holds Inv-loop μ-loop
-loop-holds c = (search needs, omega arith, refl, front-none plusZero _)
+loop-holds c = search (needs, front-none)
 
 sub-sums : tie.Need-sub-sums Inv-loop μ-loop
 sub-sums c = search needs
@@ -36,20 +35,13 @@ loop-less c = search needs
 
 loop-again : tie.Need-loop-again Inv-loop μ-loop
 unfolding ofBits
-loop-again c =
-    let l = c .before .loop in
-    let e : l .next + 1 - 1 ≡ l .next - 1 + 1 = omega arith in
-    (omega arith, omega arith, simp length-set (l .inv .2), rw (l .inv .3, e) (front-more plusZero (l .next - 1) _ (omega arith)))
+loop-again c = search (needs, front-more)
 
 same-length : tie.Need-same-length Inv-loop μ-loop
 same-length c = search needs
 
 returns : tie.Need-returns Inv-loop μ-loop
-returns c =
-    let l = c .before .loop in
-    let d = c .before .before .args .sums .now in
-    let e : l .next - 1 ≡ length d = omega arith in
-    rw (l .inv .3, e) (front-all plusZero d)
+returns c = let l = c .before .loop in front-all plusZero (l .next) _ _ (l .inv .3) (l .inv .1) (l .inv .2) (c .loop-test .left)
 
 pub clear-sums-spec : {M : Type 1} → statement M
 clear-sums-spec =
