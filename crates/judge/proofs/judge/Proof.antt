@@ -21,20 +21,13 @@ reached-requires : tie.Need-reached-requires
 reached-requires c κs = search needs
 
 returns : tie.Need-returns
-returns c =
-    let ask = c .before in
-    let a = start ask .args in
-    judged-first (a .job) _ _ _ _ (a .call) (a .z) _ _ _ _ (ask .before .stage-of .ensures) (ask .reached .ensures) _ _ (c .if1 .taken)
+returns c = search judged-first
 
 block-at-requires : tie.Need-block-at-requires
 block-at-requires c κs = search needs
 
 block-count-requires : tie.Need-block-count-requires
-block-count-requires c κs =
-    let passed = c .before in
-    let ask = passed .before in
-    let a = start ask .args in
-    begun-few (a .job) _ _ _ _ (a .call) (a .z) _ _ _ _ (ask .before .stage-of .ensures) (ask .reached .ensures) (passed .if1 .left)
+block-count-requires c κs = search begun-few
 
 -- What `fits` and `judge_map` require of the block and of the count.
 sized : (told : tie.After-block-count) → (told .block-count .result ≤ mostBlocks) × Sized 64 (sizeOf (told .before .block-at .result))
@@ -54,14 +47,7 @@ judge-map-requires : tie.Need-judge-map-requires
 judge-map-requires c κs = let fit = c .before in (sized (fit .before) .1, fits-size _ _ _ _ _ _ _ (fit .fits2 .ensures))
 
 returns-2 : tie.Need-returns-2
-returns-2 c =
-    let fit = c .before .before in
-    let told = fit .before in
-    let passed = told .before .before in
-    let ask = passed .before in
-    let a = start ask .args in
-    judged-then (a .job) _ _ _ _ (a .call) (a .z) _ _ _ _ (ask .before .stage-of .ensures) (ask .reached .ensures) (passed .if1 .left) _ (told .before .block-at .ensures) _ (told .block-count .ensures)
-    _ _ _ (fit .fits2 .ensures) _ (c .before .entry-of .ensures) _ (c .judge-map .ensures)
+returns-2 c = search judged-then
 
 pub judge-spec : {M : Type 1} → statement M
 judge-spec =

@@ -19,20 +19,13 @@ reached-requires : tie.Need-reached-requires
 reached-requires c κs = search needs
 
 returns : tie.Need-returns
-returns c =
-    let ask = c .before in
-    let a = start ask .args in
-    lengths-first (a .job) _ _ _ _ (a .call) (a .z) _ _ _ _ (ask .before .stage-of .ensures) (ask .reached .ensures) _ (c .if1 .taken)
+returns c = search lengths-first
 
 block-at-requires : tie.Need-block-at-requires
 block-at-requires c κs = search needs
 
 block-count-requires : tie.Need-block-count-requires
-block-count-requires c κs =
-    let passed = c .before in
-    let ask = passed .before in
-    let a = start ask .args in
-    begun-few (a .job) _ _ _ _ (a .call) (a .z) _ _ _ _ (ask .before .stage-of .ensures) (ask .reached .ensures) (passed .if1 .left)
+block-count-requires c κs = search begun-few
 
 fits-requires : tie.Need-fits-requires
 fits-requires c κs =
@@ -44,13 +37,7 @@ fits-requires c κs =
 -- The refusal, once the lengths are tested.
 decided : (fit : tie.After-fits2) → let ask = fit .before .before .before .before in let a = start ask .args in
     cond (not (fit .fits2 .result)) 6 0 ≡ lengthsJudged (jobOf (a .job) (a .cx .now) (a .cy .now) (a .cz .now)) (a .ticks .now) (a .call) (a .z) (a .b) (a .step) (a .length)
-decided fit =
-    let told = fit .before in
-    let passed = told .before .before in
-    let ask = passed .before in
-    let a = start ask .args in
-    lengths-last (a .job) _ _ _ _ (a .call) (a .z) _ _ _ _ (ask .before .stage-of .ensures) (ask .reached .ensures) (passed .if1 .left)
-    _ (told .before .block-at .ensures) _ (told .block-count .ensures) _ _ (fit .fits2 .ensures)
+decided fit = search lengths-last
 
 returns-2 : tie.Need-returns-2
 returns-2 c = rw (c .if2 .taken) at (decided (c .before))
