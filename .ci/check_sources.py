@@ -32,7 +32,9 @@ EXPORT = re.compile(r'\s*(?:unfoldable |abbrev )?pub (?:unfoldable |abbrev )?(?!
 IMPORT = re.compile(r'^' + WORDS + r'use ([^\s{;]+?)\.\{([^}]*)\}', re.M)
 TYPE = re.compile(r'\s*' + WORDS + r'(data|record) ([^\s:({]+)')
 NAMES = re.compile(r'\s*' + WORDS + r'(let )?((?:[^\s:({})=λ.→]+ )+): ')
-USE = re.compile(r'^(?:ghost )?use ([^;\n]+);?$', re.M)
+USE = re.compile(r'^(ghost |)use ([^;\n]+);?\s*$', re.M)
+WORD = re.compile(r'(?<=\.\.)\w+|(?<![^\s()\[\]{},;λ])[^\s()\[\]{},;λ.][^\s()\[\]{},;λ]*|\[\]')
+BINDER = re.compile(r'(?:\n|[({;]|\bpub|\babbrev|\bunfoldable|\blet) *$')
 CHAIN = re.compile(r'(?:\s\.before\)*){5}')
 ASKED = re.compile(r'\s*(?:pub )?\S+ : (?:tie\.|\{M : Type 1\} → statement M)')
 
@@ -92,15 +94,25 @@ def imported(text, homes):
                     yield f'{n} is a symbol of {", ".join(sorted(homes[n]))} and is taken from {module}'
 
 
-def idle(text):
-    """The names that are imported and not used. Of an operator any part counts."""
+def uses(text):
+    """The names that a text uses. A field is none, nor is a name where it is defined or bound; of m.n only m is one."""
+    for word in WORD.finditer(text):
+        bound = text[word.end():word.end() + 3] in (' : ', ' = ') and BINDER.search(text[max(0, word.start() - 40):word.start()])
+        if not bound:
+            yield re.split(r'\.|::', word.group().lstrip('!&') or word.group())[0]
+
+
+def idle(path, text):
+    """The names that are imported and not used: of a `ghost use`, in no contract."""
     rest = USE.sub('', text)
-    for item in USE.findall(text):
+    contracts = ' '.join(re.findall(r'⌜(.*?)⌝', rest, re.S))
+    used = {'ghost ': set(uses(contracts)), '': set(uses(rest))}
+    for ghost, item in USE.findall(text):
         names = re.search(r'\{([^}]*)\}$', item)
         for name in names.group(1).split(',') if names else re.split(r'::| as ', item)[-1:]:
             name = name.split(' as ')[-1].strip()
-            parts = [name] + ([part for part in name.split('_') if part] if '_' in name[:1] + name[-1:] else [])
-            if not any(re.search(rf"(?<![\w′·-]){re.escape(part)}(?![\w′-])", rest) for part in parts):
+            parts = name.split('_') if '_' in name[:1] + name[-1:] else []
+            if not used[ghost] & {name, *parts}:
                 yield f'{name} is imported and not used'
 
 
@@ -158,7 +170,7 @@ def main():
     for path, text in sources():
         texts.setdefault(path.split('/')[1], []).append(text)
         faults = list(imported(text, homes)) + (list(defined(path, homes)) if path.endswith('.antt') else [])
-        faults += list(idle(text))
+        faults += list(idle(path, text))
         faults += ['a chain of .before is longer than four: name a place on the way by let'] if CHAIN.search(text) else []
         for fault in faults:
             print(f'{path}: {fault}')

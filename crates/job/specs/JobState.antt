@@ -32,36 +32,17 @@ toldBy nx ny nz cx cy cz faces curves points =
 abbrev pub toldOf : Job → List ℕ → List ℕ → List ℕ → Told
 toldOf j cx cy cz = toldBy (j .nx) (j .ny) (j .nz) cx cy cz (j .«face_entries») (j .«curve_entries») (j .«point_entries»)
 
--- How many of each kind were found so far.
-abbrev pub sofarOf : Job → Kind → ℕ
-sofarOf j = byKind (j .faces) (j .curves) (j .points)
+-- The tally of what stands in the tables so far, by kind.
+abbrev pub sofarTally : Job → Kind → ℕ
+sofarTally j = byKind (j .faces) (j .curves) (j .points)
 
--- How many of each kind are numbered.
-abbrev pub numberedOf : Job → Kind → ℕ
-numberedOf j = byKind (j .«numbered_faces») (j .«numbered_curves») (j .«numbered_points»)
+-- The tally of what is numbered, by kind.
+abbrev pub numberedTally : Job → Kind → ℕ
+numberedTally j = byKind (j .«numbered_faces») (j .«numbered_curves») (j .«numbered_points»)
 
 -- Stage and tallies.
 abbrev pub jobOf : Job → List ℕ → List ℕ → List ℕ → joiner.Job
-jobOf j cx cy cz = record { told = toldOf j cx cy cz; stage = stageOf (j .stage); sofar = sofarOf j; numbered = numberedOf j }
-
--- The job in another stage, with other tallies.
-abbrev pub jobWith : Job → Stage → (Kind → ℕ) → (Kind → ℕ) → Job
-jobWith j stage found numbered =
-    record {
-      stage = stage;
-      nx = j .nx;
-      ny = j .ny;
-      nz = j .nz;
-      «face_entries» = j .«face_entries»;
-      «curve_entries» = j .«curve_entries»;
-      «point_entries» = j .«point_entries»;
-      faces = found Face;
-      curves = found Curve;
-      points = found Point;
-      «numbered_faces» = numbered Face;
-      «numbered_curves» = numbered Curve;
-      «numbered_points» = numbered Point;
-    }
+jobOf j cx cy cz = record { told = toldOf j cx cy cz; stage = stageOf (j .stage); sofar = sofarTally j; numbered = numberedTally j }
 
 -- What holds whatever the cut lists are.
 abbrev pub anyCuts : (List ℕ → List ℕ → List ℕ → Type 0) → Type 0

@@ -15,14 +15,12 @@ use Rattle.cells.specs.Grid.{cells, order, upperNeighbours}
 use Rattle.cells.specs.Row.{row}
 use Rattle.union_find.specs.Links.{root}
 use Rattle.labels.specs.Components.{firstCell, largest, ofOrder}
-use Rattle.labels.specs.Numbering.{here}
 use Rattle.cutting.specs.Cutting.{Cutting, blockCodes, blockExtents, blocks, embed, goodCut, seam}
 use Rattle.cutting.specs.Nodes.{Sees, Tied, part, uncutMap}
 use Rattle.joiner.specs.Outcomes.{AtCrossing, AtSeam, Together, back, joined, joinedRow, same, throughLinks, via}
 use Rattle.joiner.specs.Job.{Curve, Face, Kind, Point, Tables, firstAt, node, orderOf}
 use Rattle.joiner.specs.Stages.{seams}
 use Rattle.lists.proofs.Cases.{by-test}
-use Rattle.cells.proofs.BoxLaws.{cell}
 use Rattle.cells.proofs.GridLaws.{Upper, length-up, upper-neighbour}
 use Rattle.labels.proofs.ComponentLaws.{Belongs, belongs-at, of-order-in, of-order-out}
 use Rattle.labels.proofs.CountLaws.{Somewhere, every-number, largest-bound}

@@ -16,7 +16,6 @@ use Rattle.cells.specs.Box.{Triple}
 use Rattle.cells.specs.Grid.{order}
 use Rattle.union_find.specs.Links.{parent, root, soundAt}
 use Rattle.labels.specs.Components.{component, firstCell, largest}
-use Rattle.labels.specs.Number.{numbered}
 use Rattle.labels.specs.Numbering.{Numbering}
 use Rattle.cutting.specs.Cutting.{Cutting, blockExtents, blocks, cutList, embed, goodCut, mostBlocks}
 use Rattle.joiner.specs.Book.{Book, bookAdds, bookAfter, entered}

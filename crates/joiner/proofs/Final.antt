@@ -14,7 +14,7 @@ use Rattle.cells.specs.Grid.{cells, order, upperNeighbours}
 use Rattle.cells.specs.Row.{active, occupied, row, rowOf}
 use Rattle.union_find.specs.Links.{root}
 use Rattle.labels.specs.Components.{componentRow, firstCell, largest, ofOrder}
-use Rattle.labels.specs.Number.{labels, numbered}
+use Rattle.labels.specs.Number.{labels}
 use Rattle.cutting.specs.Cutting.{blockCodes, blockExtents, blocks, embed, goodCut, seam}
 use Rattle.cutting.specs.Nodes.{part, uncutMap}
 use Rattle.joiner.specs.Book.{Book, bookAdds, uncut}
@@ -26,9 +26,9 @@ use Rattle.joiner.specs.Stages.{codesOf, crossingStep, enrolStep, pointS
 use Rattle.joiner.specs.Statement.{Labelling}
 use Rattle.lists.proofs.Lists.{consecutive-in, getD-in, getD-tabulate, map-same, tabulate-same}
 use Rattle.lists.proofs.Overlay.{length-overlay, overlay-at, overlay-same}
-use Rattle.lists.proofs.Table.{at, every}
+use Rattle.lists.proofs.Table.{every}
 use Rattle.lists.proofs.Tests.{keep-same}
-use Rattle.cells.proofs.GridLaws.{Upper, inside, upper-neighbour}
+use Rattle.cells.proofs.GridLaws.{Upper, upper-neighbour}
 use Rattle.labels.proofs.ComponentLaws.{of-order-out}
 use Rattle.labels.proofs.LabelLaws.{labels-numbering}
 use Rattle.cutting.proofs.BlockLaws.{face-row, row-through}

@@ -9,7 +9,6 @@ use native.Mathlib.Omega.{arith}
 use lib.Dec.{eqb, ltb}
 use lib.ListN.{getD, length}
 use borrow.Author.Tests.{ltb-false, ltb-true}
-use borrow.Fn.PlainCycle.{is}
 use Rattle.lists.specs.Lists.{consecutive, keep, overlay}
 use Rattle.cells.specs.Grid.{cells, order}
 use Rattle.cells.specs.Row.{active, row}
@@ -18,7 +17,7 @@ use Rattle.cutting.specs.Cutting.{Cutting, blockExtents, blocks, embed, goodCut
 use Rattle.cutting.specs.Nodes.{uncutMap}
 use Rattle.joiner.specs.Outcomes.{classOf, rowAt, rowFinal}
 use Rattle.joiner.specs.Job.{Point, Tables, firstAt, keyOf, keyPosition}
-use Rattle.joiner.specs.Stages.{pointStep, shared}
+use Rattle.joiner.specs.Stages.{pointStep}
 use Rattle.lists.proofs.Cases.{by-test}
 use Rattle.lists.proofs.Lists.{Ascends, ascends-at, ascends-consecutive, ascends-keep, getD-in, getD-tabulate, keep-in, keep-out}
 use Rattle.lists.proofs.Overlay.{overlay-at, overlay-before, rows-at, rows-before}

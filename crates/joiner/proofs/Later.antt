@@ -12,7 +12,6 @@ use Rattle.closure.specs.Joined.{edge}
 use Rattle.cells.specs.Box.{Triple}
 use Rattle.cells.specs.Grid.{cells, order}
 use Rattle.labels.specs.Components.{largest}
-use Rattle.labels.specs.Number.{numbered}
 use Rattle.cutting.specs.Cutting.{Cutting, blockExtents, blocks, goodCut, seam}
 use Rattle.joiner.specs.Book.{Book, bookAdds, entered}
 use Rattle.joiner.specs.Calls.{Call, differs}
@@ -20,8 +19,7 @@ use Rattle.joiner.specs.Declines.{adds}
 use Rattle.joiner.specs.Outcomes.{AtCrossing, AtSeam, KeptFound, Ticked, enrolledRow, joinedRow}
 use Rattle.joiner.specs.Job.{Curve, Face, Kind, Point, State, Tables, Told, column, countOf, firstAt, fromOf, keyPosition, node, numbersPerBlock, orderOf, ticksPerBlock, width}
 use Rattle.joiner.specs.Stages.{seamStep, shared, stepsOf}
-use Rattle.lists.proofs.Table.{at, every}
-use Rattle.cells.proofs.BoxLaws.{cell}
+use Rattle.lists.proofs.Table.{every}
 use Rattle.cells.proofs.GridLaws.{Upper, upper-neighbour}
 use Rattle.labels.proofs.ComponentLaws.{of-order-out}
 use Rattle.labels.proofs.CountLaws.{largest-bound}

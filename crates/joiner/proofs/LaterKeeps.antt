@@ -14,7 +14,6 @@ use Rattle.closure.specs.Joined.{Edge, edge}
 use Rattle.cells.specs.Grid.{upperNeighbours}
 use Rattle.cells.specs.Row.{rowOf}
 use Rattle.union_find.specs.Links.{root, soundAt}
-use Rattle.labels.specs.Number.{numbered}
 use Rattle.cutting.specs.Cutting.{blockExtents, blocks, goodCut}
 use Rattle.joiner.specs.Book.{Book, bookAdds, bookAfter, entered}
 use Rattle.joiner.specs.Calls.{Call, cross, point}
@@ -25,7 +24,7 @@ use Rattle.joiner.specs.Stages.{crossingStep, pointStep, seamStep, steps
 use Rattle.lists.proofs.Cases.{by-test}
 use Rattle.lists.proofs.Lists.{consecutive-in, length-keep, length-consecutive, map-same}
 use Rattle.lists.proofs.Overlay.{length-overlay}
-use Rattle.lists.proofs.Table.{at, every}
+use Rattle.lists.proofs.Table.{every}
 use Rattle.joiner.proofs.Inv.{CrossEdge, EdgeDone, In, Inv, SeamEdge}
 use Rattle.joiner.proofs.Later.{Later, after, cross-inside, edge-inside, inv-later, move-cross, move-seam, same-node, same-sofar, seam-there}
 use Rattle.joiner.proofs.Progress.{crossing-level, point-level, seam-level, stepStage}

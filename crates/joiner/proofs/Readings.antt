@@ -15,14 +15,14 @@ use Rattle.cells.specs.Box.{Triple, index}
 use Rattle.cells.specs.Grid.{cells, order, sides}
 use Rattle.cells.specs.Row.{active, padTo}
 use Rattle.labels.specs.Components.{componentRow, firstCell, largest}
-use Rattle.labels.specs.Number.{labels, numbered}
+use Rattle.labels.specs.Number.{labels}
 use Rattle.labels.specs.Numbering.{Numbering}
 use Rattle.cutting.specs.Cutting.{blockExtents, blocks, embed, goodCut}
 use Rattle.joiner.specs.Book.{Book, uncut}
 use Rattle.joiner.specs.Declines.{finalOf}
 use Rattle.joiner.specs.Outcomes.{bisect, cellNumber, lookedUp, pointNumber, rowTaken}
 use Rattle.joiner.specs.Job.{Curve, Face, Kind, Point, Points, State, Told, orderOf, stageNumber, width}
-use Rattle.joiner.specs.Stages.{codesOf, hasCell, local, shared}
+use Rattle.joiner.specs.Stages.{codesOf, hasCell, local}
 use Rattle.joiner.specs.Statement.{Labelling}
 use Rattle.lists.proofs.Cases.{and-first, and-second, by-test, picked}
 use Rattle.lists.proofs.Overlay.{front-at, row-place, row-split}

@@ -9,7 +9,6 @@ use native.Mathlib.Omega.{arith}
 use lib.Dec.{eqb}
 use lib.ListN.{length, length-map}
 use borrow.Author.Tests.{eqb-false, eqb-true}
-use Rattle.lists.specs.Lists.{zeros}
 use Rattle.cells.specs.Row.{rowOf}
 use Rattle.lists.proofs.Cases.{picked}
 use Rattle.cutting.proofs.RenameLaws.{Tells, row-renamed}

@@ -9,7 +9,6 @@ use native.Mathlib.Omega.{arith}
 use lib.ListN.{length}
 use Rattle.lists.specs.Lists.{someOf}
 use Rattle.closure.specs.Joined.{edge}
-use Rattle.labels.specs.Number.{numbered}
 use Rattle.cutting.specs.Cutting.{blockExtents, blocks, goodCut, seam}
 use Rattle.joiner.specs.Book.{Book, bookAdds, bookAfter, entered}
 use Rattle.joiner.specs.Calls.{Call, differs, join}
@@ -17,7 +16,7 @@ use Rattle.joiner.specs.Declines.{adds}
 use Rattle.joiner.specs.Outcomes.{AtSeam, Merged, SeamDone, Ticked}
 use Rattle.joiner.specs.Job.{Curve, Face, Kind, Seam, Stage, State, Told, node, stageNumber, ticksPerBlock}
 use Rattle.joiner.specs.Stages.{crossingStep, seamStep, shared, stepsOf}
-use Rattle.lists.proofs.Table.{at, every}
+use Rattle.lists.proofs.Table.{every}
 use Rattle.joiner.proofs.Inv.{EdgeDone, In, Inv, SeamEdge}
 use Rattle.joiner.proofs.Later.{Later, after, edge-inside, inv-later, move-seam, same-node, same-sofar, seam-inside, seam-there}
 use Rattle.joiner.proofs.Progress.{crossing-level, seam-level, stepStage}

@@ -13,7 +13,7 @@ use Rattle.cells.specs.Box.{Triple, index, place, volume}
 use Rattle.cells.specs.Extents.{offSize}
 use Rattle.cells.specs.Grid.{cells, order, sides, voxel, voxelCell}
 use Rattle.labels.specs.Components.{componentRow, firstCell, largest}
-use Rattle.labels.specs.Number.{labels, numbered}
+use Rattle.labels.specs.Number.{labels}
 use Rattle.cutting.specs.Cutting.{Cutting, blockCodes, blockExtents, blocks, embed, goodCut}
 use Rattle.cutting.specs.Nodes.{part, uncutMap}
 use Rattle.joiner.specs.Book.{Book, begun, uncut}

@@ -16,7 +16,6 @@ use Rattle.cells.specs.Extents.{offSize}
 use Rattle.cells.specs.Grid.{cells}
 use Rattle.cells.specs.Row.{sameRow}
 use Rattle.labels.specs.Components.{componentRow, firstCell, largest}
-use Rattle.labels.specs.Number.{numbered}
 use Rattle.cutting.specs.Cutting.{Cutting, blockExtents, blocks, goodCut}
 use Rattle.joiner.specs.Book.{Book, accepts, bookAdds, bookAfter, bookAnswer, bookEarly, bookRefusal, bringsOwn, entered, labelled, turned, uncut, uncutCount}
 use Rattle.joiner.specs.Calls.{Answer, Call, answer, cross, enrol, join, look, placed, point, reading, repeated, stageOf}

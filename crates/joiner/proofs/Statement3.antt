@@ -12,7 +12,6 @@ use Rattle.lists.specs.Lists.{isIn}
 use Rattle.lists.proofs.Lists.{length-zeros, zeros-at}
 use Rattle.refusals.specs.Refusals.{Refusal, bad-cut, number, off-size, standsIn, wrong-tray}
 use Rattle.cells.specs.Extents.{offSize}
-use Rattle.labels.specs.Number.{numbered}
 use Rattle.cutting.specs.Cutting.{blockExtents, blocks, goodCut}
 use Rattle.joiner.specs.Book.{begun}
 use Rattle.joiner.specs.Outcomes.{Opened, allTrays, openDeclines, openRefusal}

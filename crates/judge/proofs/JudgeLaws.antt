@@ -28,7 +28,6 @@ use Rattle.blocks.proofs.BlockLaws.{good-few, told-sized}
 use Rattle.blocks.proofs.CodeLaws.{blocks-are}
 use Rattle.pass_survey.specs.declared.Survey.{Survey}
 use Rattle.job.specs.declared.Job.{Job}
-use Rattle.job.specs.declared.Stage.{Stage}
 use Rattle.job.specs.JobState.{anyCuts, jobOf, toldOf}
 use Rattle.job.specs.JobState as job
 use Rattle.job.proofs.JobLaws.{fits-append}

@@ -16,9 +16,7 @@ use Rattle.joiner.specs.Job as joiner
 use Rattle.joiner.specs.Calls.{Call, enrol, join, cross, point, look, reading, repeated, placed, mapsFit, layersDiffer, full}
 use Rattle.joiner.specs.Declines.{filled, lentTo, stray, talliesFit, adds}
 use Rattle.job.specs.declared.Job.{Job}
-use Rattle.job.specs.declared.Stage.{Stage}
 use Rattle.job.specs.JobState.{byKind, blockLengths, linkLengths, foundLengths, kindLengths}
-use Rattle.job.specs.JobState as job
 use Rattle.stages.specs.Ticks.{tickedIn}
 use Rattle.judge.specs.declared.CallName.{CallName}
 use Rattle.judge.specs.declared.KindLengths.{KindLengths}

@@ -14,7 +14,7 @@ use refusals::STRAY_LABEL;
 use stages::is_ticked;
 use union_find::all_sound;
 ghost use mathlib.Core.Path.{_≡_};
-ghost use Prim.Native.Nat.{_+_, _*_, _≤_, _<_};
+ghost use Prim.Native.Nat.{_≤_, _<_};
 ghost use lib.Dec.{leb};
 ghost use lib.ListN.{getD};
 ghost use Rattle.cutting.specs.Cutting.{mostBlocks};

@@ -14,7 +14,7 @@ use pass_survey::survey_map;
 use refusals::STRAY_LABEL;
 use refusals::TABLE_FULL;
 ghost use mathlib.Core.Path.{_≡_};
-ghost use Prim.Native.Nat.{_+_, _*_, _≤_};
+ghost use Prim.Native.Nat.{_+_, _≤_};
 ghost use lib.Dec.{ltb};
 ghost use Rattle.joiner.specs.Calls.{full};
 ghost use Rattle.job.specs.JobState.{byKind, anyCuts, jobOf};

@@ -283,6 +283,12 @@ module _ {f : ℕ → Bool} {base w n q : ℕ} (T : Tests f base w n q) where
       let i : suc (suc x) ≡ x + 2 = omega arith in
       rw (r, T .at x h, eq-eqb n (x % 2 + q) e, s, skip (suc x) (λ _ d. omega arith), i)
 
+-- The first cell of a line is at its end at the latest.
+pub first-within : (n q w : ℕ) → 0 < w → firstX n q w ≤ w
+unfolding firstX
+first-within n q w h =
+    by-test (eqb n q) (λ t. rw t (omega arith)) (λ t. rw t (by-test (eqb n (suc q)) (λ u. rw u (omega arith)) (λ u. rw u (omega arith))))
+
 -- Each cell at an even distance from the first one, s, has n odd axes.
 pub line-odd : (n q w : ℕ) {s x : ℕ} → s ≡ firstX n q w → s ≤ x → x % 2 ≡ s % 2 → x < w → (s ≡ x % 2) × (n ≡ x % 2 + q)
 unfolding firstX

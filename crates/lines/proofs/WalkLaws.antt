@@ -19,7 +19,7 @@ use Rattle.cells.proofs.ExtentLaws.{cells-high}
 use Rattle.lines.specs.Lines.{lineCount, lineY, lineZ, firstX, Strided, LineAt, StridedAt}
 use Rattle.lines.specs.declared.Line.{Line}
 use Rattle.lines.specs.declared.StridedLine.{StridedLine}
-use Rattle.lines.proofs.LineLaws.{cells-lines, next-line, line-order, line-inside, line-odd, line-strides, Tests, line-start, line-next, line-end, order-tests}
+use Rattle.lines.proofs.LineLaws.{cells-lines, next-line, line-order, line-inside, line-odd, line-strides, Tests, line-start, line-next, line-end, order-tests, first-within}
 
 -- A line ends within the grid, and its positions are small.
 pub line-room : (e : Triple) {l : ℕ} → l < lineCount e → l * sides e .x + sides e .x ≤ cells e
@@ -71,6 +71,10 @@ module _ {e : Triple} {n l : ℕ} {r : Line} (L : LineAt e n l r) where
 
   pub walk-ends : Sized 64 e → l < lineCount e → r .base + r .width ≤ 2048383
   walk-ends s k = rw (L .base, L .width) (line-fits s k)
+
+  pub walk-begins : Sized 64 e → l < lineCount e → r .base + r .start ≤ 2048383
+  unfolding sides
+  walk-begins s k = omega (arith, L .start, L .width, first-within n (lineY e l + lineZ e l) (2 * e .x - 1) (omega (arith, s .x-low)), walk-ends s k)
 
   -- The cell at x lies in the grid, at a position that is small.
   module _ (x : ℕ) (h : x < r .width) where

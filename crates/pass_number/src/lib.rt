@@ -69,23 +69,12 @@ fn number_line(
     let n = 3 - j;
     let s = strided_line(nx, ny, nz, n, l);
     let line = s.line;
+    let end = line.base + line.width;
     let mut t = total;
-    let mut x = line.start;
-    while x < line.width {
-        t = number_at(
-            map,
-            nx,
-            ny,
-            nz,
-            n,
-            line.base + x,
-            s.first,
-            line.width,
-            s.last,
-            links,
-            t,
-        );
-        x += 2;
+    let mut p = line.base + line.start;
+    while p < end {
+        t = number_at(map, nx, ny, nz, n, p, s.first, line.width, s.last, links, t);
+        p += 2;
     }
     t
 }

@@ -12,7 +12,7 @@ use text_tray::put_count;
 use text_tray::put_spaced;
 use union_find::clear;
 ghost use mathlib.Core.Path.{_≡_};
-ghost use Prim.Native.Nat.{_+_, _-_, _<_, _≤_};
+ghost use Prim.Native.Nat.{_<_, _≤_};
 ghost use lib.ListN.{length, take};
 ghost use Rattle.lists.specs.Lists.{consecutive, zeros};
 ghost use Rattle.cells.specs.Box.{triple};

@@ -18,7 +18,7 @@ use Rattle.joiner.specs.Declines.{adds, declines, lentTo, refusal, standsFor, t
 use Rattle.joiner.specs.Outcomes.{CallStep, rowTaken}
 use Rattle.joiner.proofs.Passed.{Passed, passed, fits-at, numbered-fits}
 use Rattle.job.specs.declared.Job.{Job}
-use Rattle.job.specs.JobState.{jobOf, numberedOf, stateOf, anyCuts}
+use Rattle.job.specs.JobState.{jobOf, numberedTally, stateOf, anyCuts}
 use Rattle.judge.specs.Judge.{lengthsOf}
 use Rattle.judge.proofs.JudgeLaws.{lent-is, late-none, step-refused, step-accepted}
 use Rattle.reading_row.specs.declared.Kind.{Kind}
@@ -89,10 +89,10 @@ module _ (j : Job) (kind : Kind) (n : ℕ) (faces curves points : List ℕ) (cx 
     call-facts = passed before call (refusal-is ∙ acc)
 
     some : 0 < n
-    some = ltb-true 0 n (and-first (ltb 0 n) (leb n (numberedOf j (kindOf kind))) (call-facts .placed-in))
+    some = ltb-true 0 n (and-first (ltb 0 n) (leb n (numberedTally j (kindOf kind))) (call-facts .placed-in))
 
     most : n ≤ before .job .told .entries (kindOf kind)
-    most = omega (arith, leb-true n (numberedOf j (kindOf kind)) (and-second (ltb 0 n) (leb n (numberedOf j (kindOf kind))) (call-facts .placed-in)), numbered-fits (before .job) (call-facts .tallies) (kindOf kind))
+    most = omega (arith, leb-true n (numberedTally j (kindOf kind)) (and-second (ltb 0 n) (leb n (numberedTally j (kindOf kind))) (call-facts .placed-in)), numbered-fits (before .job) (call-facts .tallies) (kindOf kind))
 
     long : (κ : joiner.Kind) → length (before .tables .listed κ) ≡ width κ * before .job .told .entries κ
     unfolding listedTrays

@@ -11,7 +11,7 @@ use Rattle.joiner.specs.Job.{Closed, Tables, sameStage, width, lengthsFit}
 use Rattle.joiner.specs.Job as joiner
 use Rattle.joiner.specs.Declines.{talliesFit}
 use Rattle.job.specs.declared.Job.{Job}
-use Rattle.job.specs.JobState.{byKind, stageOf, jobOf, numberedOf}
+use Rattle.job.specs.JobState.{byKind, stageOf, jobOf, numberedTally}
 use Rattle.job.specs.Lent.{noTables, rowLent}
 use Rattle.judge.specs.declared.CallName.{CallName}
 use Rattle.judge.specs.declared.Lengths.{Lengths}
@@ -33,7 +33,7 @@ unfoldable pub refusalOf : Job → Kind → ℕ → Lengths → ℕ
 refusalOf j kind n z =
     cond (offSize 1024 (triple (j .nx) (j .ny) (j .nz))) 1
     (cond (not (sameStage (stageOf (j .stage)) Closed)) 3
-    (cond (not (ltb 0 n && leb n (numberedOf j (kindOf kind)))) 4
+    (cond (not (ltb 0 n && leb n (numberedTally j (kindOf kind)))) 4
     (cond (not (lengthsFit (lentBy CallName.Row 0 (entriesOf j) z))) 6 (cond (not (talliesFit (jobOf j [] [] []))) 8 0))))
 
 -- The table of a kind.

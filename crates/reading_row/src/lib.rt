@@ -20,7 +20,7 @@ ghost use Prim.Native.Nat.{_-_, _*_, _≤_, _<_};
 ghost use lib.ListN.{length, take, drop};
 ghost use Rattle.joiner.specs.Calls.{reading, answer};
 ghost use Rattle.joiner.specs.Outcomes.{CallStep};
-ghost use Rattle.job.specs.JobState.{anyCuts, numberedOf, stateOf};
+ghost use Rattle.job.specs.JobState.{anyCuts, numberedTally, stateOf};
 ghost use Rattle.reading_row.specs.Inner.{kindOf, lent, refusalOf, HasRow, rowIn};
 
 // What the tables hold.
@@ -32,7 +32,7 @@ pub enum Kind {
 
 // How many of a kind are numbered.
 fn numbered(job: Job, kind: Kind) -> u32
-    ensures { λ r. ⌜ r ≡ numberedOf job (kindOf kind) ⌝ }
+    ensures { λ r. ⌜ r ≡ numberedTally job (kindOf kind) ⌝ }
 {
     match kind {
         Kind::Face => job.numbered_faces,

@@ -8,7 +8,7 @@ use joiner::POINT_TICK;
 use joiner::TICKS_PER_BLOCK;
 ghost use mathlib.Core.Path.{_≡_};
 ghost use mathlib.Core.Bool.{not, _||_};
-ghost use Prim.Native.Nat.{suc, _+_, _*_, _≤_, _<_};
+ghost use Prim.Native.Nat.{suc, _+_, _≤_, _<_};
 ghost use lib.Dec.{ltb};
 ghost use lib.ListN.{length};
 ghost use Rattle.cutting.specs.Cutting.{intervals, mostBlocks, FewBlocks};

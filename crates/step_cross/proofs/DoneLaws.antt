@@ -21,7 +21,8 @@ use Rattle.joiner.proofs.Kept.{found-kept, numbers-kept}
 use Rattle.pass_cross.proofs.MergeLaws.{crossing-merged}
 use Rattle.kind_numbers.proofs.NumberedLaws.{numbered-kind}
 use Rattle.job.specs.declared.Job.{Job}
-use Rattle.job.specs.JobState.{byKind, sofarOf, jobOf, jobWith, stateOf, toldOf}
+use Rattle.job.specs.JobState.{byKind, sofarTally, jobOf, stateOf, toldOf}
+use Rattle.job.specs.JobWith.{jobWith}
 use Rattle.job.specs.JobState as job
 use Rattle.judge.specs.Judge.{lengthsOf, entryOf}
 use Rattle.stages.proofs.AdvancedLaws.{ticked-by, numbered-kept}
@@ -116,7 +117,7 @@ module _ (s : State) (b : ℕ) (m : List ℕ) where
 
 -- The job with so many faces and curves numbered.
 abbrev numberedJob : Job → Totals → Job
-numberedJob q r = jobWith q (q .stage) (sofarOf q) (byKind (r .faces) (r .curves) (q .«numbered_points»))
+numberedJob q r = jobWith q (q .stage) (sofarTally q) (byKind (r .faces) (r .curves) (q .«numbered_points»))
 
 module _ (j : Job) (cx cy cz ticks ticks′ table fl fl′ cl cl′ fk ck fr cr fn cn ff cf fs cs : List ℕ) (b : ℕ) (m : List ℕ) (q : Job)
     (J : CurvesJoined j cx cy cz ticks ticks′ table fl fl′ cl cl′ b m q) (t : Bool) (e : t ≡ sameStage (job.stageOf (q .stage)) Points) where

@@ -9,7 +9,8 @@ use Rattle.joiner.specs.Calls.{point}
 use Rattle.joiner.specs.Declines.{adds, refusal}
 use Rattle.kind_numbers.specs.Numbered.{Numbered}
 use Rattle.job.specs.declared.Job.{Job}
-use Rattle.job.specs.JobState.{byKind, sofarOf, jobWith, stageOf, stateOf}
+use Rattle.job.specs.JobState.{byKind, sofarTally, stageOf, stateOf}
+use Rattle.job.specs.JobWith.{jobWith}
 use Rattle.job.specs.Lent.{noTables, pointLent}
 
 -- The tables that a point step is lent. The others go unread.
@@ -23,7 +24,7 @@ pub record Ready (j : Job) (cx cy cz : List ℕ) (t : Tables) (b : ℕ) (m : Lis
 
 -- The job with so many points numbered.
 abbrev pub withNumbered : Job → ℕ → Job
-withNumbered j total = jobWith j (j .stage) (sofarOf j) (byKind (j .«numbered_faces») (j .«numbered_curves») total)
+withNumbered j total = jobWith j (j .stage) (sofarTally j) (byKind (j .«numbered_faces») (j .«numbered_curves») total)
 
 -- What holds of all tables with these keys and rows of points.
 abbrev pub anyPoints : List ℕ → List ℕ → (Tables → Type 0) → Type 0

@@ -15,7 +15,7 @@ use kind_numbers::number_copied;
 use pass_point::store_points;
 use stages::advance;
 ghost use mathlib.Core.List.{[]};
-ghost use Prim.Native.Nat.{_+_, _*_, _≤_};
+ghost use Prim.Native.Nat.{_*_, _≤_};
 ghost use lib.ListN.{length};
 ghost use Rattle.joiner.specs.Calls.{point, answer};
 ghost use Rattle.joiner.specs.Outcomes.{PointDone, CallStep};

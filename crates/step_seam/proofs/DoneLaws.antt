@@ -8,13 +8,12 @@ use native.Mathlib.Nat.{le-refl}
 use native.Mathlib.Omega.{arith}
 use lib.ListN.{length}
 use Rattle.lists.proofs.Cases.{and-first, and-second}
-use Rattle.refusals.specs.Refusals.{first}
 use Rattle.closure.specs.Joined.{joins}
 use Rattle.union_find.specs.Links.{root, Rooted}
 use Rattle.cells.specs.Extents.{Sized}
 use Rattle.labels.specs.Components.{largest}
 use Rattle.labels.proofs.CountLaws.{largest-bound}
-use Rattle.cutting.specs.Cutting.{Cutting, blocks, blockExtents, FewBlocks}
+use Rattle.cutting.specs.Cutting.{Cutting, blockExtents, FewBlocks}
 use Rattle.joiner.specs.Job.{Kind, Face, Curve, Point, State, orderOf, fromOf, blockTrays, linkTrays, ticksPerBlock}
 use Rattle.joiner.specs.Stages.{seamAxis, seamStep}
 use Rattle.joiner.specs.Calls.{join, answer}

@@ -11,7 +11,7 @@ use lib.ListN.{length}
 use borrow.Author.Tests.{eqb-false, eqb-true}
 use Rattle.lists.specs.Lists.{overlay}
 use Rattle.cells.specs.Grid.{order}
-use Rattle.cutting.specs.Cutting.{Cutting, blockExtents, blocks}
+use Rattle.cutting.specs.Cutting.{Cutting, blockExtents}
 use Rattle.joiner.specs.Job.{Kind, Face, Curve, Point, orderOf, Stage, Points, Closed, sameStage, Told, Tables, State, ticked, blockTrays, linkTrays, foundTrays, numberTrays, firstTrays, listedTrays, kindTrays, firstAt}
 use Rattle.joiner.specs.Stages.{nextAfter}
 use Rattle.joiner.specs.Calls.{Call, enrol, join, cross, point, look, reading}
@@ -199,16 +199,16 @@ module _ (s : State) (b : ℕ) (m : List ℕ) (F : Passed s (point b m)) where
       (omega (arith, point-sizes .firsts, r)) (omega (arith, point-sizes .listed, r))
 
   -- the state after the step, with such numbers, first positions and rows, and so many of each kind
-  abbrev listing : (Kind → List ℕ) → (Kind → List ℕ) → (Kind → List ℕ) → (Kind → ℕ) → State
-  listing numbers firsts listed many =
+  abbrev withClosed : (Kind → List ℕ) → (Kind → List ℕ) → (Kind → List ℕ) → (Kind → ℕ) → State
+  withClosed numbers firsts listed many =
       let t = pointTables s b m in
       moved s (point b m) (record { ticks = t .ticks; blocks = t .blocks; links = t .links; keys = t .keys; rows = t .rows; numbers = numbers; firsts = firsts; listed = listed }) many
 
-  point-listing : (numbers firsts listed : Kind → List ℕ) (many : Kind → ℕ) → let t = listing numbers firsts listed many in
+  point-with : (numbers firsts listed : Kind → List ℕ) (many : Kind → ℕ) → let t = withClosed numbers firsts listed many in
       KeptNumbers s t Face → KeptNumbers s t Curve → (stage₃ ≡ Closed → NumberedKind s t Point (s .job .sofar Point + adds s (point b m) Point)) → (stage₃ ≢ Closed → KeptNumbers s t Point)
       → PointDone s b m t
   unfolding moved instead pointTables ticked
-  point-listing numbers firsts listed many f c last before = record {
+  point-with numbers firsts listed many f c last before = record {
     step = record { told = refl; ticks = refl; stage = refl; sofar = λ κ. refl };
     blocks = refl;
     face-links = refl;
@@ -225,14 +225,14 @@ module _ (s : State) (b : ℕ) (m : List ℕ) (F : Passed s (point b m)) where
   unfolding pointLast moved numberKind instead pointTables
   point-last e =
       let t = pointLast s b m in
-      point-listing (t .tables .numbers) (t .tables .firsts) (t .tables .listed) (t .job .numbered) (numbers-kept refl refl) (numbers-kept refl refl)
+      point-with (t .tables .numbers) (t .tables .firsts) (t .tables .listed) (t .job .numbered) (numbers-kept refl refl) (numbers-kept refl refl)
       (λ _. points-numbered) (λ q. absurd (q (is-stage stage₃ Closed e)))
 
   point-before : sameStage stage₃ Closed ≡ false → PointDone s b m (moved s (point b m) (pointTables s b m) (s .job .numbered))
   unfolding moved pointTables
   point-before e =
       let t = s .tables in
-      point-listing (t .numbers) (t .firsts) (t .listed) (s .job .numbered) (numbers-kept refl refl) (numbers-kept refl refl)
+      point-with (t .numbers) (t .firsts) (t .listed) (s .job .numbered) (numbers-kept refl refl) (numbers-kept refl refl)
       (λ q. absurd (not-stage stage₃ Closed e q)) (λ _. numbers-kept refl refl)
 
   point-done : PointDone s b m (acceptedState s (point b m))

@@ -16,7 +16,7 @@ use Rattle.lists.proofs.Lists.{keep-out}
 use Rattle.lists.proofs.Tests.{keep-same}
 use Rattle.cells.specs.Box.{Triple}
 use Rattle.cells.specs.Extents.{offSize}
-use Rattle.cells.specs.Grid.{sides, cells, order, upperNeighbours, voxel}
+use Rattle.cells.specs.Grid.{cells, order, upperNeighbours, voxel}
 use Rattle.cells.specs.Row.{row}
 use Rattle.cells.proofs.GridLaws.{Upper, upper-neighbour}
 use Rattle.labels.specs.Components.{ofOrder, component}

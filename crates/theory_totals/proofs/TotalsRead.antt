@@ -22,7 +22,6 @@ use Rattle.labels.specs.Components.{component, ofOrder}
 use Rattle.labels.proofs.ComponentLaws.{of-order-out}
 use Rattle.cutting.specs.Cutting.{Cutting, blocks, goodCut, blockExtents}
 use Rattle.joiner.specs.Book.{Book, begun, turned, uncut}
-use Rattle.joiner.specs.Declines.{refusal}
 use Rattle.joiner.specs.Job.{Closed, Face, State, Told, sameStage}
 use Rattle.joiner.specs.Stages.{local, lowestBlock}
 use Rattle.joiner.specs.Statement.{Labelling}
