@@ -35,6 +35,7 @@ NAMES = re.compile(r'\s*' + WORDS + r'(let )?((?:[^\s:({})=λ.→]+ )+): ')
 USE = re.compile(r'^(ghost |)use ([^;\n]+);?\s*$', re.M)
 WORD = re.compile(r'(?<=\.\.)\w+|(?<![^\s()\[\]{},;λ])[^\s()\[\]{},;λ.][^\s()\[\]{},;λ]*|\[\]')
 BINDER = re.compile(r'(?:\n|[({;]|\bpub|\babbrev|\bunfoldable|\blet) *$')
+LET = re.compile(r'\blet (\S+) = ')
 CHAIN = re.compile(r'(?:\s\.before\)*){5}')
 ASKED = re.compile(r'\s*(?:pub )?\S+ : (?:tie\.|\{M : Type 1\} → statement M)')
 
@@ -102,7 +103,7 @@ def uses(text):
             yield re.split(r'\.|::', word.group().lstrip('!&') or word.group())[0]
 
 
-def idle(path, text):
+def idle(text):
     """The names that are imported and not used: of a `ghost use`, in no contract."""
     rest = USE.sub('', text)
     contracts = ' '.join(re.findall(r'⌜(.*?)⌝', rest, re.S))
@@ -111,13 +112,16 @@ def idle(path, text):
         names = re.search(r'\{([^}]*)\}$', item)
         for name in names.group(1).split(',') if names else re.split(r'::| as ', item)[-1:]:
             name = name.split(' as ')[-1].strip()
-            parts = name.split('_') if '_' in name[:1] + name[-1:] else []
+            parts = [part for part in name.split('_') if part] if '_' in name[:1] + name[-1:] else []
             if not used[ghost] & {name, *parts}:
                 yield f'{name} is imported and not used'
 
 
 def defined(path, homes):
     for line, block in lines_of(path):
+        for n in LET.findall(line):
+            if homes.get(n, set()) & CORE:
+                yield f'{n} is a symbol of {", ".join(sorted(homes[n]))} and is a local here'
         kind, names = TYPE.match(line), NAMES.match(line)
         if ASKED.match(line) or not (kind or names):
             continue
@@ -170,7 +174,7 @@ def main():
     for path, text in sources():
         texts.setdefault(path.split('/')[1], []).append(text)
         faults = list(imported(text, homes)) + (list(defined(path, homes)) if path.endswith('.antt') else [])
-        faults += list(idle(path, text))
+        faults += list(idle(text))
         faults += ['a chain of .before is longer than four: name a place on the way by let'] if CHAIN.search(text) else []
         for fault in faults:
             print(f'{path}: {fault}')

@@ -166,9 +166,9 @@ module _ (j : Job) (cx cy cz ticks ticks′ table fl fl′ cl cl′ fk ck fr cr 
 
     pub done-last : not t ≡ false → CrossingDone before b m closed
     done-last n =
-        let T = step-done fn′ cn′ ff′ cf′ fs′ cs′ in
+        let advanced = step-done fn′ cn′ ff′ cf′ fs′ cs′ in
         record {
-          step = record { told = T .told; ticks = T .ticks; stage = T .stage; sofar = T .sofar };
+          step = record { told = advanced .told; ticks = advanced .ticks; stage = advanced .stage; sofar = advanced .sofar };
           blocks = refl;
           faces = J .crossed .kept;
           curves = curves-merged;

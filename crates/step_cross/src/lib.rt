@@ -4,8 +4,6 @@ use job::Stage;
 use job::same_stage;
 use judge::KindLengths;
 use judge::Lengths;
-use judge::NO_KIND_LENGTHS;
-use judge::NO_LENGTHS;
 use judge_cross::judge_crossing;
 use store_cross::join_curves;
 use store_cross::number_both;
@@ -122,34 +120,33 @@ pub fn crossing(
         links: KindLengths {
             faces: face_links.len(),
             curves: curve_links.len(),
-            ..NO_KIND_LENGTHS
+            points: 0,
         },
         keys: KindLengths {
             faces: face_keys.len(),
             curves: curve_keys.len(),
-            ..NO_KIND_LENGTHS
+            points: 0,
         },
         rows: KindLengths {
             faces: face_rows.len(),
             curves: curve_rows.len(),
-            ..NO_KIND_LENGTHS
+            points: 0,
         },
         numbers: KindLengths {
             faces: face_numbers.len(),
             curves: curve_numbers.len(),
-            ..NO_KIND_LENGTHS
+            points: 0,
         },
         firsts: KindLengths {
             faces: face_firsts.len(),
             curves: curve_firsts.len(),
-            ..NO_KIND_LENGTHS
+            points: 0,
         },
         listed: KindLengths {
             faces: face_listed.len(),
             curves: curve_listed.len(),
-            ..NO_KIND_LENGTHS
+            points: 0,
         },
-        ..NO_LENGTHS
     };
     let number = judge_crossing(
         job,

@@ -65,8 +65,8 @@ loop-again c =
     let test = called .before .before .before in
     let turn = test .before .before in
     let i = turn .loop .inv in
-    let T = below-tests _ _ _ (entry turn .pre .1) in
-    let rest = cells-next (turn .before .before .strided-line .ensures .line) T (i .0) (test .if1 .taken) in
+    let below = below-tests _ _ _ (entry turn .pre .1) in
+    let rest = cells-next (turn .before .before .strided-line .ensures .line) below (i .0) (test .if1 .taken) in
     (walk-next (i .0), left-fewer _ (rw rest at (i .1)) (called .join-at .ensures))
 
 same-length : tie.Need-same-length Inv-loop μ-loop
@@ -76,8 +76,8 @@ returns : tie.Need-returns Inv-loop μ-loop
 unfolding edgesAt sides
 returns c =
     let turn = c .before .before in
-    let T = below-tests _ _ _ (entry turn .pre .1) in
-    left-none (rw (cells-last (turn .before .before .strided-line .ensures .line) T (c .if1 .left)) at (turn .loop .inv .1))
+    let below = below-tests _ _ _ (entry turn .pre .1) in
+    left-none (rw (cells-last (turn .before .before .strided-line .ensures .line) below (c .if1 .left)) at (turn .loop .inv .1))
 
 pub join-line-spec : {M : Type 1} → statement M
 join-line-spec =
