@@ -146,8 +146,9 @@ isVoxel e p = eqb (order e p) 3
 abbrev pub voxelsOn : Triple → ℕ → List ℕ
 voxelsOn e l = keep (isVoxel e) (consecutive (l * sides e .x) (sides e .x))
 
-abbrev pub someZero : (ℕ → ℕ) → List ℕ → Bool
-someZero f ps = someOf (λ p. eqb (f p) 0) ps
+-- Whether f is v at one of these places.
+abbrev pub someEqual : (ℕ → ℕ) → ℕ → List ℕ → Bool
+someEqual f v ps = someOf (λ p. eqb (f p) v) ps
 
 voxel-tests : (e : Triple) (l : ℕ) → Tests (isVoxel e) (l * sides e .x) (sides e .x) 0 (lineY e l + lineZ e l)
 voxel-tests e l = order-tests e 3 l (omega arith)
@@ -156,16 +157,16 @@ voxel-tests e l = order-tests e 3 l (omega arith)
 pub record CellsAsked (f : ℕ → ℕ) (e : Triple) (l : ℕ) (r : Line) (b : Bool) (x : ℕ) : Type 0 where
   pub told : LineAt e 0 l r
   pub walking : Walking e 0 l x
-  pub rest : b ≡ someZero f (ahead (isVoxel e) r x)
+  pub rest : b ≡ someEqual f 0 (ahead (isVoxel e) r x)
 
 -- b is the answer for the grid, and the voxels from line l on give it.
 pub record LinesAsked (f : ℕ → ℕ) (e : Triple) (b : Bool) (l : ℕ) : Type 0 where
-  pub rest : b ≡ someZero f (onwards (isVoxel e) e l)
+  pub rest : b ≡ someEqual f 0 (onwards (isVoxel e) e l)
 
 -- At the first voxel, at one with 0, at another, and past the last.
 module _ {f : ℕ → ℕ} {e : Triple} {l : ℕ} {r : Line} where
-  pub cells-asked-first : LineAt e 0 l r → CellsAsked f e l r (someZero f (voxelsOn e l)) (r .start)
-  cells-asked-first L = record { told = L; walking = walk-first L; rest = ap (someZero f) (cells-first L (voxel-tests e l)) }
+  pub cells-asked-first : LineAt e 0 l r → CellsAsked f e l r (someEqual f 0 (voxelsOn e l)) (r .start)
+  cells-asked-first L = record { told = L; walking = walk-first L; rest = ap (someEqual f 0) (cells-first L (voxel-tests e l)) }
 
   module _ {b : Bool} {x : ℕ} (A : CellsAsked f e l r b x) where
     pub cells-asked-found : {v : ℕ} → x < r .width → v ≡ f (r .base + x) → v ≡ 0 → true ≡ b
@@ -183,11 +184,11 @@ module _ {f : ℕ → ℕ} {e : Triple} {l : ℕ} {r : Line} where
 
 -- At the first line, at one with such a voxel, at another, and past the last. There are n lines, and t is what line l answers.
 module _ {f : ℕ → ℕ} {e : Triple} where
-  pub lines-asked-first : LinesAsked f e (someZero f (keep (isVoxel e) (consecutive 0 (cells e)))) 0
-  lines-asked-first = record { rest = ap (someZero f) (lines-first (isVoxel e) e) }
+  pub lines-asked-first : LinesAsked f e (someEqual f 0 (keep (isVoxel e) (consecutive 0 (cells e)))) 0
+  lines-asked-first = record { rest = ap (someEqual f 0) (lines-first (isVoxel e) e) }
 
   module _ {b : Bool} {l n : ℕ} (A : LinesAsked f e b l) (c : n ≡ lineCount e) where
-    module _ {t : Bool} (h : l < n) (u : t ≡ someZero f (voxelsOn e l)) where
+    module _ {t : Bool} (h : l < n) (u : t ≡ someEqual f 0 (voxelsOn e l)) where
       pub lines-asked-found : t ≡ true → true ≡ b
       lines-asked-found z = some-part _ (voxelsOn e l) _ (A .rest) (lines-next (isVoxel e) e (omega arith)) (sym z ∙ u)
 

@@ -29,6 +29,7 @@ use Rattle.records.specs.Fields.{fieldAt}
 use Rattle.records.specs.Record.{extentsOf, originOf, bitAt, bitsBefore, bitmapLength, numberOf, decodeRecord, lengthOf, damaged}
 use Rattle.records.proofs.BitLaws.{bits-more}
 use Rattle.records.proofs.ReadLaws.{bits-mono}
+use Rattle.lines.proofs.WalkLaws.{someEqual}
 use Rattle.reader.specs.declared.Head.{Head}
 use Rattle.reader.specs.Parts.{Mapped, ReadTo, numberAt}
 use Rattle.reader.specs.Loaded.{headed, declines, refusalOf, outcome, headOf, accepted, refused, reading}
@@ -44,16 +45,13 @@ or-next t b d e h q = rw (sym e ∙ h) q
 
 -- ---- a loop that asks whether f is v at one of the places up to n
 
-abbrev pub some-equal : (ℕ → ℕ) → ℕ → List ℕ → Bool
-some-equal f v ps = someOf (λ p. eqb (f p) v) ps
-
 -- b is the answer, and the places from i on give it.
 pub record PlacesAsked (f : ℕ → ℕ) (v n : ℕ) (b : Bool) (i : ℕ) : Type 0 where
-  pub rest : b ≡ some-equal f v (consecutive i (n - i))
+  pub rest : b ≡ someEqual f v (consecutive i (n - i))
 
 -- At the first of k places, at one with v, at another, and past the last.
 module _ {f : ℕ → ℕ} {v n : ℕ} where
-  pub places-asked-first : {i k : ℕ} → k ≡ n - i → PlacesAsked f v n (some-equal f v (consecutive i k)) i
+  pub places-asked-first : {i k : ℕ} → k ≡ n - i → PlacesAsked f v n (someEqual f v (consecutive i k)) i
   places-asked-first e = record { rest = rw e }
 
   module _ {b : Bool} {i : ℕ} (A : PlacesAsked f v n b i) where

@@ -4,13 +4,13 @@ use native.Mathlib.Omega.{arith}
 use borrow.Author.Needs.{needs}
 use Rattle.cells.specs.Box.{triple}
 use Rattle.cells.specs.Grid.{sides}
-use Rattle.lines.proofs.WalkLaws.{voxelsOn, someZero, CellsAsked, walk-inside, walk-sum, walk-step, cells-asked-first, cells-asked-found, cells-asked-next, cells-asked-last}
+use Rattle.lines.proofs.WalkLaws.{voxelsOn, someEqual, CellsAsked, walk-inside, walk-sum, walk-step, cells-asked-first, cells-asked-found, cells-asked-next, cells-asked-last}
 use Rattle.records.specs.Record.{bitAt, bitmapLength}
 use Rattle.reader.proofs.line_clear.Statement.{statement}
 use Rattle.reader.proofs.line_clear.Tie as tie
 
 abbrev Inv-loop : tie.InvT-loop
-Inv-loop bytes nx ny nz l line x₀ x = let e = triple nx ny nz in CellsAsked (bitAt bytes) e l line (someZero (bitAt bytes) (voxelsOn e l)) x
+Inv-loop bytes nx ny nz l line x₀ x = let e = triple nx ny nz in CellsAsked (bitAt bytes) e l line (someEqual (bitAt bytes) 0 (voxelsOn e l)) x
 
 abbrev μ-loop : tie.MeasureT-loop
 μ-loop bytes nx ny nz l line x₀ x = line .width - x

@@ -5,12 +5,13 @@ use native.Mathlib.Omega.{arith}
 use borrow.Author.Needs.{needs}
 use Rattle.lists.specs.Lists.{consecutive}
 use Rattle.records.specs.Record.{bitAt, bitmapLength}
-use Rattle.reader.proofs.LoadedLaws.{some-equal, PlacesAsked, places-asked-first, places-asked-found, places-asked-next, places-asked-last}
+use Rattle.lines.proofs.WalkLaws.{someEqual}
+use Rattle.reader.proofs.LoadedLaws.{PlacesAsked, places-asked-first, places-asked-found, places-asked-next, places-asked-last}
 use Rattle.reader.proofs.spare_set.Statement.{statement}
 use Rattle.reader.proofs.spare_set.Tie as tie
 
 abbrev Inv-loop : tie.InvT-loop
-Inv-loop bytes n end c₀ c = PlacesAsked (bitAt bytes) 1 end (some-equal (bitAt bytes) 1 (consecutive n (end - n))) c
+Inv-loop bytes n end c₀ c = PlacesAsked (bitAt bytes) 1 end (someEqual (bitAt bytes) 1 (consecutive n (end - n))) c
 
 abbrev μ-loop : tie.MeasureT-loop
 μ-loop bytes n end c₀ c = end - c

@@ -4,13 +4,13 @@ use borrow.Author.Needs.{needs}
 use Rattle.cells.specs.Box.{triple}
 use Rattle.cells.specs.Grid.{sides}
 use Rattle.labels.specs.Components.{ofOrder}
-use Rattle.lines.proofs.WalkLaws.{someZero, LinesAsked, lines-asked-first, lines-asked-found, lines-asked-next, lines-asked-last}
+use Rattle.lines.proofs.WalkLaws.{someEqual, LinesAsked, lines-asked-first, lines-asked-found, lines-asked-next, lines-asked-last}
 use Rattle.records.specs.Record.{bitAt}
 use Rattle.reader.proofs.voxel_clear.Statement.{statement}
 use Rattle.reader.proofs.voxel_clear.Tie as tie
 
 abbrev Inv-loop : tie.InvT-loop
-Inv-loop bytes nx ny nz lines l₀ l = let e = triple nx ny nz in LinesAsked (bitAt bytes) e (someZero (bitAt bytes) (ofOrder e 3)) l
+Inv-loop bytes nx ny nz lines l₀ l = let e = triple nx ny nz in LinesAsked (bitAt bytes) e (someEqual (bitAt bytes) 0 (ofOrder e 3)) l
 
 abbrev μ-loop : tie.MeasureT-loop
 μ-loop bytes nx ny nz lines l₀ l = lines - l

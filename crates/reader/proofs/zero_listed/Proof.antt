@@ -4,14 +4,15 @@ use native.Mathlib.Omega.{arith}
 use borrow.Author.Needs.{needs}
 use Rattle.lists.specs.Lists.{consecutive}
 use Rattle.records.specs.Fields.{fieldAt}
-use Rattle.reader.proofs.LoadedLaws.{some-equal, PlacesAsked, places-asked-first, places-asked-found, places-asked-next, places-asked-last}
+use Rattle.lines.proofs.WalkLaws.{someEqual}
+use Rattle.reader.proofs.LoadedLaws.{PlacesAsked, places-asked-first, places-asked-found, places-asked-next, places-asked-last}
 use Rattle.reader.proofs.zero_listed.Statement.{statement}
 use Rattle.reader.proofs.zero_listed.Tie as tie
 
 abbrev Inv-loop : tie.InvT-loop
 Inv-loop bytes at count k₀ k =
     let number : ℕ → ℕ = λ i. fieldAt bytes (at + 4 * i) 4 in
-    PlacesAsked number 0 count (some-equal number 0 (consecutive 0 count)) k
+    PlacesAsked number 0 count (someEqual number 0 (consecutive 0 count)) k
 
 abbrev μ-loop : tie.MeasureT-loop
 μ-loop bytes at count k₀ k = count - k

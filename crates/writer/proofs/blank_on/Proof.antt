@@ -5,12 +5,12 @@ use lib.ListN.{getD}
 use borrow.Author.Needs.{needs}
 use Rattle.cells.specs.Box.{triple}
 use Rattle.cells.specs.Grid.{sides}
-use Rattle.lines.proofs.WalkLaws.{voxelsOn, someZero, CellsAsked, walk-sum, walk-step, walk-read, cells-asked-first, cells-asked-found, cells-asked-next, cells-asked-last}
+use Rattle.lines.proofs.WalkLaws.{voxelsOn, someEqual, CellsAsked, walk-sum, walk-step, walk-read, cells-asked-first, cells-asked-found, cells-asked-next, cells-asked-last}
 use Rattle.writer.proofs.blank_on.Statement.{statement}
 use Rattle.writer.proofs.blank_on.Tie as tie
 
 abbrev Inv-loop : tie.InvT-loop
-Inv-loop map nx ny nz l line x₀ x = let e = triple nx ny nz in CellsAsked (λ p. getD map p 0) e l line (someZero (λ p. getD map p 0) (voxelsOn e l)) x
+Inv-loop map nx ny nz l line x₀ x = let e = triple nx ny nz in CellsAsked (λ p. getD map p 0) e l line (someEqual (λ p. getD map p 0) 0 (voxelsOn e l)) x
 
 abbrev μ-loop : tie.MeasureT-loop
 μ-loop map nx ny nz l line x₀ x = line .width - x
