@@ -1,27 +1,13 @@
 //! Block records in plain Rust, written from document 01 and not from the proved code, with the same tests.
 
-/// Whether a test holds at every voxel cell of a block.
-fn every_voxel(extents: [u16; 3], mut test: impl FnMut(usize) -> bool) -> bool {
-    let sides = extents.map(|n| 2 * n as usize - 1);
-    for z in (0..sides[2]).step_by(2) {
-        for y in (0..sides[1]).step_by(2) {
-            let line = (z * sides[1] + y) * sides[0];
-            if !(0..sides[0]).step_by(2).all(|x| test(line + x)) {
-                return false;
-            }
-        }
-    }
-    true
-}
-
 fn cells(extents: [u16; 3]) -> usize {
     extents.iter().map(|&n| 2 * n as usize - 1).product()
 }
 
-/// The record of a map and its length, if the map has no 0 at a voxel and the tray is long enough.
+/// The record of a map and its length, if the tray is long enough.
 pub fn write(extents: [u16; 3], origin: [u16; 3], map: &[u32], out: &mut [u8]) -> Option<usize> {
     let length = 12 + map.len().div_ceil(8) + 4 * map.iter().filter(|&&v| v != 0).count();
-    if map.len() != cells(extents) || out.len() < length || !every_voxel(extents, |c| map[c] != 0) {
+    if map.len() != cells(extents) || out.len() < length {
         return None;
     }
     let mut at = 0;
@@ -52,10 +38,7 @@ pub fn read(record: &[u8], map: &mut [u32]) -> Option<([u16; 3], [u16; 3])> {
     let numbers = &record[12 + bits.len()..];
     let standing: usize = bits.iter().map(|b| b.count_ones() as usize).sum();
     let bit = |c: usize| bits[c / 8] >> (c % 8) & 1 == 1;
-    if numbers.len() != 4 * standing || (cells..8 * bits.len()).any(bit) || !every_voxel(extents, bit) {
-        return None;
-    }
-    if numbers.chunks_exact(4).any(|n| n == [0; 4]) || map.len() != cells {
+    if numbers.len() != 4 * standing || (cells..8 * bits.len()).any(bit) || numbers.chunks_exact(4).any(|n| n == [0; 4]) || map.len() != cells {
         return None;
     }
     let mut next = numbers.chunks_exact(4);

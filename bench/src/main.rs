@@ -7,7 +7,7 @@ mod volume;
 use plain::Counts;
 use std::time::Instant;
 use tugrelis::raw;
-use tugrelis::volumes::voronoi;
+use tugrelis::volumes::{drill, voronoi};
 
 const SIDE: usize = 64;
 const ROUNDS: usize = 11;
@@ -34,11 +34,15 @@ fn volumes() -> Vec<(&'static str, Vec<u32>)> {
     let n = SIDE * SIDE * SIDE;
     let mut random = Random(1);
     let seeds: Vec<[i64; 3]> = (0..60).map(|_| [0; 3].map(|_: i64| random.below(SIDE as u64) as i64)).collect();
+    let voronoi = voronoi([SIDE; 3], &seeds);
+    let mut core = voronoi.clone();
+    drill([SIDE; 3], &mut core);
     vec![
-        ("Voronoi, 60 seeds", voronoi([SIDE; 3], &seeds)),
+        ("Voronoi, 60 seeds", voronoi),
         ("random codes 1 to 3", (0..n).map(|_| 1 + random.below(3) as u32).collect()),
         ("all codes different", (1..=n as u32).collect()),
         ("one code", vec![7; n]),
+        ("Voronoi, drilled core", core),
     ]
 }
 

@@ -88,7 +88,7 @@ fn plainly(cutting: &Cutting, codes: &[u32], maps: &[(Block, Counts)]) -> (Times
         .collect();
     let mut job = Plain::new(cutting.extents.map(|n| n as usize), parts.len());
     let n = parts.len();
-    timed(&mut t.enrol, || (0..n).for_each(|b| assert!(job.enrol(b, &parts[b]))));
+    timed(&mut t.enrol, || (0..n).for_each(|b| job.enrol(b, &parts[b])));
     let seams = cutting.seams();
     let axis = |a: u32, b: u32| (0..3).find(|&i| cutting.origin(a as usize)[i] != cutting.origin(b as usize)[i]).expect("a seam");
     timed(&mut t.seam, || seams.iter().for_each(|&(a, b)| assert!(job.seam(a as usize, b as usize, axis(a, b), &parts[a as usize], &parts[b as usize]))));

@@ -11,7 +11,7 @@ pub fn cells(extents: [usize; 3]) -> usize {
 #[derive(Clone, PartialEq, Eq, Debug)]
 pub struct Block {
     pub extents: [u16; 3],
-    /// A number for each cell, x fastest: a voxel's code; a face's, curve's or point's number, 0 where inactive.
+    /// A number for each cell, x fastest: a voxel's code, 0 outside the specimen; a face's, curve's or point's number, 0 where inactive.
     pub map: Vec<u32>,
 }
 

@@ -300,7 +300,7 @@ impl Job {
         Ok(number)
     }
 
-    /// The row of a face, curve or point: two codes, four face numbers or six curve numbers, ascending, then zeros.
+    /// The row of a face, curve or point: two codes (one and 0 at the outside), four face numbers or six curve numbers, ascending, then zeros.
     pub fn row(&self, kind: Kind, number: u32) -> Result<[u32; 6], Refusal> {
         let (t, mut row) = (&self.tables, [0; 6]);
         let read = match kind {

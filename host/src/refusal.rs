@@ -1,4 +1,4 @@
-//! The twelve refusals.
+//! The refusals by number, name and sentence.
 use std::fmt;
 
 /// Makes the type of the refusals from their table.
@@ -12,7 +12,7 @@ macro_rules! refusals {
             Unknown(u32),
         }
 
-        /// All that the library gives, by number.
+        /// All of them, by number.
         pub const REFUSALS: [Refusal; [$($number),*].len()] = [$(Refusal::$name),*];
 
         impl Refusal {

@@ -39,7 +39,7 @@ pub struct Side {
     pub missing: u64,
 }
 
-/// The totals of a face, on the side of its lower code and on that of its higher code.
+/// The totals of a face, on the side of its lower code and on that of its higher code. The outside is the higher side, and has zeros.
 #[derive(Clone, Copy, PartialEq, Debug)]
 pub struct Totals {
     pub lower: Side,

@@ -1,4 +1,4 @@
-//! The volumes to try of document 01, and two more, each with a cutting.
+//! The volumes to try of document 01, two more, and some with zeros, each with a cutting.
 use crate::cutting::Cutting;
 
 /// A cut volume: its name, cutting and codes.
@@ -22,7 +22,7 @@ const HANDLE: [u32; 45] =
 /// A point that its block of 2×2×2 calls active is inactive in the volume.
 const RINGS: [u32; 32] = [1, 1, 1, 1, 1, 1, 1, 1, 1, 1, 1, 1, 1, 1, 1, 1, 2, 2, 2, 2, 2, 3, 2, 2, 2, 2, 3, 2, 2, 2, 2, 2];
 
-/// All of them, in the order of document 01.
+/// All of them: those of document 01 in its order, then those with zeros.
 pub fn volumes() -> Vec<Volume> {
     vec![
         volume("one voxel", [1, 1, 1], [&[0], &[0], &[0]], &[9]),
@@ -44,6 +44,19 @@ pub fn volumes() -> Vec<Volume> {
             codes[64] = 2;
             codes
         }),
+        volume("edge", [2, 1, 1], [&[0, 1], &[0], &[0]], &[5, 0]),
+        volume("apart", [2, 2, 1], [&[0, 1], &[0, 1], &[0]], &[1, 0, 0, 2]),
+        volume("space", [3, 3, 2], [&[0, 1, 2], &[0, 1, 2], &[0, 1]], &[0; 18]),
+        volume("hole", [3, 3, 3], [&[0, 1, 2], &[0, 1, 2], &[0, 1, 2]], &{
+            let mut codes = [1; 27];
+            codes[13] = 0;
+            codes
+        }),
+        volume("core", [4, 3, 3], [&[0, 2, 3], &[0, 1, 2], &[0, 1, 2]], &{
+            let mut codes = [0; 36];
+            (codes[17], codes[18]) = (5, 7);
+            codes
+        }),
     ]
 }
 
@@ -56,6 +69,17 @@ pub fn voronoi(extents: [usize; 3], seeds: &[[i64; 3]]) -> Vec<u32> {
         (0..seeds.len()).min_by_key(|&s| far(&seeds[s])).map_or(1, |s| s as u32 + 1)
     };
     (0..nx * ny * nz).map(nearest).collect()
+}
+
+/// Gives 0 to the voxels outside the widest upright cylinder: space around a core.
+pub fn drill([nx, ny, _]: [usize; 3], codes: &mut [u32]) {
+    // distances from the middle, in half voxels
+    let far = |at: usize, n: usize| (2 * at + 1).abs_diff(n).pow(2);
+    for (v, code) in codes.iter_mut().enumerate() {
+        if far(v % nx, nx) + far(v / nx % ny, ny) > nx.min(ny).pow(2) {
+            *code = 0;
+        }
+    }
 }
 
 /// So many seeds, spread over a volume: the same in every run.

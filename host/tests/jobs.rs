@@ -4,7 +4,7 @@ use reference::label::number;
 use reference::random::{cuts as random_cuts, reading, volume, Random};
 use tugrelis::joining::{block_codes, entries_for, label_blocks, run};
 use tugrelis::sheet::write_sheet;
-use tugrelis::volumes::{spread, volumes, voronoi, Volume};
+use tugrelis::volumes::{drill, spread, volumes, voronoi, Volume};
 use tugrelis::{Block, Counts, Cutting, Entries, Error, Job, Kind, Numbers, Reading, Readings, Refusal, Side, Stage, Totals, REFUSALS};
 
 fn cuts(c: &Cutting) -> Cuts {
@@ -64,10 +64,9 @@ fn what_is_declined() {
     assert_eq!(Block::label([0, 1, 1], &[]), Err(Refusal::OffSize));
     assert_eq!(Block::label([65, 1, 1], &[1; 65]), Err(Refusal::OffSize));
     assert_eq!(Block::label([2, 1, 1], &[1]), Err(Refusal::WrongTray));
-    assert_eq!(Block::label([2, 1, 1], &[1, 0]), Err(Refusal::BlankVoxel));
     let block = Block { extents: [1, 1, 1], map: vec![0] };
-    assert_eq!(block.record([0; 3]), Err(Refusal::StrayLabel));
-    assert_eq!(Block { map: vec![5], ..block }.record([1024, 0, 0]), Err(Refusal::OffSize));
+    assert_eq!(block.record([1024, 0, 0]), Err(Refusal::OffSize));
+    assert_eq!(Block { extents: [2, 1, 1], ..block }.record([0; 3]), Err(Refusal::WrongTray));
     let line = &volumes()[6];
     let (mut job, blocks) = closed(line, false);
     let map = |b: usize| &blocks[b].0.map[..];
@@ -75,7 +74,7 @@ fn what_is_declined() {
     assert_eq!(job.lookup(2, map(0), [0; 3]), Err(Refusal::NoSuchPlace));
     assert_eq!(job.lookup(0, map(0), [3, 0, 0]), Err(Refusal::NoSuchPlace));
     assert_eq!(job.lookup(0, &map(0)[1..], [0; 3]), Err(Refusal::WrongTray));
-    assert_eq!(job.lookup(0, &[1, 1, 0], [0; 3]), Err(Refusal::StrayLabel));
+    assert_eq!(job.lookup(0, &[1, 2, 2], [0; 3]), Err(Refusal::StrayLabel));
     let cutting = Cutting { extents: [65, 1, 1], lists: [vec![0, 64], vec![0], vec![0]] };
     assert_eq!(Job::open(cutting, Entries::default()).map(|_| ()), Err(Refusal::BadCut));
     let mut job = Job::open(line.cutting.clone(), Entries { faces: 1, curves: 0, points: 0 }).unwrap();
@@ -87,6 +86,26 @@ fn what_is_declined() {
     job.enrol(1, map(1)).unwrap();
     assert_eq!(job.seam((0, 1), &[1, 1, 3], map(1)), Err(Refusal::LayersDiffer));
     assert_eq!(job.seam((1, 0), map(0), map(1)), Err(Refusal::NoSuchPlace));
+}
+
+#[test]
+fn a_zero_voxel_is_outside() {
+    let (block, counts) = Block::label([2, 1, 1], &[5, 0]).unwrap();
+    assert_eq!((&block.map[..], counts), (&[5, 1, 0][..], Counts { faces: 1, curves: 0, points: 0 }));
+    let record = block.record([0; 3]).unwrap();
+    assert_eq!(record[12..], [3, 5, 0, 0, 0, 1, 0, 0, 0]);
+    // cut so that the second block has the outside only
+    let cutting = Cutting { extents: [3, 1, 1], lists: [vec![0, 1, 2], vec![0], vec![0]] };
+    let (mut job, blocks) = joined(cutting, &[5, 0, 0], false);
+    assert_eq!(job.row(Kind::Face, 1), Ok([5, 0, 0, 0, 0, 0]));
+    assert_eq!(job.lookup(1, &blocks[1].0.map, [4, 0, 0]), Ok(0));
+    let mut bring =
+        |b: usize, values: [f64; 2], kinds: [u8; 2]| job.strain(b as u32, &blocks[b].0.map, &Readings { values: values.into(), kinds: kinds.into() });
+    assert_eq!(bring(0, [1.5, 0.1], [0, 0]), Err(Refusal::BadReading));
+    assert_eq!(bring(0, [1.5, 2.0], [0, 0]), Ok(()));
+    assert_eq!(bring(1, [4.0, 8.0], [0, 1]), Ok(()));
+    let none = Side { sum: 0.0, strains: 0, clipped: 0, missing: 0 };
+    assert_eq!(job.total(1), Ok(Totals { lower: Side { sum: 1.5, strains: 1, ..none }, higher: none }));
 }
 
 /// A closed job of a volume, with its labelled blocks.
@@ -108,7 +127,7 @@ fn bits(t: Totals) -> [(u64, [u64; 3]); 2] {
 #[test]
 fn totals_under_ten_cuttings() {
     let mut random = Random::new(18);
-    for _ in 0..12 {
+    for _ in 0..24 {
         let extents = [0; 3].map(|_| 2 + random.below(7));
         let codes = volume(&mut random, extents);
         let all: Vec<(u64, u8)> = codes.iter().map(|_| reading(&mut random)).collect();
@@ -129,7 +148,11 @@ fn totals_under_ten_cuttings() {
             let totals: Vec<_> = (1..=job.counts().faces).map(|n| bits(job.total(n).unwrap())).collect();
             for (n, sides) in totals.iter().enumerate() {
                 let cells = (0..uncut.map.len()).filter(|&t| uncut.grid.order(t) == 2 && uncut.map[t] as usize == n + 1).count() as u64;
-                sides.iter().for_each(|(_, counts)| assert_eq!(counts.iter().sum::<u64>(), cells));
+                for (code, (sum, counts)) in uncut.components[2][n].row.iter().zip(sides) {
+                    // a reading for each cell, and none of the outside
+                    assert_eq!(counts.iter().sum::<u64>(), if *code == 0 { 0 } else { cells });
+                    assert!(*code != 0 || *sum == 0);
+                }
             }
             assert_eq!(seen.get_or_insert(totals.clone()), &totals, "round {round}");
         }
@@ -312,4 +335,12 @@ fn seeds_are_spread() {
     }
     assert_eq!(voronoi([5, 1, 1], &[[4, 0, 0], [0, 0, 0]]), [2, 2, 1, 1, 1]);
     assert_eq!(voronoi([2, 1, 1], &[]), [1, 1]);
+}
+
+#[test]
+fn a_drilled_core() {
+    let mut codes = [9; 32];
+    drill([4, 4, 2], &mut codes);
+    assert_eq!(codes[..16], [0, 9, 9, 0, 9, 9, 9, 9, 9, 9, 9, 9, 0, 9, 9, 0]);
+    assert_eq!(codes[..16], codes[16..]);
 }

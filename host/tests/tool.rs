@@ -5,7 +5,7 @@ use std::fs;
 use std::os::unix::ffi::OsStrExt;
 use std::path::{Path, PathBuf};
 use std::process::{Command, Output};
-use tugrelis::volumes;
+use tugrelis::volumes::{drill, voronoi};
 
 /// A new folder for one test.
 fn folder(name: &str) -> PathBuf {
@@ -23,11 +23,13 @@ fn write_volume(path: &Path, codes: &[u32]) {
     fs::write(path, codes.iter().flat_map(|c| c.to_le_bytes()).collect::<Vec<u8>>()).unwrap();
 }
 
-/// A volume around random seeds.
-fn voronoi(extents: [usize; 3], seeds: usize, seed: u64) -> Vec<u32> {
+/// A core with space around it: a volume around random seeds, drilled.
+fn core(extents: [usize; 3], seeds: usize, seed: u64) -> Vec<u32> {
     let mut random = Random::new(seed);
     let seeds: Vec<[i64; 3]> = (0..seeds).map(|_| extents.map(|n| random.below(n) as i64)).collect();
-    volumes::voronoi(extents, &seeds)
+    let mut codes = voronoi(extents, &seeds);
+    drill(extents, &mut codes);
+    codes
 }
 
 /// The sheet without its cutting line.
@@ -39,7 +41,7 @@ fn without_cutting(sheet: &str) -> String {
 fn ten_cuttings_one_sheet() {
     let dir = folder("cuttings");
     let volume = dir.join("volume.raw");
-    write_volume(&volume, &voronoi([100, 100, 60], 40, 5));
+    write_volume(&volume, &core([100, 100, 60], 40, 5));
     let mut sheets = Vec::new();
     let lists = ["0,50,99", "0,13,40,80,99", "0,31,59"];
     for way in 0..10 {
@@ -66,7 +68,7 @@ fn ten_cuttings_one_sheet() {
 fn the_sheet_of_a_small_volume() {
     let dir = folder("small");
     let volume = dir.join("volume.raw");
-    let codes = voronoi([9, 7, 5], 6, 2);
+    let codes = core([9, 7, 5], 6, 2);
     write_volume(&volume, &codes);
     let out = dir.join("out");
     assert!(tool(&[volume.to_str().unwrap(), "9", "7", "5", out.to_str().unwrap(), "--size", "3"]).status.success());
@@ -101,10 +103,9 @@ fn fails(dir: &Path, words: &[&str], status: i32, message: &str) {
 #[test]
 fn failures_leave_nothing_behind() {
     let dir = folder("failures");
-    let (volume, blank) = (dir.join("volume.raw"), dir.join("blank.raw"));
+    let (volume, out) = (dir.join("volume.raw"), dir.join("out"));
     write_volume(&volume, &[1, 2, 3, 4, 5, 6, 7, 8]);
-    write_volume(&blank, &[1, 2, 3, 4, 5, 6, 7, 0]);
-    let (v, b, out) = (volume.to_str().unwrap(), blank.to_str().unwrap(), dir.join("out"));
+    let v = volume.to_str().unwrap();
     let o = out.to_str().unwrap();
     let missing = dir.join("missing.raw");
     for (words, message) in [
@@ -113,7 +114,6 @@ fn failures_leave_nothing_behind() {
         (vec![v, "2", "2", "0", o], "refused 1 (off size)"),
         (vec![v, "2000", "2", "2", o], "refused 1 (off size)"),
         (vec![v, "2", "2", "2", o, "--cut", "0,1", "0", "0,1"], "refused 2 (bad cut)"),
-        (vec![b, "2", "2", "2", o], "blank.raw, block 0: refused 7 (blank voxel)"),
         (vec![v, "2", "2", "2", dir.to_str().unwrap()], "exists already"),
         (vec![v, "2", "2", "2", "/dev/null/out"], "/dev/null/out"),
     ] {

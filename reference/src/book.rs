@@ -239,14 +239,12 @@ impl Book {
         }
     }
 
-    /// Whether a map has 0 at a voxel or, its block enrolled, a number above the block's count.
+    /// Whether a map has, its block enrolled, a number above the block's count.
     pub(crate) fn stray(&self, block: usize, map: &[u32]) -> bool {
         let grid = self.cutting.grid(block);
-        let limit = self.maps[block].as_ref().map(|kept| counts(&grid, kept));
-        (0..map.len()).any(|p| match grid.order(p) {
-            3 => map[p] == 0,
-            j => limit.is_some_and(|l| map[p] > l[2 - j]),
-        })
+        let Some(kept) = &self.maps[block] else { return false };
+        let (found, limit) = (counts(&grid, map), counts(&grid, kept));
+        (0..3).any(|k| found[k] > limit[k])
     }
 
     /// Whether a code differs on the layer of a seam, or a cell is active on one side only.
@@ -318,17 +316,17 @@ impl Book {
     fn codes(&self) -> Vec<u32> {
         let volume = Grid::new(self.cutting.extents);
         let [nx, ny, _] = volume.extents;
-        let mut codes = vec![0; volume.voxels()];
+        let mut codes = vec![None; volume.voxels()];
         for block in 0..self.cutting.blocks() {
             let (grid, map) = (self.cutting.grid(block), self.maps[block].as_ref().expect("enrolled"));
             for p in (0..grid.voxels()).map(|v| grid.voxel(v)) {
                 let [x, y, z] = self.cutting.outside(block, p).map(|c| c / 2);
                 let code = &mut codes[x + y * nx + z * nx * ny];
-                assert!(*code == 0 || *code == map[p], "maps agree once the seams are done");
-                *code = map[p];
+                assert!(code.is_none_or(|found| found == map[p]), "maps agree once the seams are done");
+                *code = Some(map[p]);
             }
         }
-        codes
+        codes.into_iter().map(|code| code.expect("each voxel is in a block")).collect()
     }
 }
 
@@ -350,7 +348,7 @@ fn counts(grid: &Grid, map: &[u32]) -> [u32; 3] {
 mod tests {
     use super::*;
     use crate::random::{cuts, volume, Random};
-    use crate::volumes::{columns, figure, handle, line, rings};
+    use crate::volumes::{columns, core, figure, handle, hole, line, rings, space};
 
     fn block_maps(cutting: &Cutting, codes: &[u32]) -> Vec<Vec<u32>> {
         (0..cutting.blocks()).map(|b| number(cutting.grid(b).extents, &cutting.codes(b, codes)).map).collect()
@@ -432,6 +430,16 @@ mod tests {
     }
 
     #[test]
+    fn volumes_with_zeros() {
+        let (cutting, codes) = space();
+        assert_eq!(closes(&cutting, &codes), [0; 3]);
+        let (cutting, codes) = hole();
+        assert_eq!(closes(&cutting, &codes), [1, 0, 0]);
+        let (cutting, codes) = core();
+        assert_eq!(closes(&cutting, &codes), [3, 1, 0]);
+    }
+
+    #[test]
     fn random_cut_volumes() {
         let mut random = Random::new(3);
         for _ in 0..100 {
@@ -455,7 +463,6 @@ mod tests {
         ask(Call::Row { kind: Kind::Face, number: 1 }, refused(3));
         ask(Call::Enrol { block: 2, map: first }, refused(4));
         ask(Call::Enrol { block: 1, map: &[2, 1] }, refused(6));
-        ask(Call::Enrol { block: 1, map: &[2, 1, 0] }, refused(8));
         ask(Call::Enrol { block: 1, map: &[2, 3, 1] }, refused(10));
         ask(Call::Enrol { block: 1, map: &[2, 2, 1] }, Answer::Free);
         ask(Call::Enrol { block: 1, map: second }, Answer::Done);
@@ -467,6 +474,7 @@ mod tests {
         }
         ask(Call::Seam { blocks: (0, 1), maps: (&[1, 2, 2], second) }, refused(8));
         ask(Call::Seam { blocks: (0, 1), maps: (&[1, 1, 3], second) }, refused(9));
+        ask(Call::Seam { blocks: (0, 1), maps: (&[1, 1, 0], second) }, refused(9));
         ask(Call::Seam { blocks: (0, 1), maps: (&[1, 0, 2], second) }, Answer::Free);
         ask(seam((0, 1)), Answer::Done);
         ask(seam((0, 1)), refused(3));
@@ -480,7 +488,8 @@ mod tests {
         ask(Call::Lookup { block: 1, map: second, cell: [1, 0, 0] }, refused(4));
         ask(Call::Lookup { block: 0, map: &[1], cell: [5, 0, 0] }, refused(4));
         ask(Call::Lookup { block: 0, map: &[1], cell: [1, 0, 0] }, refused(6));
-        ask(Call::Lookup { block: 0, map: &[0, 1, 2], cell: [2, 0, 0] }, refused(8));
+        ask(Call::Lookup { block: 0, map: &[1, 2, 2], cell: [2, 0, 0] }, refused(8));
+        ask(Call::Lookup { block: 0, map: &[0, 1, 2], cell: [2, 0, 0] }, Answer::Free);
         ask(Call::Row { kind: Kind::Face, number: 2 }, Answer::Row(vec![1, 2]));
         ask(Call::Row { kind: Kind::Face, number: 3 }, refused(4));
         ask(Call::Row { kind: Kind::Face, number: 0 }, refused(4));

@@ -29,13 +29,9 @@ pub fn write(head: &Head, map: &[u32], tray: &mut [u8]) -> Result<usize, u32> {
     if off_size(head) {
         return Err(OFF_SIZE);
     }
-    let grid = grid(head);
     let record = bytes_of(head, map);
-    if map.len() != grid.cells() || tray.len() < record.len() {
+    if map.len() != grid(head).cells() || tray.len() < record.len() {
         return Err(WRONG_TRAY);
-    }
-    if (0..grid.voxels()).any(|v| map[grid.voxel(v)] == 0) {
-        return Err(STRAY_LABEL);
     }
     tray[..record.len()].copy_from_slice(&record);
     Ok(record.len())
@@ -53,21 +49,19 @@ pub fn read(bytes: &[u8], map: &mut [u32]) -> Result<Head, u32> {
     if off_size(&head) {
         return Err(OFF_SIZE);
     }
-    let grid = grid(&head);
-    if map.len() != grid.cells() {
+    if map.len() != grid(&head).cells() {
         return Err(WRONG_TRAY);
     }
-    let found = numbers(&grid, &bytes[12..]).ok_or(BAD_RECORD)?;
+    let found = numbers(map.len(), &bytes[12..]).ok_or(BAD_RECORD)?;
     map.copy_from_slice(&found);
     Ok(head)
 }
 
-/// The map that bits and numbers give; none where they break a rule.
-fn numbers(grid: &Grid, body: &[u8]) -> Option<Vec<u32>> {
-    let cells = grid.cells();
+/// The map of so many cells that bits and numbers give; none where they break a rule.
+fn numbers(cells: usize, body: &[u8]) -> Option<Vec<u32>> {
     let (bits, rest) = body.split_at_checked(cells.div_ceil(8))?;
     let stands = |p: usize| bits[p / 8] >> (p % 8) & 1 == 1;
-    if (cells..8 * bits.len()).any(stands) || !(0..grid.voxels()).all(|v| stands(grid.voxel(v))) {
+    if (cells..8 * bits.len()).any(stands) {
         return None;
     }
     let standing: Vec<usize> = (0..cells).filter(|&p| stands(p)).collect();
@@ -115,6 +109,19 @@ mod tests {
     }
 
     #[test]
+    fn zero_voxels() {
+        for (map, body) in [([5, 1, 0], &[3, 5, 0, 0, 0, 1, 0, 0, 0][..]), ([0, 1, 5], &[6, 1, 0, 0, 0, 5, 0, 0, 0]), ([0; 3], &[0])] {
+            let record = [&[2, 0, 1, 0, 1, 0, 7, 0, 8, 0, 9, 0], body].concat();
+            let mut tray = vec![0xee; record.len()];
+            assert_eq!(write(&HEAD, &map, &mut tray), Ok(record.len()));
+            assert_eq!(tray, record);
+            let mut back = [9; 3];
+            assert_eq!(read(&record, &mut back), Ok(HEAD));
+            assert_eq!(back, map);
+        }
+    }
+
+    #[test]
     fn damaged_records() {
         let good = record();
         let changed = |at: usize, v: u8| {
@@ -134,7 +141,6 @@ mod tests {
         assert_eq!(refused(&changed(7, 4), 3), OFF_SIZE);
         assert_eq!(refused(&changed(12, 0x0d), 3), BAD_RECORD);
         assert_eq!(refused(&changed(12, 0x85), 3), BAD_RECORD);
-        assert_eq!(refused(&changed(12, 6), 3), BAD_RECORD);
         assert_eq!(refused(&changed(13, 0), 3), BAD_RECORD);
     }
 
@@ -147,9 +153,7 @@ mod tests {
         assert_eq!(write(&[64, 1, 1, 65535, 0, 0], &[3], &mut tray), Err(OFF_SIZE));
         assert_eq!(write(&HEAD, &[1, 1], &mut tray), Err(WRONG_TRAY));
         assert_eq!(write(&HEAD, &[1, 0, 1], &mut tray[..20]), Err(WRONG_TRAY));
-        assert_eq!(write(&HEAD, &[1, 1, 0], &mut tray), Err(STRAY_LABEL));
         assert_eq!(write(&[1, 1, 1, 0, 0, 0], &[0], &mut tray[..12]), Err(WRONG_TRAY));
-        assert_eq!(write(&[1, 1, 1, 0, 0, 0], &[0], &mut tray[..13]), Err(STRAY_LABEL));
         assert_eq!(tray, [1; 21]);
         assert_eq!(write(&[1, 1, 1, 1023, 0, 0], &[3], &mut tray), Ok(17));
     }

@@ -25,7 +25,7 @@ impl Labelling {
     }
 }
 
-/// Numbers a volume. There is one code for each voxel, x fastest, and none is 0.
+/// Numbers a volume. There is one code for each voxel, x fastest; 0 is outside the specimen.
 pub fn number(extents: Extents, codes: &[u32]) -> Labelling {
     let grid = Grid::new(extents);
     assert_eq!(codes.len(), grid.voxels());
@@ -77,8 +77,7 @@ pub fn is_labelling(extents: Extents, map: &[u32]) -> bool {
     if map.len() != grid.cells() {
         return false;
     }
-    let codes = codes_of(&grid, map);
-    codes.iter().all(|&c| c != 0) && number(extents, &codes).map == map
+    number(extents, &codes_of(&grid, map)).map == map
 }
 
 /// The largest number of an order in a map.
@@ -94,9 +93,6 @@ pub fn label(codes: &[u32], extents: [u16; 3], map: &mut [u32], work: &mut [u32]
     let grid = Grid::new(extents.map(usize::from));
     if codes.len() != grid.voxels() || map.len() != grid.cells() || work.len() != grid.cells() {
         return Err(WRONG_TRAY);
-    }
-    if codes.contains(&0) {
-        return Err(BLANK_VOXEL);
     }
     let labelling = number(grid.extents, codes);
     map.copy_from_slice(&labelling.map);

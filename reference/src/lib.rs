@@ -15,7 +15,7 @@ pub mod table;
 #[cfg(test)]
 mod volumes;
 
-/// The numbers of "What the service declines".
+/// The numbers of "What the service declines". 7 is no longer given.
 pub mod refusal {
     pub const OFF_SIZE: u32 = 1;
     pub const BAD_CUT: u32 = 2;
@@ -23,7 +23,6 @@ pub mod refusal {
     pub const NO_SUCH_PLACE: u32 = 4;
     pub const DONE_ALREADY: u32 = 5;
     pub const WRONG_TRAY: u32 = 6;
-    pub const BLANK_VOXEL: u32 = 7;
     pub const STRAY_LABEL: u32 = 8;
     pub const LAYERS_DIFFER: u32 = 9;
     pub const TABLE_FULL: u32 = 10;

@@ -26,9 +26,6 @@ fn request(text: &[u8]) -> Result<([usize; 3], Vec<u32>), u32> {
     if codes.len() != extents.iter().product::<usize>() {
         return Err(BAD_RECORD);
     }
-    if codes.contains(&0) {
-        return Err(BLANK_VOXEL);
-    }
     Ok((extents, codes))
 }
 
@@ -68,7 +65,7 @@ mod tests {
     }
 
     #[test]
-    fn refused_texts() {
+    fn texts_at_the_edge() {
         for text in ["", " \n ", "9 1", "0 x 1", "9 1 1x", "4294967296 1 1 5", "00000000001 1 1 5", "2 1 1 0", "2 1 1 1 2 3"] {
             assert_eq!(printed(text.as_bytes()), "refused 11\n", "{text:?}");
         }
@@ -78,9 +75,9 @@ mod tests {
         for text in ["9 1 1 x", "0 1 1", "1 1 4294967295", "8 8 9 1 2 3", "0000000000 1 1 1"] {
             assert_eq!(printed(text.as_bytes()), "refused 1\n", "{text:?}");
         }
-        for text in ["1 1 1 0", "2 1 1 0 4", "1 1 1 0000000000"] {
-            assert_eq!(printed(text.as_bytes()), "refused 7\n", "{text:?}");
+        for text in ["1 1 1 4294967295", "1 1 1 0", "1 1 1 0000000000"] {
+            assert_eq!(printed(text.as_bytes()), "faces 0 curves 0 points 0\n", "{text:?}");
         }
-        assert_eq!(printed(b"1 1 1 4294967295"), "faces 0 curves 0 points 0\n");
+        assert_eq!(printed(b"2 1 1 0 4"), "faces 1 curves 0 points 0\nf 1 1 0 0 4 0\n");
     }
 }

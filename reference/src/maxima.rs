@@ -4,7 +4,7 @@ use crate::label::number;
 use crate::random::{volume, Random};
 use crate::refusal::OFF_SIZE;
 
-/// Blocks of up to so many voxels are all tried: 4,140 of eight voxels.
+/// Blocks of up to so many voxels are all tried: 21,147 of eight voxels.
 const ALL: usize = 8;
 
 /// The entry: the numbers of face, curve and point cells of a block, or a refusal.
@@ -50,12 +50,12 @@ pub fn search(random: &mut Random, extents: [u16; 3]) -> [u32; 3] {
     most
 }
 
-/// Every way to give codes to the voxels: a voxel has the code of one before it, or the next new one.
+/// Every way to give codes to the voxels: a voxel has 0, the code of one before it, or the next new one.
 fn each_grouping(codes: &mut Vec<u32>, voxels: usize, attempt: &mut impl FnMut(&[u32])) {
     if codes.len() == voxels {
         return attempt(codes);
     }
-    for code in 1..=codes.iter().max().map_or(1, |&last| last + 1) {
+    for code in 0..=codes.iter().max().map_or(1, |&last| last + 1) {
         codes.push(code);
         each_grouping(codes, voxels, attempt);
         codes.pop();
@@ -84,6 +84,6 @@ mod tests {
     fn all_groupings() {
         let mut count = 0;
         each_grouping(&mut vec![], ALL, &mut |_| count += 1);
-        assert_eq!(count, 4140);
+        assert_eq!(count, 21_147);
     }
 }

@@ -58,8 +58,28 @@ pub fn bad_reading(random: &mut Random) -> (u64, u8) {
     }
 }
 
-/// The codes of a random volume, none of them 0.
+/// The codes of a random volume: without zeros, or with a few, mostly zeros, zeros around a core, or zeros for one of its codes.
 pub fn volume(random: &mut Random, extents: Extents) -> Vec<u32> {
+    let mut codes = segments(random, extents);
+    match random.below(8) {
+        0..=2 => {}
+        3 => codes.iter_mut().filter(|_| random.once_in(6)).for_each(|code| *code = 0),
+        4 => codes.iter_mut().filter(|_| !random.once_in(4)).for_each(|code| *code = 0),
+        5 | 6 => {
+            let grid = Grid::new(extents);
+            let hull = |v: usize| grid.place(grid.voxel(v)).into_iter().zip(grid.sides()).any(|(c, side)| side > 3 && (c == 0 || c == side - 1));
+            (0..codes.len()).filter(|&v| hull(v)).for_each(|v| codes[v] = 0);
+        }
+        _ => {
+            let outside = random.pick(&codes);
+            codes.iter_mut().filter(|code| **code == outside).for_each(|code| *code = 0);
+        }
+    }
+    codes
+}
+
+/// The codes of a random volume, none of them 0.
+fn segments(random: &mut Random, extents: Extents) -> Vec<u32> {
     let names = names(random);
     let code = |k: usize| names[k % names.len()];
     let grid = Grid::new(extents);
@@ -108,7 +128,7 @@ pub fn damage(random: &mut Random, record: &mut Vec<u8>, extents: Extents) {
     if record.len() < 12 + bits {
         return;
     }
-    let clear = |record: &mut Vec<u8>, p: usize| record[12 + p / 8] &= !(1 << (p % 8));
+    let listed = (record.len() - 12 - bits) / 4;
     match random.below(11) {
         0 => {
             let at = random.below(record.len());
@@ -130,17 +150,21 @@ pub fn damage(random: &mut Random, record: &mut Vec<u8>, extents: Extents) {
             let p = cells + random.below(8 * bits - cells);
             record[12 + p / 8] |= 1 << (p % 8);
         }
-        // the bit of a voxel; the length is right or not
+        // the bit of a voxel; the length goes with it or not
         8 => {
             let p = grid.voxel(random.below(grid.voxels()));
-            clear(record, p);
+            let bit = 1 << (p % 8);
+            record[12 + p / 8] ^= bit;
             if random.once_in(2) {
-                record.truncate(record.len() - 4);
+                if record[12 + p / 8] & bit == 0 {
+                    record.truncate(record.len() - 4);
+                } else {
+                    record.extend([7; 4]);
+                }
             }
         }
         // a listed number
-        9 => {
-            let listed = (record.len() - 12 - bits) / 4;
+        9 if listed > 0 => {
             let at = 12 + bits + 4 * random.below(listed);
             record[at..at + 4].fill(0);
         }

@@ -128,13 +128,14 @@ impl ReadingBook {
         if number == 0 || number as usize > uncut.components[2].len() {
             return Answer::Refused(NO_SUCH_PLACE);
         }
+        let row = uncut.components[2][number as usize - 1].row;
         let (mut sums, mut counts) = ([0; 2], [[0; 3]; 2]);
         for t in (0..uncut.map.len()).filter(|&t| uncut.grid.order(t) == 2 && uncut.map[t] == number) {
             let block = book.cutting().lowest(uncut.grid.place(t));
             let (values, kinds) = self.lists[block].as_ref().expect("all have come");
-            let [low, high] = uncut.grid.above(t)[..] else { unreachable!() };
-            let lower = usize::from(uncut.map[low] > uncut.map[high]);
-            for (voxel, side) in [(low, lower), (high, 1 - lower)] {
+            // the outside is the higher side, and none of its readings is counted
+            for voxel in uncut.grid.above(t).into_iter().filter(|&voxel| uncut.map[voxel] != 0) {
+                let side = usize::from(uncut.map[voxel] != row[0]);
                 let p = book.cutting().inside(block, uncut.grid.place(voxel)).expect("the block has the face cell, so it has its voxels");
                 let v = book.cutting().grid(block).voxel_at(p);
                 counts[side][usize::from(kinds[v])] += 1;
@@ -281,7 +282,10 @@ impl State<'_> {
 #[cfg(test)]
 mod tests {
     use super::*;
-    use crate::random::Random;
+    use crate::book::Call;
+    use crate::cutting::Cutting;
+    use crate::label::number;
+    use crate::random::{cuts, reading, volume, Random};
 
     #[test]
     fn floats_by_their_bits() {
@@ -302,6 +306,67 @@ mod tests {
         }
         assert_eq!(units(8_796_093_022_208f64.to_bits(), SUM), Some(SUM));
         assert_eq!(units(8_796_093_022_208.002f64.to_bits(), SUM), None);
+    }
+
+    /// The book of a closed job, and the maps of its blocks.
+    fn closed(cutting: &Cutting, codes: &[u32]) -> (Book, Vec<Vec<u32>>) {
+        let maps: Vec<Vec<u32>> = (0..cutting.blocks()).map(|b| number(cutting.grid(b).extents, &cutting.codes(b, codes)).map).collect();
+        let mut book = Book::open(cutting.clone(), [u32::MAX; 3]).unwrap();
+        let blocks = || maps.iter().enumerate();
+        blocks().for_each(|(block, map)| assert_eq!(book.call(&Call::Enrol { block, map }), Answer::Done));
+        for (a, b) in cutting.seams() {
+            assert_eq!(book.call(&Call::Seam { blocks: (a, b), maps: (&maps[a], &maps[b]) }), Answer::Done);
+        }
+        blocks().for_each(|(block, map)| assert_eq!(book.call(&Call::Crossing { block, map }), Answer::Done));
+        blocks().for_each(|(block, map)| assert_eq!(book.call(&Call::Point { block, map }), Answer::Done));
+        (book, maps)
+    }
+
+    #[test]
+    fn the_outside_is_not_counted() {
+        let cutting = Cutting { extents: [3, 1, 1], cuts: [vec![0, 1, 2], vec![0], vec![0]] };
+        let (book, maps) = closed(&cutting, &[0, 7, 5]);
+        let mut readings = ReadingBook::new(2);
+        let strain = |units: i128| (float(units), 0);
+        let mut bring = |block: usize, lists: [(u64, u8); 2]| {
+            let (values, kinds): (Vec<u64>, Vec<u8>) = lists.into_iter().unzip();
+            readings.strain(&book, block, &maps[block], Lists { values: &values, kinds: &kinds })
+        };
+        assert_eq!(bring(0, [strain(STRAIN + 1), strain(3)]), Answer::Refused(BAD_READING));
+        assert_eq!(bring(0, [strain(STRAIN), strain(3)]), Answer::Done);
+        assert_eq!(bring(1, [(0, 1), strain(-4)]), Answer::Done);
+        let side = |units: i128, counts: [u64; 3]| Side { sum: float(units), counts };
+        assert_eq!(readings.total(&book, 1), Answer::Totals([side(3, [1, 0, 0]), Side::default()]));
+        assert_eq!(readings.total(&book, 2), Answer::Totals([side(-4, [1, 0, 0]), side(0, [0, 1, 0])]));
+    }
+
+    #[test]
+    fn a_reading_per_cell_and_side() {
+        let mut random = Random::new(4);
+        let mut outside = 0;
+        for _ in 0..100 {
+            let extents = [0; 3].map(|_| 1 + random.below(4));
+            let cutting = Cutting { extents, cuts: extents.map(|n| cuts(&mut random, n)) };
+            let (book, maps) = closed(&cutting, &volume(&mut random, extents));
+            let mut readings = ReadingBook::new(maps.len());
+            for (block, map) in maps.iter().enumerate() {
+                let (values, kinds): (Vec<u64>, Vec<u8>) = (0..cutting.grid(block).voxels()).map(|_| reading(&mut random)).unzip();
+                assert_eq!(readings.strain(&book, block, map, Lists { values: &values, kinds: &kinds }), Answer::Done);
+            }
+            let uncut = book.uncut();
+            for (n, face) in (1..).zip(&uncut.components[2]) {
+                let cells = (0..uncut.map.len()).filter(|&t| uncut.grid.order(t) == 2 && uncut.map[t] == n).count() as u64;
+                let Answer::Totals([lower, higher]) = readings.total(&book, n) else { panic!("a total of face {n}") };
+                assert_eq!(lower.counts.iter().sum::<u64>(), cells);
+                if face.row[1] == 0 {
+                    outside += 1;
+                    assert_eq!(higher, Side::default());
+                } else {
+                    assert_eq!(higher.counts.iter().sum::<u64>(), cells);
+                }
+            }
+        }
+        assert!(outside > 50, "{outside}");
     }
 
     #[test]

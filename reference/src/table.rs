@@ -38,7 +38,7 @@ pub struct State<'a> {
 pub enum Stray {
     /// A tally is above its table's entries.
     Tally,
-    /// A map has 0 at a voxel, or a number above its block's count.
+    /// A map has a number above its block's count.
     Map,
     /// The components of a block do not lie in their table.
     Place,
@@ -193,17 +193,15 @@ impl<'a> State<'a> {
 
     /// The map of a block, and what the block table says of it.
     pub(crate) fn stray_block(&self, block: usize, map: &[u32], enrolled: bool) -> Option<Stray> {
+        if !enrolled {
+            return None;
+        }
         let grid = self.cutting.grid(block);
-        let limit = |order: usize| if enrolled { self.tables.blocks[5 * block + 2 - order] } else { u32::MAX };
-        let bad = |p: usize| match grid.order(p) {
-            3 => map[p] == 0,
-            order => map[p] > limit(order),
-        };
-        if (0..map.len()).any(bad) {
+        if (0..3).any(|order| largest(&grid, map, order) > self.tables.blocks[5 * block + 2 - order]) {
             return Some(Stray::Map);
         }
         let outside = |kind: usize| self.part(kind, block).1 > u64::from(self.entries[kind]);
-        (enrolled && (outside(0) || outside(1))).then_some(Stray::Place)
+        (outside(0) || outside(1)).then_some(Stray::Place)
     }
 
     /// The places of a block's faces or curves in their table: from the first on, up to before the second.

@@ -1,4 +1,4 @@
-//! The volumes of "Volumes to try", and two that show document 003's step 4 at fault. Tests only.
+//! The volumes of "Volumes to try", two that show document 003's step 4 at fault, and some with zeros (document 02, item 4). Tests only.
 use crate::cutting::Cutting;
 use crate::grid::Row;
 use crate::label::{is_labelling, label, number};
@@ -28,6 +28,25 @@ pub fn handle() -> (Cutting, Vec<u32>) {
 pub fn rings() -> (Cutting, Vec<u32>) {
     let layers = [[1; 16], [2, 2, 2, 2, 2, 3, 2, 2, 2, 2, 3, 2, 2, 2, 2, 2]];
     (Cutting::finest([4, 4, 2]), layers.concat())
+}
+
+/// Zeros only, cut at every layer.
+pub fn space() -> (Cutting, Vec<u32>) {
+    (Cutting::finest([3, 3, 2]), vec![0; 18])
+}
+
+/// One code with a hole in the middle, which all eight blocks share.
+pub fn hole() -> (Cutting, Vec<u32>) {
+    let mut codes = vec![1; 27];
+    codes[13] = 0;
+    (Cutting::finest([3; 3]), codes)
+}
+
+/// Two voxels, codes 5 and 7, with space on all six sides.
+pub fn core() -> (Cutting, Vec<u32>) {
+    let mut codes = vec![0; 36];
+    (codes[17], codes[18]) = (5, 7);
+    (Cutting { extents: [4, 3, 3], cuts: [vec![0, 2, 3], vec![0, 1, 2], vec![0, 1, 2]] }, codes)
 }
 
 fn map(extents: [usize; 3], codes: &[u32]) -> Vec<u32> {
@@ -94,6 +113,38 @@ fn handle_and_rings() {
 }
 
 #[test]
+fn maps_with_zeros() {
+    assert_eq!(map([2, 1, 1], &[5, 0]), [5, 1, 0]);
+    assert_eq!(row([2, 1, 1], &[5, 0], 2, 1), [5, 0, 0, 0, 0, 0]);
+    let apart = [1, 0, 0, 2];
+    assert_eq!(map([2, 2, 1], &apart), [1, 1, 0, 1, 0, 2, 0, 2, 2]);
+    assert_eq!(counts([2, 2, 1], &apart), [2, 0, 0]);
+    assert_eq!([1, 2].map(|n| row([2, 2, 1], &apart, 2, n)), [[1, 0, 0, 0, 0, 0], [2, 0, 0, 0, 0, 0]]);
+    let (cutting, codes) = space();
+    assert_eq!(map(cutting.extents, &codes), [0; 75]);
+    assert_eq!(counts(cutting.extents, &codes), [0; 3]);
+}
+
+/// First cells and rows of an order.
+fn listed(extents: [usize; 3], codes: &[u32], order: usize) -> Vec<(usize, Row)> {
+    number(extents, codes).components[order].iter().map(|c| (c.first, c.row)).collect()
+}
+
+#[test]
+fn components_with_zeros() {
+    let (cutting, codes) = hole();
+    let labelling = number(cutting.extents, &codes);
+    assert_eq!(labelling.counts(), [1, 0, 0]);
+    assert_eq!(listed(cutting.extents, &codes, 2), [(37, [1, 0, 0, 0, 0, 0])]);
+    let faces = (0..labelling.map.len()).filter(|&p| labelling.grid.order(p) == 2 && labelling.map[p] == 1);
+    assert_eq!(faces.collect::<Vec<_>>(), [37, 57, 61, 63, 67, 87]);
+    let (cutting, codes) = core();
+    assert_eq!(counts(cutting.extents, &codes), [3, 1, 0]);
+    assert_eq!(listed(cutting.extents, &codes, 2), [(51, [5, 0, 0, 0, 0, 0]), (53, [7, 0, 0, 0, 0, 0]), (87, [5, 7, 0, 0, 0, 0])]);
+    assert_eq!(listed(cutting.extents, &codes, 1), [(52, [1, 2, 3, 0, 0, 0])]);
+}
+
+#[test]
 fn entry() {
     let (mut map, mut work) = ([8; 3], [8; 3]);
     assert_eq!(label(&[], [0, 1, 1], &mut [], &mut []), Err(1));
@@ -101,10 +152,11 @@ fn entry() {
     assert_eq!(label(&[0], [2, 1, 1], &mut map, &mut work), Err(6));
     assert_eq!(label(&[0, 1], [2, 1, 1], &mut map[..2], &mut work), Err(6));
     assert_eq!(label(&[0, 1], [2, 1, 1], &mut map, &mut work[..2]), Err(6));
-    assert_eq!(label(&[1, 0], [2, 1, 1], &mut map, &mut work), Err(7));
     assert_eq!((map, work), ([8; 3], [8; 3]));
     assert_eq!(label(&[1, 2], [2, 1, 1], &mut map, &mut work), Ok([1, 0, 0]));
     assert_eq!((map, work), ([1, 1, 2], [0; 3]));
+    assert_eq!(label(&[1, 0], [2, 1, 1], &mut map, &mut work), Ok([1, 0, 0]));
+    assert_eq!((map, work), ([1, 1, 0], [0; 3]));
     assert_eq!(label(&[5; 64], [1, 64, 1], &mut [1; 127], &mut [1; 127]), Ok([0; 3]));
 }
 
@@ -113,7 +165,8 @@ fn which_maps_a_labelling_leaves() {
     assert!(is_labelling([2, 1, 1], &[1, 1, 2]));
     assert!(!is_labelling([2, 1, 1], &[1, 2, 2]));
     assert!(!is_labelling([2, 1, 1], &[1, 0, 2]));
-    assert!(!is_labelling([2, 1, 1], &[0, 1, 2]));
+    assert!(is_labelling([2, 1, 1], &[0, 1, 2]));
+    assert!(!is_labelling([2, 1, 1], &[0, 0, 2]));
     assert!(!is_labelling([2, 1, 1], &[1, 1, 2, 0, 0]));
     // 15 cells either way: the shape decides
     let map = number([2, 3, 1], &[1, 2, 3, 4, 5, 6]).map;
@@ -145,7 +198,7 @@ fn trial() -> String {
     }
     text += &shown("1x1x65", &map);
     text += &shown("1x1x65", &work);
-    for (name, (cutting, codes)) in [("figure", figure()), ("handle", handle()), ("rings", rings())] {
+    for (name, (cutting, codes)) in [("figure", figure()), ("handle", handle()), ("rings", rings()), ("space", space()), ("hole", hole()), ("core", core())] {
         let cells = crate::grid::Grid::new(cutting.extents).cells();
         let (mut map, mut work) = (vec![5; cells], vec![5; cells]);
         text += &labelled(name, cutting.extents.map(|n| n as u16), &codes, &mut map, &mut work);

@@ -1,6 +1,5 @@
 -- The definitions of the crate, in reading order.
 pub mod Box
-pub mod Codes
 pub mod Extents
 pub mod Grid
 pub mod Steps

@@ -1,3 +1,2 @@
 -- The laws that callers cite.
 pub mod SizeLaws
-pub mod CodeLaws

@@ -1,9 +1,8 @@
-// Extents against their limit and codes against 0, for every public entry that is told some.
+// Extents against their limit, for every public entry that is told some.
 ghost use mathlib.Core.Path.{_≡_};
 ghost use Prim.Native.Nat.{_+_};
 ghost use lib.Dec.{ltb};
 ghost use Rattle.cells.specs.Box.{triple};
-ghost use Rattle.cells.specs.Codes.{blank};
 ghost use Rattle.cells.specs.Extents.{Sized, isExtent, offSize, offPlace};
 ghost use Rattle.cells.specs.Grid.{cells};
 
@@ -68,18 +67,4 @@ pub fn cell_count(nx: u32, ny: u32, nz: u32) -> u64
     ensures { λ r. ⌜ r ≡ cells (triple nx ny nz) ⌝ }
 {
     grid_cells(nx as usize, ny as usize, nz as usize) as u64
-}
-
-// Whether a code is 0.
-pub fn has_blank(codes: &[u32]) -> bool
-    ensures { λ r. ⌜ r ≡ blank (now (codes .entry)) ⌝ }
-{
-    let mut i: usize = 0;
-    while i < codes.len() {
-        if codes[i] == 0 {
-            return true;
-        }
-        i += 1;
-    }
-    false
 }

@@ -19,7 +19,7 @@ use Rattle.labels.specs.Components.{componentRow, firstCell, largest}
 use Rattle.cutting.specs.Cutting.{Cutting, blockExtents, blocks, embed, goodCut, seam}
 use Rattle.joiner.specs.Book.{Book, bookAdds, bookDeclines, bookEarly, earlyCases, bookRefusal, bringsOwn, uncutCount}
 use Rattle.joiner.specs.Calls.{Call, cross, differs, enrol, full, join, layersDiffer, look, mapsFit, overfull, placed, point, reading, repeated, stageOf}
-use Rattle.joiner.specs.Declines.{adds, allLinksStand, counted, curvesStand, cutFor, declines, filled, lastCrossing, lentTo, linksStand, lookStands, mapStands, refusal, rowsStand, standing, standsFor, stray, talliesFit, tallyFits}
+use Rattle.joiner.specs.Declines.{adds, allLinksStand, counted, curvesStand, cutFor, declines, lastCrossing, lentTo, linksStand, lookStands, mapStands, refusal, rowsStand, standing, standsFor, stray, talliesFit, tallyFits}
 use Rattle.joiner.specs.Outcomes.{AtCrossing, AtSeam, enrolledRow, shifted}
 use Rattle.joiner.specs.Job.{Closed, Crossing, Curve, Enrol, Face, Kind, Point, Points, Seam, Stage, State, Told, countOf, firstAt, lengthsFit, fromOf, node, orderOf, sameStage, stageNumber, ticked, width}
 use Rattle.joiner.specs.Stages.{crossingStep, enrolStep, hasCell, local, pointStep, seamStep, shared, stepsOf}
@@ -31,7 +31,6 @@ use Rattle.lists.proofs.Tests.{all-in}
 use Rattle.cells.proofs.RowLaws.{same-row}
 use Rattle.joiner.proofs.Ladder.{Alongside, Bookish, EarlyOnly, given-agree, given-book, given-early, given-early-only, given-stray}
 use Rattle.joiner.proofs.Linking.{Enrolled, all-links, block-links}
-use Rattle.joiner.proofs.Own.{labelled-labelling, labelling-filled}
 use Rattle.joiner.proofs.Progress.{Progress}
 use Rattle.joiner.proofs.Roots.{Connected}
 use Rattle.joiner.proofs.RowBounds.{component-row-most}
@@ -141,11 +140,10 @@ module _ (o : Told) (own : ℕ → List ℕ) (ext : offSize 1024 (o .cutting .ex
   map-stands : (b : ℕ) → b < blocks (o .cutting) → In o own B b → mapStands s (blockExtents (o .cutting) b) b (own b) ≡ true
   unfolding mapStands
   map-stands b hb i =
-      and-both _ _ (labelling-filled _ _ (lab b hb))
-      (and-both _ _ (is-counted b hb i Face)
+      and-both _ _ (is-counted b hb i Face)
       (and-both _ _ (is-counted b hb i Curve)
       (and-both _ _ (is-counted b hb i Point)
-      (and-both (standing s b Face) (standing s b Curve) (is-standing b hb i .0) (is-standing b hb i .1)))))
+      (and-both (standing s b Face) (standing s b Curve) (is-standing b hb i .0) (is-standing b hb i .1))))
 
   -- the faces in the rows of curves are enrolled
   rows-in : (i : ℕ) → i < 4 * s .job .sofar Curve → getD (s .tables .rows Curve) i 0 ≤ s .job .sofar Face
@@ -290,8 +288,7 @@ module _ (o : Told) (own : ℕ → List ℕ) (ext : offSize 1024 (o .cutting .ex
   pub enrol-agrees : (b : ℕ) (m : List ℕ) → bringsOwn B (enrol b m) ≡ true → refusal s (enrol b m) ≡ bookRefusal B (enrol b m)
   enrol-agrees b m e =
       agrees (enrol b m) (λ h. refl)
-      (λ h p.
-      (ap (λ (z : Told). filled (blockExtents (z .cutting) b) m) (I .told ∙ sym (I .btold)) ∙ labelling-filled (blockExtents (B .told .cutting) b) m (labelled-labelling (blockExtents (B .told .cutting) b) m e), same))
+      (λ h p. (refl, same))
     where
       same : (κ : Kind) → adds s (enrol b m) κ ≡ bookAdds B (enrol b m) κ
       same Face = unfold adds bookAdds in ap (λ (z : Told). largest (blockExtents (z .cutting) b) m 2) (I .told ∙ sym (I .btold))

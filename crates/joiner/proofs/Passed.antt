@@ -16,7 +16,7 @@ use Rattle.cells.specs.Grid.{cells, order}
 use Rattle.labels.specs.Components.{largest}
 use Rattle.joiner.specs.Job.{Kind, Face, Curve, Point, orderOf, Stage, Enrol, Seam, Crossing, Points, Closed, stageNumber, sameStage, Job, State, ticked, Tray, tray, lengthsFit, countOf, fromOf, node}
 use Rattle.joiner.specs.Calls.{Call, stageOf, repeated, placed, mapsFit, layersDiffer, full, overfull}
-use Rattle.joiner.specs.Declines.{adds, counted, cutFor, declines, filled, lentTo, mapStands, refusal, standing, standsFor, stray, talliesFit, tallyFits}
+use Rattle.joiner.specs.Declines.{adds, counted, cutFor, declines, lentTo, mapStands, refusal, standing, standsFor, stray, talliesFit, tallyFits}
 use Rattle.lists.proofs.Cases.{and-first, and-second, neither}
 use Rattle.refusals.proofs.RefusalLaws.{given-none}
 use Rattle.labels.proofs.CountLaws.{largest-bound}
@@ -128,17 +128,15 @@ pub record Standing (s : State) (e : Triple) (b : ℕ) (m : List ℕ) (κ : Kind
 pub faces-stand : (s : State) (e : Triple) (b : ℕ) (m : List ℕ) → mapStands s e b m ≡ true → Standing s e b m Face
 unfolding mapStands counted standing
 faces-stand s e b m h =
-    let h1 = and-second (filled e m) _ h in
-    let h2 = and-second (counted (s .tables) e b m Face) _ h1 in
+    let h2 = and-second (counted (s .tables) e b m Face) _ h in
     let h3 = and-second (counted (s .tables) e b m Curve) _ h2 in
     let h4 = and-second (counted (s .tables) e b m Point) _ h3 in
-    record { most = leb-true _ _ (and-first (counted (s .tables) e b m Face) _ h1); behind = leb-true _ _ (and-first (standing s b Face) (standing s b Curve) h4) }
+    record { most = leb-true _ _ (and-first (counted (s .tables) e b m Face) _ h); behind = leb-true _ _ (and-first (standing s b Face) (standing s b Curve) h4) }
 
 pub curves-stand : (s : State) (e : Triple) (b : ℕ) (m : List ℕ) → mapStands s e b m ≡ true → Standing s e b m Curve
 unfolding mapStands counted standing
 curves-stand s e b m h =
-    let h1 = and-second (filled e m) _ h in
-    let h2 = and-second (counted (s .tables) e b m Face) _ h1 in
+    let h2 = and-second (counted (s .tables) e b m Face) _ h in
     let h3 = and-second (counted (s .tables) e b m Curve) _ h2 in
     let h4 = and-second (counted (s .tables) e b m Point) _ h3 in
     record { most = leb-true _ _ (and-first (counted (s .tables) e b m Curve) _ h2); behind = leb-true _ _ (and-second (standing s b Face) (standing s b Curve) h4) }

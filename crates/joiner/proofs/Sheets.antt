@@ -2,7 +2,6 @@
 -- Assumes nothing.
 use mathlib.Core.Bool.{false, true}
 use mathlib.Core.List.{List}
-use mathlib.Core.Logic.{_≢_}
 use mathlib.Core.Path.{_∙_, _≡_, ap, ap₂, refl, subst, sym}
 use Prim.Native.Nat.{_%_, _*_, _/_, _<_, suc, ℕ}
 use native.Mathlib.Omega.{arith}
@@ -11,10 +10,10 @@ use lib.Seq.{ext-getD}
 use Rattle.lists.specs.Lists.{tabulate}
 use Rattle.cells.specs.Box.{Triple, index, place, volume}
 use Rattle.cells.specs.Extents.{offSize}
-use Rattle.cells.specs.Grid.{cells, order, sides, voxel, voxelCell}
+use Rattle.cells.specs.Grid.{cells, order, sides, voxelCell}
 use Rattle.labels.specs.Components.{componentRow, firstCell, largest}
 use Rattle.labels.specs.Number.{labels}
-use Rattle.cutting.specs.Cutting.{Cutting, blockCodes, blockExtents, blocks, embed, goodCut}
+use Rattle.cutting.specs.Cutting.{Cutting, blockCodes, blockExtents, blocks, goodCut}
 use Rattle.cutting.specs.Nodes.{part, uncutMap}
 use Rattle.joiner.specs.Book.{Book, begun, uncut}
 use Rattle.joiner.specs.Outcomes.{allTrays, lookedUp}
@@ -23,10 +22,9 @@ use Rattle.joiner.specs.Sheets.{ClosedJob, Sheet}
 use Rattle.joiner.specs.Stages.{codeIn, codesOf, hasCell}
 use Rattle.joiner.specs.Statement.{Labelling, Uncut}
 use Rattle.lists.proofs.Lists.{getD-tabulate, length-tabulate}
-use Rattle.cells.proofs.GridLaws.{voxel-cell, voxel-cell-inside, voxel-cell-order, voxel-inside}
+use Rattle.cells.proofs.GridLaws.{voxel-cell, voxel-cell-inside, voxel-cell-order}
 use Rattle.labels.proofs.LabelLaws.{labels-numbering}
-use Rattle.cutting.proofs.BlockLaws.{block-code, voxel-same}
-use Rattle.cutting.proofs.CutLaws.{embed-inside}
+use Rattle.cutting.proofs.BlockLaws.{voxel-same}
 use Rattle.joiner.proofs.Codes.{lowestOf, localOf, in-lowest}
 use Rattle.joiner.proofs.Final.{uncut-is}
 use Rattle.joiner.proofs.Readings.{cell-read}
@@ -61,19 +59,10 @@ module _ (e : Triple) (codes : List ℕ) (s : State) (J : ClosedJob e codes s) w
 
   -- each map is one that a labelling left
   labellings : (b : ℕ) → b < blocks (J .told .cutting) → Labelling (blockExtents (J .told .cutting) b) (J .own b)
-  labellings b hb = record { codes = blockCodes (J .told .cutting) b codes; many = block-many; coded = block-coded; left = J .maps b hb }
+  labellings b hb = record { codes = blockCodes (J .told .cutting) b codes; many = block-many; left = J .maps b hb }
     where
       block-many : length (blockCodes (J .told .cutting) b codes) ≡ volume (blockExtents (J .told .cutting) b)
       block-many = unfold blockCodes in length-tabulate (volume (blockExtents (J .told .cutting) b)) _
-
-      block-coded : (v : ℕ) → v < volume (blockExtents (J .told .cutting) b) → getD (blockCodes (J .told .cutting) b codes) v 0 ≢ 0
-      block-coded v hv z =
-          let E : Triple = blockExtents (J .told .cutting) b in
-          let c = voxel-cell-inside E v hv in
-          let t : ℕ = embed (J .told .cutting) b (voxelCell E v) in
-          let ht : t < cells (J .told .cutting .extents) = embed-inside (J .told .cutting) (passed-open .1) b hb (voxelCell E v) c in
-          J .coded (voxel (J .told .cutting .extents) t) (subst (λ (x : Triple). voxel (J .told .cutting .extents) t < volume x) (J .extents) (voxel-inside (J .told .cutting .extents) t ht))
-          (sym (block-code (J .told .cutting) (passed-open .1) b hb (voxelCell E v) c codes) ∙ ap (λ (x : ℕ). getD (blockCodes (J .told .cutting) b codes) x 0) (voxel-cell E v hv) ∙ z)
 
   codes-are : codesOf (J .told .cutting) (J .own) ≡ codes
   codes-are = codes-back (J .told .cutting) (passed-open .1) codes (J .own) (subst (λ (x : Triple). length codes ≡ volume x) (sym (J .extents)) (J .many)) (λ b hb. J .maps b hb)

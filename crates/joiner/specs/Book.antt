@@ -9,7 +9,6 @@ use Rattle.lists.specs.Lists.{tabulate, keep, isIn}
 use Rattle.refusals.specs.Refusals.{wrong-stage, no-such-place, done-already, wrong-tray, layers-differ, table-full, Case, _if_, givenRefusal}
 use Rattle.closure.specs.Joined.{edge}
 use Rattle.cells.specs.Box.{Triple, volume, index}
-use Rattle.cells.specs.Codes.{blank}
 use Rattle.cells.specs.Grid.{sides, voxelCell}
 use Rattle.cells.specs.Row.{active, padTo, sameRow}
 use Rattle.labels.specs.Number.{labels}
@@ -78,13 +77,13 @@ bookRefusal B c = givenRefusal (bookDeclines B c)
 unfoldable pub bookEarly : Book → Call → ℕ
 bookEarly B c = givenRefusal (earlyCases B c)
 
--- A map that a labelling of a block of e voxels leaves: that of the codes at its voxels, none of which is 0.
+-- A map that a labelling of a block of e voxels leaves: that of the codes at its voxels.
 unfoldable pub voxelCodes : Triple → List ℕ → List ℕ
 voxelCodes e m = tabulate (volume e) (λ v. getD m (voxelCell e v) 0)
 
 -- .. whether m is one.
 unfoldable pub labelled : Triple → List ℕ → Bool
-labelled e m = not (blank (voxelCodes e m)) && sameRow m (labels e (voxelCodes e m))
+labelled e m = sameRow m (labels e (voxelCodes e m))
 
 -- The call brings its blocks' maps: at enrolment one that a labelling leaves, later the enrolled ones.
 abbrev pub bringsOwn : Book → Call → Bool

@@ -12,7 +12,7 @@ use Rattle.cells.specs.Box.{Triple}
 use Rattle.cells.specs.Extents.{offSize}
 use Rattle.cells.specs.Grid.{order, upperNeighbours}
 use Rattle.cells.specs.Row.{rowOf, occupied}
-use Rattle.labels.specs.Components.{ofOrder, largest, blankVoxel}
+use Rattle.labels.specs.Components.{ofOrder, largest}
 use Rattle.cutting.specs.Cutting.{Cutting, blockExtents, goodCut}
 use Rattle.joiner.specs.Job.{Kind, Face, Curve, Point, orderOf, Crossing, sameStage, Told, Job, Tables, State, Tray, ticked, countOf, fromOf, node, lengthsFit, blockTrays, linkTrays, foundTrays, numberTrays, firstTrays, listedTrays, kindTrays}
 use Rattle.joiner.specs.Stages.{local, crossingStep, finished}
@@ -39,11 +39,7 @@ tallyFits j κ = leb (j .sofar κ) (j .told .entries κ) && leb (j .numbered κ)
 unfoldable pub talliesFit : Job → Bool
 talliesFit j = tallyFits j Face && (tallyFits j Curve && tallyFits j Point)
 
--- No voxel of a map has 0.
-unfoldable pub filled : Triple → List ℕ → Bool
-filled e m = not (blankVoxel e m)
-
--- ".. or after enrolment a number above the block's count of that order."
+-- "A map has .. after enrolment a number above the block's count of that order."
 unfoldable pub counted : Tables → Triple → ℕ → List ℕ → Kind → Bool
 counted t e b m κ = leb (largest e m (orderOf κ)) (countOf t κ b)
 
@@ -54,7 +50,7 @@ standing s b κ = leb (fromOf (s .tables) κ b + countOf (s .tables) κ b) (s .j
 -- .. all of this for the map m of block b, of e voxels.
 unfoldable pub mapStands : State → Triple → ℕ → List ℕ → Bool
 mapStands s e b m =
-    filled e m && (counted (s .tables) e b m Face && (counted (s .tables) e b m Curve && (counted (s .tables) e b m Point && (standing s b Face && standing s b Curve))))
+    counted (s .tables) e b m Face && (counted (s .tables) e b m Curve && (counted (s .tables) e b m Point && (standing s b Face && standing s b Curve)))
 
 -- "An enrolled component is joined in its table to a later one or to none": a link is a distance back, so it leads to none where it is longer than
 -- its place. Looked at is every link on the way from each of the block's faces or curves to its first one.
@@ -97,7 +93,7 @@ lookStands s b m p =
 
 -- The maps and entries that a call reads are no stray ones.
 abbrev pub standsFor : State → Call → Bool
-standsFor s (enrol b m) = filled (blockExtents (s .job .told .cutting) b) m
+standsFor s (enrol b m) = true
 standsFor s (join b c m n) =
     mapStands s (blockExtents (s .job .told .cutting) b) b m &&
     (mapStands s (blockExtents (s .job .told .cutting) c) c n && (linksStand s b && linksStand s c))

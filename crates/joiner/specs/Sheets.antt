@@ -1,10 +1,9 @@
 -- What a result sheet shows of a closed job, for the corollaries of statement 3: the cutting and the order of the calls leave no trace.
 -- Assumes nothing.
 use mathlib.Core.Path.{_≡_}
-use mathlib.Core.Logic.{_≢_}
 use mathlib.Core.List.{List, [], _∷_}
 use Prim.Native.Nat.{ℕ, _*_, _<_}
-use lib.ListN.{getD, length, take}
+use lib.ListN.{length, take}
 use Rattle.cells.specs.Box.{Triple, volume}
 use Rattle.labels.specs.Number.{labels}
 use Rattle.cutting.specs.Cutting.{blocks, blockExtents, blockCodes}
@@ -26,7 +25,6 @@ pub record ClosedJob (e : Triple) (codes : List ℕ) (s : State) : Type 0 where
   pub own : ℕ → List ℕ
   pub extents : told .cutting .extents ≡ e
   pub many : length codes ≡ volume e
-  pub coded : (v : ℕ) → v < volume e → getD codes v 0 ≢ 0
   pub maps : (b : ℕ) → b < blocks (told .cutting) → own b ≡ labels (blockExtents (told .cutting) b) (blockCodes (told .cutting) b codes)
   pub opened : Opened told lent begin
   pub run : Run begin calls

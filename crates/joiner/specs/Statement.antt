@@ -21,7 +21,6 @@ use Rattle.joiner.specs.Book.{Book, begun, uncut, bookRefusal, bookEarly
 pub record Labelling (e : Triple) (m : List ℕ) : Type 0 where
   pub codes : List ℕ
   pub many : length codes ≡ volume e
-  pub coded : (v : ℕ) → v < volume e → getD codes v 0 ≢ 0
   pub left : m ≡ labels e codes
 
 -- A call of the list, what it answered, and the job and tables that it left.

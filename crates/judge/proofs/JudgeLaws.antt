@@ -19,7 +19,7 @@ use Rattle.cutting.specs.Cutting.{Cutting, blocks, blockExtents, goodCut, mostB
 use Rattle.joiner.specs.Job.{Kind, Face, Curve, Point, Told, Tables, State, Tray, sameStage, countOf, fromOf, ticked, lengthsFit, blockTrays, linkTrays, foundTrays, numberTrays, firstTrays, listedTrays, kindTrays, numbersPerBlock}
 use Rattle.joiner.specs.Job as joiner
 use Rattle.joiner.specs.Calls.{Call, enrol, join, cross, point, look, reading, Answer, answer, stageOf, placed, repeated, mapsFit, layersDiffer, full, overfull}
-use Rattle.joiner.specs.Declines.{adds, counted, cutFor, declines, filled, lentTo, linksStand, mapStands, numberStands, refusal, standing, standsFor, stray, talliesFit, waysStand}
+use Rattle.joiner.specs.Declines.{adds, counted, cutFor, declines, lentTo, linksStand, mapStands, numberStands, refusal, standing, standsFor, stray, talliesFit, waysStand}
 use Rattle.joiner.specs.Outcomes.{Done, CallStep, allTrays}
 use Rattle.joiner.proofs.Passed.{tally-fits}
 use Rattle.blocks.specs.Blocks.{anyExtents, sizeOf, Tells}
@@ -205,19 +205,11 @@ module _ (k : Cutting) (good : goodCut k ≡ true) where
 
 -- ---- a block's map and its entry
 
--- a value that the code has is tested itself
-module _ (b r c : Bool) where
-  pub stands-here : not b ≡ true → false ≡ (b && c)
-  stands-here p = rw (not-true b p)
-
-  pub stands-next : not b ≡ false → r ≡ c → r ≡ (b && c)
-  stands-next p q = rw (not-false b p) q
-
 pub map-stands-by : (e : Triple) (m : List ℕ) (d : Entry) (faces curves : ℕ) (s : Survey) (r : Bool)
-    → s .filled ≡ filled e m → s .faces ≡ largest e m 2 → s .curves ≡ largest e m 1 → s .points ≡ largest e m 0
-    → r ≡ standsBy (s .filled) (s .faces) (s .curves) (s .points) d faces curves → r ≡ mapStandsIn e d faces curves m
+    → s .faces ≡ largest e m 2 → s .curves ≡ largest e m 1 → s .points ≡ largest e m 0
+    → r ≡ standsBy (s .faces) (s .curves) (s .points) d faces curves → r ≡ mapStandsIn e d faces curves m
 unfolding mapStandsIn
-map-stands-by e m d faces curves s r f a b c h = rw (← f, ← a, ← b, ← c) h
+map-stands-by e m d faces curves s r a b c h = rw (← a, ← b, ← c) h
 
 -- The joiner's test of a map, by the block table.
 pub stands-is : (s : State) (e : Triple) (b : ℕ) (m : List ℕ) → mapStands s e b m ≡ mapStandsIn e (entryOf (s .tables .blocks) b) (s .job .told .entries Face) (s .job .told .entries Curve) m

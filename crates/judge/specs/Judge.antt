@@ -14,7 +14,7 @@ use Rattle.cutting.specs.Cutting.{blocks, blockExtents, goodCut}
 use Rattle.joiner.specs.Job.{Kind, Face, Curve, Point, Tables, State, Tray, tray, sameStage, ticked, lengthsFit, numbersPerBlock}
 use Rattle.joiner.specs.Job as joiner
 use Rattle.joiner.specs.Calls.{Call, enrol, join, cross, point, look, reading, repeated, placed, mapsFit, layersDiffer, full}
-use Rattle.joiner.specs.Declines.{filled, lentTo, stray, talliesFit, adds}
+use Rattle.joiner.specs.Declines.{lentTo, stray, talliesFit, adds}
 use Rattle.job.specs.declared.Job.{Job}
 use Rattle.job.specs.JobState.{byKind, blockLengths, linkLengths, foundLengths, kindLengths}
 use Rattle.stages.specs.Ticks.{tickedIn}
@@ -132,16 +132,15 @@ entryOf blocks b =
     }
 
 -- 8 denies it, by what a survey and the block table tell.
-unfoldable pub standsBy : Bool → ℕ → ℕ → ℕ → Entry → ℕ → ℕ → Bool
-standsBy filled faces curves points d all-faces all-curves =
-    filled &&
-    (leb faces (d .faces) &&
+unfoldable pub standsBy : ℕ → ℕ → ℕ → Entry → ℕ → ℕ → Bool
+standsBy faces curves points d all-faces all-curves =
+    leb faces (d .faces) &&
     (leb curves (d .curves) &&
-    (leb points (d .points) && (leb (d .«face_from» + d .faces) all-faces && leb (d .«curve_from» + d .curves) all-curves))))
+    (leb points (d .points) && (leb (d .«face_from» + d .faces) all-faces && leb (d .«curve_from» + d .curves) all-curves)))
 
 -- .. of a map: the joiner's `mapStands`.
 unfoldable pub mapStandsIn : Triple → Entry → ℕ → ℕ → List ℕ → Bool
-mapStandsIn e d all-faces all-curves m = standsBy (filled e m) (largest e m 2) (largest e m 1) (largest e m 0) d all-faces all-curves
+mapStandsIn e d all-faces all-curves m = standsBy (largest e m 2) (largest e m 1) (largest e m 0) d all-faces all-curves
 
 -- .. of the links of a block's faces and curves: the joiner's `linksStand`.
 unfoldable pub linksStandIn : Entry → List ℕ → List ℕ → Bool

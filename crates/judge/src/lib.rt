@@ -350,11 +350,8 @@ fn inside(from: u32, count: u32, entries: u32) -> bool
 
 // Whether a surveyed map keeps to its block's entry, and the entry to the tables of faces and curves.
 fn stands(s: Survey, entry: Entry, faces: u32, curves: u32) -> bool
-    ensures { λ r. ⌜ r ≡ standsBy (s .filled) (s .faces) (s .curves) (s .points) entry faces curves ⌝ }
+    ensures { λ r. ⌜ r ≡ standsBy (s .faces) (s .curves) (s .points) entry faces curves ⌝ }
 {
-    if !s.filled {
-        return false;
-    }
     if !within(s.faces, entry.faces) {
         return false;
     }

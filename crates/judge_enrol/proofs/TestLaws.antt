@@ -1,6 +1,6 @@
 -- The ways of the tests of an enrolment, over plain lists and numbers. Assumes nothing.
 use mathlib.Core.Path.{_≡_, refl, sym, ap, _∙_}
-use mathlib.Core.Bool.{Bool, true, false, not, or-false}
+use mathlib.Core.Bool.{Bool, true, false, not, and-true, or-false}
 use mathlib.Core.List.{List, []}
 use Prim.Native.Nat.{ℕ, _+_, _≤_}
 use native.Mathlib.Omega.{arith}
@@ -14,7 +14,7 @@ use Rattle.labels.specs.Components.{largest}
 use Rattle.joiner.specs.Job.{Point, State, ticked}
 use Rattle.joiner.specs.Stages.{enrolStep}
 use Rattle.joiner.specs.Calls.{enrol, full, overfull}
-use Rattle.joiner.specs.Declines.{talliesFit, filled, stray, adds, refusal}
+use Rattle.joiner.specs.Declines.{talliesFit, stray, adds, refusal}
 use Rattle.joiner.proofs.Passed.{tally-fits}
 use Rattle.blocks.specs.Blocks.{anyExtents, sizeOf, Tells}
 use Rattle.blocks.specs.declared.Block.{Block}
@@ -39,9 +39,9 @@ module _ (fe ce pe f c p df dc : ℕ) (t : Bool) (e : t ≡ ltb fe (f + df)) whe
   unfolding full overfull
   full-next q h u i = let z : ltb pe (p + 0) ≡ false = le-ltb pe (p + 0) (omega arith) in rw (sym e ∙ q, z, ← i) (sym (or-false u))
 
-module _ (j : Job) (f : Bool) (faces curves : ℕ) (t : Bool) (e : anyCuts (λ cx cy cz. t ≡ talliesFit (jobOf j cx cy cz))) where
+module _ (j : Job) (faces curves : ℕ) (t : Bool) (e : anyCuts (λ cx cy cz. t ≡ talliesFit (jobOf j cx cy cz))) where
   abbrev Late : ℕ → Type 0
-  Late n = anyCuts (λ cx cy cz. n ≡ lateOf (jobOf j cx cy cz) f (byKind faces curves 0))
+  Late n = anyCuts (λ cx cy cz. n ≡ lateOf (jobOf j cx cy cz) (byKind faces curves 0))
 
   pub late-tallies : not t ≡ true → Late 8
   unfolding lateOf
@@ -51,19 +51,15 @@ module _ (j : Job) (f : Bool) (faces curves : ℕ) (t : Bool) (e : anyCuts (λ c
     pub late-points : j .points ≤ j .«point_entries»
     late-points = tally-fits (jobOf j [] [] []) (sym (e [] [] []) ∙ not-false t q) Point
 
-    pub late-filled : not f ≡ true → Late 8
-    unfolding lateOf
-    late-filled h cx cy cz = rw (sym (e cx cy cz) ∙ not-false t q, not-true f h)
-
-    module _ (h : not f ≡ false) (u : Bool)
+    module _ (u : Bool)
         (i : u ≡ full (byKind (j .«face_entries») (j .«curve_entries») (j .«point_entries»)) (byKind (j .faces) (j .curves) (j .points)) (byKind faces curves 0)) where
       pub late-full : u ≡ true → Late 10
       unfolding lateOf
-      late-full y cx cy cz = rw (sym (e cx cy cz) ∙ not-false t q, not-false f h, sym i ∙ y)
+      late-full y cx cy cz = rw (sym (e cx cy cz) ∙ not-false t q, sym i ∙ y)
 
       pub late-none : u ≡ false → Late 0
       unfolding lateOf
-      late-none y cx cy cz = rw (sym (e cx cy cz) ∙ not-false t q, not-false f h, sym i ∙ y)
+      late-none y cx cy cz = rw (sym (e cx cy cz) ∙ not-false t q, sym i ∙ y)
 
 -- ---- the ways of `judge_enrolment`
 
@@ -83,16 +79,15 @@ module _ (j : Job) (cx cy cz ticks : List ℕ) (z : Lengths) (b : ℕ) (m : List
         let p = lengths-passed (jobOf j cx cy cz) ticks CallName.Enrol z b (enrolStep b) (length m) (sym e ∙ q) in
         (block-sized (toldOf j cx cy cz .cutting) (p .0 .good) b (p .1) r told-here, p .2 ∙ ap cells (sym (told-here .size)))
 
-    pub plan-late : (s : Survey) → s .filled ≡ filled (sizeOf r) m → s .faces ≡ largest (sizeOf r) m 2 → s .curves ≡ largest (sizeOf r) m 1 → s .points ≡ largest (sizeOf r) m 0
-        → (l : ℕ) → anyCuts (λ cx cy cz. l ≡ lateOf (jobOf j cx cy cz) (s .filled) (byKind (s .faces) (s .curves) 0))
+    pub plan-late : (s : Survey) → s .faces ≡ largest (sizeOf r) m 2 → s .curves ≡ largest (sizeOf r) m 1 → s .points ≡ largest (sizeOf r) m 0
+        → (l : ℕ) → anyCuts (λ cx cy cz. l ≡ lateOf (jobOf j cx cy cz) (byKind (s .faces) (s .curves) 0))
         → Judged (jobOf j cx cy cz) ticks z b m (record { refusal = l; faces = s .faces; curves = s .curves; points = s .points })
     unfolding refusalOf
-    plan-late s f x y w l i =
+    plan-late s x y w l i =
         let x′ = x ∙ ap (λ (v : Triple). largest v m 2) (told-here .size) in
         let y′ = y ∙ ap (λ (v : Triple). largest v m 1) (told-here .size) in
-        let f′ = f ∙ ap (λ (v : Triple). filled v m) (told-here .size) in
         record {
-          told = rw (← e, ← f′, ← x′, ← y′) (or-then n _ l q (i cx cy cz));
+          told = rw (← e, ← x′, ← y′) (or-then n _ l q (i cx cy cz));
           plan = λ _. record { faces = x′; curves = y′; points = w ∙ ap (λ (v : Triple). largest v m 0) (told-here .size) };
         }
 
@@ -100,4 +95,4 @@ module _ (j : Job) (cx cy cz ticks : List ℕ) (z : Lengths) (b : ℕ) (m : List
 
 pub refusal-is : (s : State) (b : ℕ) (m : List ℕ) → refusal s (enrol b m) ≡ refusalOf (s .job) (s .tables .ticks) (lengthsOf (s .tables)) b m
 unfolding refusalOf lateOf stray full overfull adds ticked tickedIn
-refusal-is s b m = refusal-lengths s (enrol b m) refl b m refl (enrolStep b) refl refl
+refusal-is s b m = refusal-lengths s (enrol b m) refl b m refl (enrolStep b) refl refl ∙ rw (and-true (talliesFit (s .job)))

@@ -1,6 +1,6 @@
 -- The tests of an enrolment after those by lengths. Assumes nothing.
 use mathlib.Core.Path.{_≡_}
-use mathlib.Core.Bool.{Bool, not, cond, _&&_}
+use mathlib.Core.Bool.{not, cond}
 use mathlib.Core.List.{List}
 use Prim.Native.Nat.{ℕ}
 use lib.ListN.{length}
@@ -10,7 +10,7 @@ use Rattle.joiner.specs.Job.{Kind}
 use Rattle.joiner.specs.Job as joiner
 use Rattle.joiner.specs.Stages.{enrolStep}
 use Rattle.joiner.specs.Calls.{full}
-use Rattle.joiner.specs.Declines.{talliesFit, filled}
+use Rattle.joiner.specs.Declines.{talliesFit}
 use Rattle.job.specs.JobState.{byKind}
 use Rattle.judge.specs.declared.CallName.{CallName}
 use Rattle.judge.specs.declared.Lengths.{Lengths}
@@ -31,16 +31,15 @@ lentLengths ticks blocks face-links curve-links face-keys curve-keys face-rows c
       listed = record { faces = 0; curves = 0; points = 0 };
     }
 
--- The refusals from 8 on: f tells whether the map is filled, `more` its largest numbers.
-unfoldable pub lateOf : joiner.Job → Bool → (Kind → ℕ) → ℕ
-lateOf j f more = cond (not (talliesFit j && f)) 8 (cond (full (j .told .entries) (j .sofar) more) 10 0)
+-- The refusals from 8 on: `more` has the map's largest numbers.
+unfoldable pub lateOf : joiner.Job → (Kind → ℕ) → ℕ
+lateOf j more = cond (not (talliesFit j)) 8 (cond (full (j .told .entries) (j .sofar) more) 10 0)
 
 -- All: the joiner's `refusal`.
 unfoldable pub refusalOf : joiner.Job → List ℕ → Lengths → ℕ → List ℕ → ℕ
 refusalOf j ticks z b m =
     firstRefusal (lengthsJudged j ticks CallName.Enrol z b (enrolStep b) (length m))
-    (lateOf j (filled (blockExtents (j .told .cutting) b) m)
-    (byKind (largest (blockExtents (j .told .cutting) b) m 2) (largest (blockExtents (j .told .cutting) b) m 1) 0))
+    (lateOf j (byKind (largest (blockExtents (j .told .cutting) b) m 2) (largest (blockExtents (j .told .cutting) b) m 1) 0))
 
 -- The block's largest numbers.
 pub record Planned (j : joiner.Job) (b : ℕ) (m : List ℕ) (r : Plan) : Type 0 where

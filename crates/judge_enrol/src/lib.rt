@@ -1,4 +1,4 @@
-// The tests of an enrolment: the judge's up to the lengths, then the tallies, the map, and whether its faces and curves have room.
+// The tests of an enrolment: the judge's up to the lengths, then the tallies, and whether the map's faces and curves have room.
 use blocks::block_at;
 use job::Job;
 use job::tallies_fit;
@@ -48,12 +48,9 @@ fn full(job: Job, faces: u32, curves: u32) -> bool
 
 // The refusals by the tallies and the map, 0 for none.
 fn late(job: Job, survey: Survey) -> u32
-    ensures { λ r. ⌜ anyCuts (λ cx cy cz. r ≡ lateOf (jobOf job cx cy cz) (survey .filled) (byKind (survey .faces) (survey .curves) 0)) ⌝ }
+    ensures { λ r. ⌜ anyCuts (λ cx cy cz. r ≡ lateOf (jobOf job cx cy cz) (byKind (survey .faces) (survey .curves) 0)) ⌝ }
 {
     if !tallies_fit(job) {
-        return STRAY_LABEL;
-    }
-    if !survey.filled {
         return STRAY_LABEL;
     }
     if full(job, survey.faces, survey.curves) {

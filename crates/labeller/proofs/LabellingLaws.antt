@@ -1,7 +1,7 @@
 -- The ways of the labeller's functions, over plain lists and numbers.
 -- Assumes nothing.
 use mathlib.Core.Path.{_≡_, refl, sym, ap, _∙_}
-use mathlib.Core.Bool.{false, cond, _&&_}
+use mathlib.Core.Bool.{cond, _&&_}
 use mathlib.Core.List.{List, [], _∷_}
 use Prim.Native.Nat.{ℕ}
 use native.Mathlib.Omega.{arith}
@@ -14,7 +14,6 @@ use Rattle.refusals.specs.Refusals.{off-size, wrong-tray, number, table, first,
 use Rattle.refusals.proofs.RefusalLaws.{given-none}
 use Rattle.cells.specs.Box.{Triple, volume}
 use Rattle.cells.specs.Grid.{cells}
-use Rattle.cells.specs.Codes.{blank}
 use Rattle.cells.specs.Extents.{offSize}
 use Rattle.extents.proofs.SizeLaws.{sized-of, size-fits}
 use Rattle.labels.specs.Number.{numbered, codeAt, mapDown, labels}
@@ -26,40 +25,39 @@ use Rattle.labeller.specs.Labelling.{wrongTray, declines, refusalOf, Rea
 -- ---- the ladder of refusals
 
 -- the refusal as a ladder of tests
-pub refusal-is : (e : Triple) (codes : List ℕ) (n m : ℕ)
-    → refusalOf e codes n m ≡ cond (offSize 64 e) 1 (cond (wrongTray e (length codes) n m) 6 (cond (blank codes) 7 0))
+pub refusal-is : (e : Triple) (codes n m : ℕ) → refusalOf e codes n m ≡ cond (offSize 64 e) 1 (cond (wrongTray e codes n m) 6 0)
 unfolding refusalOf givenBy first table number standsIn declines
 refusal-is e codes n m = refl
 
 -- what is right where nothing is refused
-pub ready-of : (e : Triple) (codes : List ℕ) (n m : ℕ) → refusalOf e codes n m ≡ 0 → Ready e (length codes) n m
+pub ready-of : (e : Triple) (codes n m : ℕ) → refusalOf e codes n m ≡ 0 → Ready e codes n m
 unfolding refusalOf wrongTray declines standsIn number
 ready-of e codes n m h =
     let none = given-none (standsIn (declines e codes n m)) .0 h in
-    let a = not-false (eqb (length codes) (volume e) && (eqb n (cells e) && eqb m (cells e))) (none wrong-tray) in
-    let b = and-second (eqb (length codes) (volume e)) (eqb n (cells e) && eqb m (cells e)) a in
+    let a = not-false (eqb codes (volume e) && (eqb n (cells e) && eqb m (cells e))) (none wrong-tray) in
+    let b = and-second (eqb codes (volume e)) (eqb n (cells e) && eqb m (cells e)) a in
     record {
       sized = sized-of 64 e (none off-size);
-      codes-are = eqb-true _ _ (and-first (eqb (length codes) (volume e)) (eqb n (cells e) && eqb m (cells e)) a);
+      codes-are = eqb-true _ _ (and-first (eqb codes (volume e)) (eqb n (cells e) && eqb m (cells e)) a);
       map-is = eqb-true _ _ (and-first (eqb n (cells e)) (eqb m (cells e)) b);
       work-is = eqb-true _ _ (and-second (eqb n (cells e)) (eqb m (cells e)) b);
     }
 
--- and nothing is refused where all that is right and no code is 0
-pub ready-accepted : (e : Triple) (codes : List ℕ) (n m : ℕ) → Ready e (length codes) n m → blank codes ≡ false → refusalOf e codes n m ≡ 0
+-- and nothing is refused where all that is right
+pub ready-accepted : (e : Triple) (codes n m : ℕ) → Ready e codes n m → refusalOf e codes n m ≡ 0
 unfolding wrongTray
-ready-accepted e codes n m r b =
+ready-accepted e codes n m r =
     refusal-is e codes n m
-    ∙ rw (size-fits 64 64 e (omega arith) (r .sized), eq-eqb (length codes) (volume e) (r .codes-are), eq-eqb n (cells e) (r .map-is), eq-eqb m (cells e) (r .work-is), b)
+    ∙ rw (size-fits 64 64 e (omega arith) (r .sized), eq-eqb codes (volume e) (r .codes-are), eq-eqb n (cells e) (r .map-is), eq-eqb m (cells e) (r .work-is))
 
 -- ---- the ways of `label`
 
-pub label-refused : (e : Triple) (codes m w : List ℕ) (n : ℕ) → n ≡ refusalOf e codes (length m) (length w) → (n ≡ 0 → ⊥)
+pub label-refused : (e : Triple) (codes m w : List ℕ) (n : ℕ) → n ≡ refusalOf e (length codes) (length m) (length w) → (n ≡ 0 → ⊥)
     → outcome (record { refusal = n; faces = 0; curves = 0; points = 0 }) m w ≡ labelling e codes m w
 unfolding labelling refused
 label-refused e codes m w n h z = rw (← h, ne-eqb n 0 z)
 
-pub label-accepted : (e : Triple) (codes m w : List ℕ) (n : ℕ) → n ≡ refusalOf e codes (length m) (length w) → n ≡ 0
+pub label-accepted : (e : Triple) (codes m w : List ℕ) (n : ℕ) → n ≡ refusalOf e (length codes) (length m) (length w) → n ≡ 0
     → (r : Labelled) (m′ w′ : List ℕ) → outcome r m′ w′ ≡ accepted e codes → outcome r m′ w′ ≡ labelling e codes m w
 unfolding labelling
 label-accepted e codes m w n h z r m′ w′ q = rw (← h, eq-eqb n 0 z) q
@@ -104,6 +102,6 @@ module _ (e : Triple) (codes m₀ m₁ m₂ m₃ w : List ℕ) (f c p : ℕ)
 -- ---- the list of refusals
 
 -- The numbers that `label` lists, in the order of the table.
-pub label-listed : (e : Triple) (codes : List ℕ) (n m : ℕ) → listedNumbers (declines e codes n m) ≡ 1 ∷ 6 ∷ 7 ∷ []
+pub label-listed : (e : Triple) (codes n m : ℕ) → listedNumbers (declines e codes n m) ≡ 1 ∷ 6 ∷ []
 unfolding listedNumbers declines number
 label-listed e codes n m = refl

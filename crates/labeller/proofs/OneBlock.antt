@@ -24,12 +24,12 @@ use Rattle.labeller.specs.Labelling.{Outcome, outcome, refusalOf, accept
 
 module _ (e : Triple) (codes m w : List ℕ) (r : Labelled) (m′ w′ : List ℕ) (promise : outcome r m′ w′ ≡ labelling e codes m w) where
   -- The refusal given is the one that the table decides.
-  pub label-refusal : r .refusal ≡ refusalOf e codes (length m) (length w)
+  pub label-refusal : r .refusal ≡ refusalOf e (length codes) (length m) (length w)
   unfolding labelling accepted refused
   label-refusal =
-      by-test (eqb (refusalOf e codes (length m) (length w)) 0)
+      by-test (eqb (refusalOf e (length codes) (length m) (length w)) 0)
       (λ t. let a : labelling e codes m w ≡ accepted e codes = rw t in ap (λ (o : Outcome). o .answer .refusal) (promise ∙ a) ∙ sym (eqb-true _ _ t))
-      (λ t. let a : labelling e codes m w ≡ refused (refusalOf e codes (length m) (length w)) m w = rw t in ap (λ (o : Outcome). o .answer .refusal) (promise ∙ a))
+      (λ t. let a : labelling e codes m w ≡ refused (refusalOf e (length codes) (length m) (length w)) m w = rw t in ap (λ (o : Outcome). o .answer .refusal) (promise ∙ a))
 
   -- Refused: nothing is changed, and the counts are 0.
   pub label-refused : r .refusal ≢ 0 → outcome r m′ w′ ≡ refused (r .refusal) m w

@@ -7,10 +7,9 @@ use Prim.Native.Nat.{ℕ}
 use lib.Dec.{eqb}
 use lib.ListN.{length}
 use Rattle.lists.specs.Lists.{zeros}
-use Rattle.refusals.specs.Refusals.{off-size, wrong-tray, blank-voxel, Case, _if_, givenRefusal}
+use Rattle.refusals.specs.Refusals.{off-size, wrong-tray, Case, _if_, givenRefusal}
 use Rattle.cells.specs.Box.{Triple, volume}
 use Rattle.cells.specs.Grid.{cells}
-use Rattle.cells.specs.Codes.{blank}
 use Rattle.cells.specs.Extents.{Sized, offSize}
 use Rattle.labels.specs.Number.{labels}
 use Rattle.labels.specs.Components.{largest}
@@ -20,12 +19,12 @@ use Rattle.labeller.specs.declared.Labelled.{Labelled}
 unfoldable pub wrongTray : Triple → ℕ → ℕ → ℕ → Bool
 wrongTray e codes map work = not (eqb codes (volume e) && (eqb map (cells e) && eqb work (cells e)))
 
--- The cases of `label`. The trays go in by their lengths.
-unfoldable pub declines : Triple → List ℕ → ℕ → ℕ → List Case
-declines e codes map work = off-size if offSize 64 e ∷ wrong-tray if wrongTray e (length codes) map work ∷ blank-voxel if blank codes ∷ []
+-- The cases of `label`, by the lengths of codes, map and working tray. "Refusal 7 is no longer given" (document 02, item 4).
+unfoldable pub declines : Triple → ℕ → ℕ → ℕ → List Case
+declines e codes map work = off-size if offSize 64 e ∷ wrong-tray if wrongTray e codes map work ∷ []
 
 -- The refusal of a call, 0 for none.
-unfoldable pub refusalOf : Triple → List ℕ → ℕ → ℕ → ℕ
+unfoldable pub refusalOf : Triple → ℕ → ℕ → ℕ → ℕ
 refusalOf e codes map work = givenRefusal (declines e codes map work)
 
 -- The answer, and what the map tray and the working tray hold.
@@ -50,7 +49,7 @@ refused n m w = outcome (record { refusal = n; faces = 0; curves = 0; points = 0
 -- The outcome of a call with these extents, codes and trays.
 unfoldable pub labelling : Triple → List ℕ → List ℕ → List ℕ → Outcome
 labelling e codes m w =
-    cond (eqb (refusalOf e codes (length m) (length w)) 0) (accepted e codes) (refused (refusalOf e codes (length m) (length w)) m w)
+    cond (eqb (refusalOf e (length codes) (length m) (length w)) 0) (accepted e codes) (refused (refusalOf e (length codes) (length m) (length w)) m w)
 
 -- The extents and lengths of a block that is not refused for them.
 pub record Ready (e : Triple) (codes map work : ℕ) : Type 0 where

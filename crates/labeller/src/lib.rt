@@ -1,11 +1,9 @@
 // The labeller of one block.
 use extents::grid_cells;
-use extents::has_blank;
 use extents::off_size;
 use pass_fill::fill;
 use pass_join::join_cells;
 use pass_number::number_cells;
-use refusals::BLANK_VOXEL;
 use refusals::OFF_SIZE;
 use refusals::WRONG_TRAY;
 use union_find::clear;
@@ -44,17 +42,14 @@ fn wrong_tray(nx: usize, ny: usize, nz: usize, codes: usize, map: usize, work: u
 }
 
 // The number of the refusal, the lowest that applies, and 0 for none.
-fn refusal(codes: &[u32], nx: usize, ny: usize, nz: usize, map: usize, work: usize) -> u32
-    ensures { λ r. ⌜ r ≡ refusalOf (triple nx ny nz) (now (codes .entry)) map work ⌝ }
+fn refusal(codes: usize, nx: usize, ny: usize, nz: usize, map: usize, work: usize) -> u32
+    ensures { λ r. ⌜ r ≡ refusalOf (triple nx ny nz) codes map work ⌝ }
 {
     if off_size(64, nx, ny, nz) {
         return OFF_SIZE;
     }
-    if wrong_tray(nx, ny, nz, codes.len(), map, work) {
+    if wrong_tray(nx, ny, nz, codes, map, work) {
         return WRONG_TRAY;
-    }
-    if has_blank(codes) {
-        return BLANK_VOXEL;
     }
     0
 }
@@ -120,7 +115,7 @@ pub fn label(
     let z = nz as usize;
     let n = map.len();
     let m = work.len();
-    let number = refusal(codes, x, y, z, n, m);
+    let number = refusal(codes.len(), x, y, z, n, m);
     if number != 0 {
         return Labelled {
             refusal: number,

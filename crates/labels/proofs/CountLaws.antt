@@ -1,7 +1,7 @@
 -- The largest number of an order is how many components it has: no cell has a larger one, and each from 1 to it stands at a cell.
 -- Assumes nothing.
-use mathlib.Core.Path.{_≡_, sym, ap, _∙_, subst}
-use mathlib.Core.Bool.{Bool}
+use mathlib.Core.Path.{_≡_, refl, sym, ap, _∙_, subst}
+use mathlib.Core.Bool.{Bool, true}
 use mathlib.Core.Logic.{_⊎_, inl, inr, _≢_}
 use mathlib.Core.List.{List, [], _∷_, map, foldr, List·Memᴰ, List·Memᴰ·head, List·Memᴰ·tail, List·Memᴰ·not-nil, List·Memᴰ·cases-cons, Memᴰ·map, Memᴰ·of-map}
 use Prim.Native.Nat.{ℕ, suc, _-_, _≤_, _<_, max}
@@ -12,16 +12,16 @@ use borrow.Author.Tests.{ltb-true, ltb-false, leb-true, leb-false, eqb-true, eqb
 use native.Mathlib.Nat.{max-eq-left, max-eq-right, le-of-lt}
 use Rattle.cells.specs.Box.{Triple}
 use Rattle.cells.specs.Grid.{cells, order}
-use Rattle.cells.specs.Row.{active}
+use Rattle.cells.specs.Row.{row, active}
 use Rattle.closure.specs.Joined.{rep}
 use Rattle.closure.specs.Numbered.{countBelow, leader}
 use Rattle.closure.proofs.Numbers.{label-bound, label-last}
 use Rattle.labels.specs.Number.{edges, activeOf, number, numbered, mapDown, labels}
 use Rattle.labels.proofs.NumberLaws.{rep-leaders}
-use Rattle.labels.proofs.LabelLaws.{Agree, numbered-own, final-agree}
+use Rattle.labels.proofs.LabelLaws.{Agree, numbered-own, final-agree, labels-numbering, joined-row, numbered-active}
 use Rattle.labels.specs.Numbering.{Numbering}
-use Rattle.labels.specs.Components.{ofOrder, largest, firstCell}
-use Rattle.labels.proofs.ComponentLaws.{of-order-in, of-order-out, Belongs, least-at, belongs-at}
+use Rattle.labels.specs.Components.{ofOrder, largest, component, firstCell, rowAtFirst, componentRow}
+use Rattle.labels.proofs.ComponentLaws.{of-order-in, of-order-out, Belongs, least-at, belongs-at, component-out}
 use Rattle.lists.proofs.Cases.{by-test, and-first}
 use Rattle.lists.proofs.Lists.{map-same}
 
@@ -125,3 +125,23 @@ pub count-down : (e : Triple) (codes : List ℕ) (d : ℕ) → d < 3 → largest
 count-down e codes d h =
     let r : 3 - suc d ≡ 2 - d = omega arith in
     largest-agree e (mapDown e codes (suc d)) (labels e codes) (2 - d) (λ p k l. final-agree e codes (2 - d) (suc d) (omega arith) p k (omega arith))
+
+-- ---- the cells of a component
+
+module _ (e : Triple) (codes : List ℕ) (j : ℕ) (hj : j < 3) (n : ℕ) (hn : 0 < n) where
+  pub member-active : (t : ℕ) → Belongs e (labels e codes) j n t → active e (labels e codes) t ≡ true
+  member-active t c = numbered-active e codes t (c .within) (omega (arith, c .level)) (omega (arith, c .has))
+
+  members-alike : (s t : ℕ) → Belongs e (labels e codes) j n s → Belongs e (labels e codes) j n t → row e (labels e codes) s ≡ row e (labels e codes) t
+  members-alike s t c d =
+      joined-row e (labels e codes)
+      (labels-numbering e codes .shared s t (c .within) (d .within) (c .level ∙ sym (d .level)) (member-active s c) (member-active t d) .0 (c .has ∙ sym (d .has)))
+
+  -- Each has the row of the component.
+  pub component-row : (t : ℕ) → List·Memᴰ t (component e (labels e codes) j n) → row e (labels e codes) t ≡ componentRow e (labels e codes) j n
+  unfolding componentRow rowAtFirst
+  component-row t i = go (component e (labels e codes) j n) (λ s k. component-out e (labels e codes) j n k) i
+    where
+      go : (c : List ℕ) → ((s : ℕ) → List·Memᴰ s c → Belongs e (labels e codes) j n s) → List·Memᴰ t c → row e (labels e codes) t ≡ rowAtFirst e (labels e codes) c
+      go [] b k = absurd (List·Memᴰ·not-nil k)
+      go (s ∷ c) b k = members-alike t s (b t k) (b s (List·Memᴰ·head refl))

@@ -4,3 +4,4 @@ pub mod NumberLaws
 pub mod LabelLaws
 pub mod CountLaws
 pub mod OrderCounts
+pub mod OutsideLaws

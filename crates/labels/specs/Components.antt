@@ -1,7 +1,6 @@
 -- The components of a map: how many there are of each order, where each begins, and its row (document 01, "Numbering one block" and
 -- "Cutting and joining"). The map may be one that no labelling left.
 -- Assumes nothing.
-use mathlib.Core.Bool.{Bool}
 use mathlib.Core.List.{List, [], _∷_, map, foldr}
 use Prim.Native.Nat.{ℕ, max}
 use lib.Dec.{eqb}
@@ -9,15 +8,11 @@ use lib.ListN.{getD}
 use Rattle.cells.specs.Box.{Triple}
 use Rattle.cells.specs.Row.{rowOf, row}
 use Rattle.cells.specs.Grid.{cells, order}
-use Rattle.lists.specs.Lists.{consecutive, keep, someOf}
+use Rattle.lists.specs.Lists.{consecutive, keep}
 
 -- The cells of order j.
 unfoldable pub ofOrder : Triple → ℕ → List ℕ
 ofOrder e j = keep (λ p. eqb (order e p) j) (consecutive 0 (cells e))
-
--- "A map has 0 at a voxel."
-unfoldable pub blankVoxel : Triple → List ℕ → Bool
-blankVoxel e m = someOf (λ p. eqb (getD m p 0) 0) (ofOrder e 3)
 
 -- "Its largest number in each order is its count."
 unfoldable pub largest : Triple → List ℕ → ℕ → ℕ

@@ -3,3 +3,4 @@ pub mod Numbering
 pub mod Number
 pub mod Components
 pub mod OrderCounts
+pub mod Outside

@@ -1,17 +1,15 @@
 -- The walk of a pass: along a line, over its cells with n odd axes, and from line to line.
 -- Assumes nothing.
-use mathlib.Core.Path.{_≡_, refl, sym, ap, _∙_}
-use mathlib.Core.Logic.{_≢_}
-use mathlib.Core.Bool.{Bool, true, false, cond}
+use mathlib.Core.Path.{_≡_, refl, _∙_}
+use mathlib.Core.Bool.{Bool, cond}
 use mathlib.Core.List.{List, [], _∷_, _++_}
 use Prim.Native.Nat.{ℕ, zero, suc, _+_, _-_, _*_, _%_, _^_, _≤_, _<_}
 use native.Mathlib.Nat.{mul-le-mul-right}
 use native.Mathlib.Omega.{arith}
 use lib.Dec.{eqb}
 use borrow.Author.Tests.{eq-eqb, ne-eqb}
-use Rattle.lists.specs.Lists.{consecutive, keep, someOf}
+use Rattle.lists.specs.Lists.{consecutive, keep}
 use Rattle.lists.proofs.Lists.{keep-append}
-use Rattle.lists.proofs.Tests.{some-here, some-next, some-end, some-part, some-rest}
 use Rattle.cells.specs.Box.{Triple, stride}
 use Rattle.cells.specs.Extents.{Sized}
 use Rattle.cells.specs.Grid.{sides, cells, order}
@@ -137,63 +135,3 @@ module _ (f : ℕ → Bool) (e : Triple) where
   pub lines-last : {l : ℕ} → lineCount e ≤ l → onwards f e l ≡ []
   unfolding onwards consecutive
   lines-last {l} h = let n : cells e - l * sides e .x ≡ 0 = omega (arith, cells-lines e, mul-le-mul-right (sides e .x) h) in rw n
-
--- ---- a loop that asks whether f is 0 at a voxel
-
-abbrev isVoxel : Triple → ℕ → Bool
-isVoxel e p = eqb (order e p) 3
-
-abbrev pub voxelsOn : Triple → ℕ → List ℕ
-voxelsOn e l = keep (isVoxel e) (consecutive (l * sides e .x) (sides e .x))
-
--- Whether f is v at one of these places.
-abbrev pub someEqual : (ℕ → ℕ) → ℕ → List ℕ → Bool
-someEqual f v ps = someOf (λ p. eqb (f p) v) ps
-
-voxel-tests : (e : Triple) (l : ℕ) → Tests (isVoxel e) (l * sides e .x) (sides e .x) 0 (lineY e l + lineZ e l)
-voxel-tests e l = order-tests e 3 l (omega arith)
-
--- b is the answer for a line, and its voxels from x on give it.
-pub record CellsAsked (f : ℕ → ℕ) (e : Triple) (l : ℕ) (r : Line) (b : Bool) (x : ℕ) : Type 0 where
-  pub told : LineAt e 0 l r
-  pub walking : Walking e 0 l x
-  pub rest : b ≡ someEqual f 0 (ahead (isVoxel e) r x)
-
--- b is the answer for the grid, and the voxels from line l on give it.
-pub record LinesAsked (f : ℕ → ℕ) (e : Triple) (b : Bool) (l : ℕ) : Type 0 where
-  pub rest : b ≡ someEqual f 0 (onwards (isVoxel e) e l)
-
--- At the first voxel, at one with 0, at another, and past the last.
-module _ {f : ℕ → ℕ} {e : Triple} {l : ℕ} {r : Line} where
-  pub cells-asked-first : LineAt e 0 l r → CellsAsked f e l r (someEqual f 0 (voxelsOn e l)) (r .start)
-  cells-asked-first L = record { told = L; walking = walk-first L; rest = ap (someEqual f 0) (cells-first L (voxel-tests e l)) }
-
-  module _ {b : Bool} {x : ℕ} (A : CellsAsked f e l r b x) where
-    pub cells-asked-found : {v : ℕ} → x < r .width → v ≡ f (r .base + x) → v ≡ 0 → true ≡ b
-    cells-asked-found h u z = some-here _ (A .rest) (cells-next (A .told) (voxel-tests e l) (A .walking) h) (eq-eqb _ _ (sym u ∙ z))
-
-    pub cells-asked-next : {v : ℕ} → x < r .width → v ≡ f (r .base + x) → v ≢ 0 → CellsAsked f e l r b (x + 2)
-    cells-asked-next h u z = record {
-      told = A .told;
-      walking = walk-next (A .walking);
-      rest = some-next _ (A .rest) (cells-next (A .told) (voxel-tests e l) (A .walking) h) (ne-eqb _ _ (λ i. z (u ∙ i)));
-    }
-
-    pub cells-asked-last : r .width ≤ x → false ≡ b
-    cells-asked-last h = some-end _ (A .rest) (cells-last (A .told) (voxel-tests e l) h)
-
--- At the first line, at one with such a voxel, at another, and past the last. There are n lines, and t is what line l answers.
-module _ {f : ℕ → ℕ} {e : Triple} where
-  pub lines-asked-first : LinesAsked f e (someEqual f 0 (keep (isVoxel e) (consecutive 0 (cells e)))) 0
-  lines-asked-first = record { rest = ap (someEqual f 0) (lines-first (isVoxel e) e) }
-
-  module _ {b : Bool} {l n : ℕ} (A : LinesAsked f e b l) (c : n ≡ lineCount e) where
-    module _ {t : Bool} (h : l < n) (u : t ≡ someEqual f 0 (voxelsOn e l)) where
-      pub lines-asked-found : t ≡ true → true ≡ b
-      lines-asked-found z = some-part _ (voxelsOn e l) _ (A .rest) (lines-next (isVoxel e) e (omega arith)) (sym z ∙ u)
-
-      pub lines-asked-next : t ≡ false → LinesAsked f e b (l + 1)
-      lines-asked-next z = record { rest = some-rest _ (voxelsOn e l) (onwards (isVoxel e) e (l + 1)) (A .rest) (lines-next (isVoxel e) e (omega arith)) (sym z ∙ u) }
-
-    pub lines-asked-last : n ≤ l → false ≡ b
-    lines-asked-last h = some-end _ (A .rest) (lines-last _ e {l = l} (omega arith))

@@ -3,7 +3,7 @@
 use mathlib.Core.Path.{_≡_, refl, sym, ap, _∙_}
 use mathlib.Core.Bool.{Bool, true, false, not, _||_, true≢false}
 use mathlib.Core.Logic.{_⊎_, inl, inr}
-use mathlib.Core.List.{List, [], _∷_, _++_, List·Memᴰ, List·Memᴰ·head, List·Memᴰ·tail, List·Memᴰ·not-nil, List·Memᴰ·cases-cons}
+use mathlib.Core.List.{List, [], _∷_, List·Memᴰ, List·Memᴰ·head, List·Memᴰ·tail, List·Memᴰ·not-nil, List·Memᴰ·cases-cons}
 use Prim.Native.Nat.{ℕ, suc, _+_, _-_, _≤_, _<_}
 use native.Mathlib.Omega.{arith}
 use lib.Dec.{eqb}
@@ -42,10 +42,6 @@ module _ {A : Type 0} where
   none-some f [] h = refl
   none-some f (x ∷ l) h = rw (h x (List·Memᴰ·head refl)) (none-some f l (λ y m. h y (List·Memᴰ·tail m)))
 
-  pub none-all : (f : A → Bool) (l : List A) → allOf (λ x. not (f x)) l ≡ not (someOf f l)
-  none-all f [] = refl
-  none-all f (x ∷ l) = by-test (f x) (λ t. rw t) (λ t. rw t (none-all f l))
-
   some-true : (f : A → Bool) (l : List A) {d : A} → List·Memᴰ d l → f d ≡ true → someOf f l ≡ true
   some-true f [] m t = absurd (List·Memᴰ·not-nil m)
   some-true f (x ∷ l) {d} m t = go (List·Memᴰ·cases-cons m) (λ k. some-true f l k t)
@@ -67,10 +63,6 @@ module _ {A : Type 0} where
       (λ t. let r = some-where f l t in t ∙ sym (some-true f m (g (r .0) (r .1)) (r .2)))
       (λ t. by-test (someOf f m) (λ u. let r = some-where f m u in absurd (true≢false (sym (some-true f l (h (r .0) (r .1)) (r .2)) ∙ t))) (λ u. t ∙ sym u))
 
-  pub some-append : (f : A → Bool) (l k : List A) → someOf f (l ++ k) ≡ (someOf f l || someOf f k)
-  some-append f [] k = refl
-  some-append f (x ∷ l) k = by-test (f x) (λ t. rw t) (λ t. rw t (some-append f l k))
-
   -- a loop over a list: b is what the whole list answers, and k what is left of it
   module _ (f : A → Bool) {b : Bool} {k : List A} (e : b ≡ someOf f k) where
     pub some-here : {m : List A} {x : A} → k ≡ x ∷ m → f x ≡ true → true ≡ b
@@ -78,20 +70,6 @@ module _ {A : Type 0} where
 
     pub some-next : {m : List A} {x : A} → k ≡ x ∷ m → f x ≡ false → b ≡ someOf f m
     some-next s t = e ∙ rw (s, t)
-
-    pub some-end : k ≡ [] → false ≡ b
-    some-end s = sym (e ∙ rw s)
-
-  -- .. and where the next entries are those of a list
-  module _ (f : A → Bool) {b : Bool} {k : List A} (l m : List A) (e : b ≡ someOf f k) (s : k ≡ l ++ m) where
-    some-split : b ≡ (someOf f l || someOf f m)
-    some-split = e ∙ rw s (some-append f l m)
-
-    pub some-part : true ≡ someOf f l → true ≡ b
-    some-part t = sym (some-split ∙ rw (sym t))
-
-    pub some-rest : false ≡ someOf f l → b ≡ someOf f m
-    some-rest t = some-split ∙ rw (sym t)
 
   pub keep-all : (f : A → Bool) (l : List A) → ((y : A) → List·Memᴰ y l → f y ≡ true) → keep f l ≡ l
   keep-all f [] h = refl

@@ -1,6 +1,6 @@
 -- Consecutive numbers, tables of a function's values, the entries that pass a test, and zeros.
 -- Assumes nothing.
-use mathlib.Core.Bool.{Bool, true, false, cond, _&&_, _||_}
+use mathlib.Core.Bool.{Bool, true, false, cond, not, _&&_, _||_}
 use mathlib.Core.List.{List, [], _∷_, map}
 use Prim.Native.Nat.{ℕ, zero, suc, _+_}
 use lib.Dec.{eqb}
@@ -32,6 +32,10 @@ allOf f (x ∷ xs) = f x && allOf f xs
 abbrev pub someOf {ℓ} : {A : Type ℓ} → (A → Bool) → List A → Bool
 someOf f [] = false
 someOf f (x ∷ xs) = f x || someOf f xs
+
+-- The entries but 0.
+abbrev pub nonzero : List ℕ → List ℕ
+nonzero xs = keep (λ x. not (eqb x 0)) xs
 
 -- x is an entry.
 unfoldable pub isIn : List ℕ → ℕ → Bool

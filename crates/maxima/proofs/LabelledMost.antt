@@ -1,6 +1,6 @@
 -- What `label` answers beside what `most_components` answers for the same extents. The premises are the promises of the two public entries.
 -- Assumes nothing.
-use mathlib.Core.Path.{_≡_, refl, sym, ap, _∙_}
+use mathlib.Core.Path.{_≡_, sym, ap, _∙_}
 use mathlib.Core.Bool.{false}
 use mathlib.Core.List.{List}
 use Prim.Native.Nat.{ℕ, suc, _≤_, _<_}
@@ -9,19 +9,17 @@ use lib.Dec.{eqb}
 use lib.ListN.{length, getD}
 use borrow.Author.Tests.{eqb-true, eqb-false}
 use Rattle.lists.proofs.Cases.{by-test}
-use Rattle.lists.specs.Lists.{tabulate}
 use Rattle.lists.proofs.Lists.{length-tabulate, getD-tabulate}
 use Rattle.cells.specs.Box.{Triple, volume}
 use Rattle.cells.specs.Extents.{Sized, offSize}
 use Rattle.cells.specs.Grid.{cells}
-use Rattle.cells.proofs.CodeLaws.{blank-not}
 use Rattle.cells.proofs.ExtentLaws.{volume-high}
 use Rattle.extents.proofs.SizeLaws.{size-fits}
 use Rattle.labels.specs.Number.{labels}
 use Rattle.labels.specs.Components.{largest}
 use Rattle.labels.specs.OrderCounts.{cellsOfOrder}
 use Rattle.labeller.specs.declared.Labelled.{Labelled}
-use Rattle.labeller.specs.Labelling.{Outcome, outcome, labelling, refusalOf, refused, Ready}
+use Rattle.labeller.specs.Labelling.{Outcome, outcome, labelling, refused, Ready}
 use Rattle.labeller.proofs.LabellingLaws.{ready-of, ready-accepted}
 use Rattle.labeller.proofs.OneBlock.{label-refusal, label-refused, label-map, label-counts}
 use Rattle.maxima.specs.declared.Most.{Most}
@@ -34,7 +32,7 @@ module _ (e : Triple) (codes m w : List ℕ) (r : Labelled) (m′ w′ : List �
     -- an accepted labelling has extents that are not off size
     sized : offSize 64 e ≡ false
     sized =
-        let ready = ready-of e codes (length m) (length w) (sym (label-refusal e codes m w r m′ w′ promise) ∙ fine) in
+        let ready = ready-of e (length codes) (length m) (length w) (sym (label-refusal e codes m w r m′ w′ promise) ∙ fine) in
         size-fits 64 64 e (omega arith) (ready .sized)
 
     told : s ≡ accepted e
@@ -80,10 +78,22 @@ module _ (e : Triple) (codes m w : List ℕ) (r : Labelled) (m′ w′ : List �
         omega (arith, ap (λ (o : Outcome). o .answer .points) n),
       ))
 
--- ---- such a call there is, for all extents from 1 to 64: the codes 1, 2, 3, ..
+-- ---- such calls there are, for all extents from 1 to 64
 
+-- `label` accepts every list of different codes, also with a 0 among them, in trays of the right lengths, and answers as many faces, curves and points as
+-- `most_components`.
+pub different-reached : (e : Triple) (codes m w : List ℕ) → Sized 64 e → length codes ≡ volume e → length m ≡ cells e → length w ≡ cells e → DifferentCodes e codes
+    → (r : Labelled) (m′ w′ : List ℕ) → outcome r m′ w′ ≡ labelling e codes m w → (s : Most) → s ≡ mostComponents e
+    → (r .refusal ≡ 0) × (r .faces ≡ s .faces) × (r .curves ≡ s .curves) × (r .points ≡ s .points)
+different-reached e codes m w z n k l D r m′ w′ promise s answered =
+    let ready : Ready e (length codes) (length m) (length w) = record { sized = z; codes-are = n; map-is = k; work-is = l } in
+    let fine : r .refusal ≡ 0 = label-refusal e codes m w r m′ w′ promise ∙ ready-accepted e (length codes) (length m) (length w) ready in
+    let same = label-reached e codes m w r m′ w′ promise s answered fine D in
+    (fine, same .0, same .1, same .2)
+
+-- .. of which the codes 1, 2, 3, .. are one.
 module _ (e : Triple) (z : Sized 64 e) where
-  -- "A voxel's code is 1 to 4,294,967,295."
+  -- "A voxel's code is 1 to 4,294,967,295": none of them is outside.
   pub counted-codes : (v : ℕ) → v < volume e → (1 ≤ getD (countedCodes e) v 0) × (getD (countedCodes e) v 0 ≤ 4294967295)
   unfolding countedCodes
   counted-codes v h =
@@ -91,16 +101,8 @@ module _ (e : Triple) (z : Sized 64 e) where
       let n : volume e ≤ 262144 = volume-high z in
       (omega arith, omega arith)
 
-  counted-accepted : refusalOf e (countedCodes e) (cells e) (cells e) ≡ 0
-  unfolding countedCodes tabulate
-  counted-accepted =
-      let ready : Ready e (length (countedCodes e)) (cells e) (cells e) = record { sized = z; codes-are = length-tabulate (volume e) suc; map-is = refl; work-is = refl } in
-      ready-accepted e (countedCodes e) (cells e) (cells e) ready (blank-not (countedCodes e) (λ v h. let c = counted-codes v (rw (length-tabulate (volume e) suc) at h) in omega (arith, c .0)))
-
-  -- `label` accepts them, in trays of the right lengths, and answers as many faces, curves and points as `most_components`.
   pub counted-reached : (m w : List ℕ) → length m ≡ cells e → length w ≡ cells e → (r : Labelled) (m′ w′ : List ℕ) → outcome r m′ w′ ≡ labelling e (countedCodes e) m w
       → (s : Most) → s ≡ mostComponents e → (r .refusal ≡ 0) × (r .faces ≡ s .faces) × (r .curves ≡ s .curves) × (r .points ≡ s .points)
   counted-reached m w k l r m′ w′ promise s answered =
-      let fine : r .refusal ≡ 0 = label-refusal e (countedCodes e) m w r m′ w′ promise ∙ rw (k, l) counted-accepted in
-      let same = label-reached e (countedCodes e) m w r m′ w′ promise s answered fine (counted-different e) in
-      (fine, same .0, same .1, same .2)
+      let n : length (countedCodes e) ≡ volume e = unfold countedCodes in length-tabulate (volume e) suc in
+      different-reached e (countedCodes e) m w z n k l (counted-different e) r m′ w′ promise s answered

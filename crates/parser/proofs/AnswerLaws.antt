@@ -7,13 +7,11 @@ use mathlib.Core.List.{List}
 use Prim.Native.Nat.{ℕ, _-_, _≤_, _<_}
 use native.Mathlib.Omega.{arith}
 use lib.Dec.{eqb, leb, ltb}
-use lib.ListN.{length, take, length-set}
-use lib.Seq.{take-all}
+use lib.ListN.{length, length-set}
 use borrow.Author.Tests.{lt-leb, le-leb, eq-eqb, ne-eqb, eqb-true, not-true}
 use Rattle.lists.proofs.Cases.{by-test, and-first, and-second}
 use Rattle.refusals.specs.Refusals.{number}
 use Rattle.cells.specs.Box.{Triple, triple, volume}
-use Rattle.cells.specs.Codes.{blank}
 use Rattle.cells.specs.Extents.{Sized, offSize}
 use Rattle.extents.proofs.SizeLaws.{sized-of}
 use Rattle.parser.specs.declared.Scanned.{Scanned}
@@ -54,61 +52,52 @@ whole-sized s t =
     let k = leb 3 (s .count) in
     sized-of 8 (extentsSeen s) (not-true (offSize 8 (extentsSeen s)) (and-first o n (and-second k (o && n) (and-second (not (s .broken)) (k && (o && n)) t))))
 
-pub front-all : (d : List ℕ) (n : ℕ) (r : Bool) → length d ≤ n → r ≡ blank d → r ≡ blank (take n d)
-front-all d n r h e = rw (take-all n d h) e
-
 -- ---- the number of the line
 
--- The tests, lowest number first: off size, a whole text with a blank, a text that is not whole.
-abbrev pub rungs : Bool → Bool → Bool → ℕ
-rungs o w b = cond o 1 (cond (w && b) 7 (cond (not w) 11 0))
+-- The tests, lowest number first: off size, a text that is not whole.
+abbrev pub rungs : Bool → Bool → ℕ
+rungs o w = cond o 1 (cond (not w) 11 0)
 
 -- None stands.
-pub record Passed (o w b : Bool) : Type 0 where
+pub record Passed (o w : Bool) : Type 0 where
   pub size : o ≡ false
   pub form : w ≡ true
-  pub full : b ≡ false
 
-pub rungs-none : (o w b : Bool) → rungs o w b ≡ 0 → Passed o w b
-rungs-none true w b z = absurd (omega arith)
-rungs-none false true true z = absurd (omega arith)
-rungs-none false true false z = record { size = refl; form = refl; full = refl }
-rungs-none false false b z = absurd (omega arith)
+pub rungs-none : (o w : Bool) → rungs o w ≡ 0 → Passed o w
+rungs-none true w z = absurd (omega arith)
+rungs-none false true z = record { size = refl; form = refl }
+rungs-none false false z = absurd (omega arith)
 
-module _ (s : Scanned) (d : List ℕ) where
-  pub ladder : lineNumber s d ≡ rungs (offExtents s) (wholeText s) (blank (take (s .count - 3) d))
+module _ (s : Scanned) where
+  pub ladder : lineNumber s ≡ rungs (offExtents s) (wholeText s)
   unfolding lineNumber number
   ladder = refl
 
   module _ (o : Bool) (i : o ≡ offExtents s) where
-    pub number-size : o ≡ true → 1 ≡ lineNumber s d
+    pub number-size : o ≡ true → 1 ≡ lineNumber s
     number-size t = sym (ladder ∙ rw (sym i ∙ t))
 
     module _ (t : o ≡ false) (w : Bool) (j : w ≡ wholeText s) where
-      pub number-form : w ≡ false → 11 ≡ lineNumber s d
+      pub number-form : w ≡ false → 11 ≡ lineNumber s
       number-form g = sym (ladder ∙ rw (sym i ∙ t, sym j ∙ g))
 
-      module _ (g : w ≡ true) (n : ℕ) (k : n ≡ s .count - 3) (b : Bool) (l : b ≡ blank (take n d)) where
-        pub number-blank : b ≡ true → 7 ≡ lineNumber s d
-        number-blank h = sym (ladder ∙ rw (sym i ∙ t, sym j ∙ g, ← k, sym l ∙ h))
-
-        pub number-none : b ≡ false → 0 ≡ lineNumber s d
-        number-none h = sym (ladder ∙ rw (sym i ∙ t, sym j ∙ g, ← k, sym l ∙ h))
+      pub number-none : w ≡ true → 0 ≡ lineNumber s
+      number-none g = sym (ladder ∙ rw (sym i ∙ t, sym j ∙ g))
 
   -- Where no line is printed, the extents are small.
-  pub small-extents : lineNumber s d ≡ 0 → Sized 8 (extentsSeen s)
-  small-extents z = whole-sized s (rungs-none (offExtents s) (wholeText s) (blank (take (s .count - 3) d)) (sym ladder ∙ z) .form)
+  pub small-extents : lineNumber s ≡ 0 → Sized 8 (extentsSeen s)
+  small-extents z = whole-sized s (rungs-none (offExtents s) (wholeText s) (sym ladder ∙ z) .form)
 
-  module _ (n : ℕ) (i : n ≡ lineNumber s d) where
-    pub task-refused : n ≢ 0 → Task.PrintRefused n ≡ taskSeen s d
+  module _ (n : ℕ) (i : n ≡ lineNumber s) where
+    pub task-refused : n ≢ 0 → Task.PrintRefused n ≡ taskSeen s
     unfolding taskSeen taskOf
     task-refused z = rw (← i, ne-eqb n 0 z)
 
-    pub task-listing : n ≡ 0 → Task.ListVolume (s .nx) (s .ny) (s .nz) ≡ taskSeen s d
+    pub task-listing : n ≡ 0 → Task.ListVolume (s .nx) (s .ny) (s .nz) ≡ taskSeen s
     unfolding taskSeen taskOf
     task-listing z = rw (← i, eq-eqb n 0 z)
 
-pub finished-is : (s t : Scanned) (d e : List ℕ) (r : Task) → state t e ≡ closed s d → r ≡ taskSeen t e → outcome r e ≡ finished (state s d)
+pub finished-is : (s t : Scanned) (d e : List ℕ) (r : Task) → state t e ≡ closed s d → r ≡ taskSeen t → outcome r e ≡ finished (state s d)
 unfolding finished
 finished-is s t d e r p q = rw (← p, q)
 
@@ -130,16 +119,16 @@ abbrev extentsNamed : Task → Triple
 extentsNamed (Task.ListVolume x y z) = triple x y z
 extentsNamed (Task.PrintRefused n) = triple 1 1 1
 
-task-sized : (s : Scanned) (d : List ℕ) → Sized 8 (extentsNamed (taskSeen s d))
+task-sized : (s : Scanned) → Sized 8 (extentsNamed (taskSeen s))
 unfolding taskSeen taskOf
-task-sized s d =
-    by-test (eqb (lineNumber s d) 0)
-    (λ t. rw t (small-extents s d (eqb-true _ 0 t)))
+task-sized s =
+    by-test (eqb (lineNumber s) 0)
+    (λ t. rw t (small-extents s (eqb-true _ 0 t)))
     (λ t. rw t (record { x-low = omega arith; x-high = omega arith; y-low = omega arith; y-high = omega arith; z-low = omega arith; z-high = omega arith }))
 
 pub listed-small : (st : State) (r : Task) (d : List ℕ) (x y z : ℕ) → outcome r d ≡ finished st → r ≡ Task.ListVolume x y z → Sized 8 (triple x y z)
 unfolding finished
 listed-small st r d x y z p q =
     let t = closed (st .seen) (st .codes) in
-    let e : Task.ListVolume x y z ≡ taskSeen (t .seen) (t .codes) = sym q ∙ ap (λ (o : Outcome). o .task) p in
-    subst (λ (u : Task). Sized 8 (extentsNamed u)) (sym e) (task-sized (t .seen) (t .codes))
+    let e : Task.ListVolume x y z ≡ taskSeen (t .seen) = sym q ∙ ap (λ (o : Outcome). o .task) p in
+    subst (λ (u : Task). Sized 8 (extentsNamed u)) (sym e) (task-sized (t .seen))

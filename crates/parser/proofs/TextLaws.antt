@@ -13,7 +13,6 @@ use borrow.Author.Tests.{le-leb, lt-leb, lt-ltb, le-ltb, ne-eqb, eqb-true, eqb-f
 use Rattle.lists.proofs.Cases.{by-test, not-twice, and-first, and-second, and-both}
 use Rattle.refusals.specs.Refusals.{number, table, first, givenBy, standsIn}
 use Rattle.cells.specs.Box.{volume}
-use Rattle.cells.specs.Codes.{blank}
 use Rattle.cells.specs.Extents.{offSize}
 use Rattle.cells.proofs.ExtentLaws.{volume-high}
 use Rattle.extents.proofs.SizeLaws.{sized-of}
@@ -230,32 +229,29 @@ module _ (ws : List (List ℕ)) (f : formed ws ≡ true) where
       rw (leading-same ws (and-first (numbers ws) _ f), take-all 515 ws most, sets-eq (map spelled (drop 3 ws)) d 0 (omega (arith, code-length)))
       (take-at (map spelled (drop 3 ws)) _ (volume (extentsIn ws)) code-length)
 
-rungs-same : (o p w x b c : Bool) → o ≡ p → (p ≡ false → w ≡ x) → (p ≡ false → x ≡ true → b ≡ c) → rungs o w b ≡ rungs p x c
-rungs-same o true w x b c i f g = rw i
-rungs-same o false w false b c i f g = rw (i, f refl)
-rungs-same o false w true b c i f g = rw (i, f refl, g refl refl)
+rungs-same : (o p w x : Bool) → o ≡ p → (p ≡ false → w ≡ x) → rungs o w ≡ rungs p x
+rungs-same o true w x i f = rw i
+rungs-same o false w x i f = rw (i, f refl)
 
 -- The tests of the text.
-pub text-rungs : (text : List ℕ) → textRefusal text ≡ rungs (readable (wordsOf text) && offSize 8 (askedExtents text)) (formed (wordsOf text)) (blank (askedCodes text))
-unfolding textRefusal askedExtents askedCodes givenBy first table number standsIn declinesText
+pub text-rungs : (text : List ℕ) → textRefusal text ≡ rungs (readable (wordsOf text) && offSize 8 (askedExtents text)) (formed (wordsOf text))
+unfolding textRefusal askedExtents givenBy first table number standsIn declinesText
 text-rungs text = refl
 
 -- A text that is not refused.
 pub record Accepted (text : List ℕ) : Type 0 where
   pub form : formed (wordsOf text) ≡ true
   pub size : offSize 8 (askedExtents text) ≡ false
-  pub full : blank (askedCodes text) ≡ false
   pub enough : length (askedCodes text) ≡ volume (askedExtents text)
 
 pub accepted-of : (text : List ℕ) → textRefusal text ≡ 0 → Accepted text
 unfolding askedExtents askedCodes
 accepted-of text z =
     let ws = wordsOf text in
-    let n = rungs-none (readable ws && offSize 8 (extentsIn ws)) (formed ws) (blank (codesIn ws)) (sym (text-rungs text) ∙ z) in
+    let n = rungs-none (readable ws && offSize 8 (extentsIn ws)) (formed ws) (sym (text-rungs text) ∙ z) in
     record {
       form = n .form;
       size = rw (formed-readable (wordsOf text) (n .form)) at (n .size);
-      full = n .full;
       enough = code-length (wordsOf text) (n .form);
     }
 
@@ -281,20 +277,11 @@ module _ (s : Scanned) (e d text : List ℕ) (k : Told (state s e) d (wordsOf te
         (λ r. rw (k .three ∙ r, k .extents r, on-size r) (k .form r (few r)))
         (λ r. rw (k .three ∙ r, and-false (not (s .broken))) (sym (by-test (formed ws) (λ f. absurd (true≢false (sym (formed-readable ws f) ∙ r))) (λ f. f))))
 
-    same-codes : formed ws ≡ true → take (s .count - 3) e ≡ codesIn ws
-    same-codes f =
-        let r = formed-readable ws f in
-        let n : s .count - 3 ≡ volume (extentsIn ws) = eqb-true _ _ (and-second (not (s .broken)) _ (k .form r (few r) ∙ f)) in
-        rw (k .tray, n) (codes-front ws f d (omega (arith, few r)) (few r))
+  same-number : lineNumber s ≡ textRefusal text
+  unfolding askedExtents
+  same-number = ladder s ∙ rungs-same (offExtents s) _ (wholeText s) _ same-off same-whole ∙ sym (text-rungs text)
 
-  same-number : lineNumber s e ≡ textRefusal text
-  unfolding askedExtents askedCodes
-  same-number =
-      ladder s e
-      ∙ rungs-same (offExtents s) _ (wholeText s) _ (blank (take (s .count - 3) e)) _ same-off same-whole (λ o f. ap blank (same-codes o f))
-      ∙ sym (text-rungs text)
-
-  same-task : taskSeen s e ≡ taskOf (textRefusal text) (askedExtents text)
+  same-task : taskSeen s ≡ taskOf (textRefusal text) (askedExtents text)
   unfolding taskSeen taskOf askedExtents
   same-task =
       rw same-number
@@ -320,8 +307,8 @@ unfolding finished
 text-read d text h =
     let u = afterWords (state begun d) (wordsOf text) in
     let k = told d (wordsOf text) in
-    let a : Answers text (outcome (taskSeen (u .seen) (u .codes)) (u .codes)) = record {
+    let a : Answers text (outcome (taskSeen (u .seen)) (u .codes)) = record {
       task = same-task (u .seen) (u .codes) d text k h;
       codes = codes-first (u .seen) (u .codes) d text k h;
     } in
-    subst (λ (v : State). Answers text (outcome (taskSeen (v .seen) (v .codes)) (v .codes))) (sym (walked d text)) a
+    subst (λ (v : State). Answers text (outcome (taskSeen (v .seen)) (v .codes))) (sym (walked d text)) a

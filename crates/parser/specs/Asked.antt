@@ -4,10 +4,8 @@ use mathlib.Core.Bool.{Bool, cond, not, _&&_}
 use mathlib.Core.List.{List}
 use Prim.Native.Nat.{ℕ, _-_}
 use lib.Dec.{eqb, leb}
-use lib.ListN.{take}
-use Rattle.refusals.specs.Refusals.{off-size, blank-voxel, bad-record, number}
+use Rattle.refusals.specs.Refusals.{off-size, bad-record, number}
 use Rattle.cells.specs.Box.{Triple, triple, volume}
-use Rattle.cells.specs.Codes.{blank}
 use Rattle.cells.specs.Extents.{offSize}
 use Rattle.parser.specs.declared.Scanned.{Scanned}
 use Rattle.parser.specs.declared.Task.{Task}
@@ -38,16 +36,13 @@ unfoldable pub wholeText : Scanned → Bool
 wholeText s = not (s .broken) && (leb 3 (s .count) && (not (offSize 8 (extentsSeen s)) && eqb (s .count - 3) (volume (extentsSeen s))))
 
 -- The number that the line `refused` shows, 0 for no such line: `text-read` (proofs/TextLaws) says that it is that of the text.
-unfoldable pub lineNumber : Scanned → List ℕ → ℕ
-lineNumber s d =
-    cond (offExtents s) (number off-size)
-    (cond (wholeText s && blank (take (s .count - 3) d)) (number blank-voxel)
-    (cond (not (wholeText s)) (number bad-record) 0))
+unfoldable pub lineNumber : Scanned → ℕ
+lineNumber s = cond (offExtents s) (number off-size) (cond (not (wholeText s)) (number bad-record) 0)
 
 -- What is to be done.
-unfoldable pub taskSeen : Scanned → List ℕ → Task
-taskSeen s d = taskOf (lineNumber s d) (extentsSeen s)
+unfoldable pub taskSeen : Scanned → Task
+taskSeen s = taskOf (lineNumber s) (extentsSeen s)
 
 -- The last word ends, and what is to be done is told.
 unfoldable pub finished : State → Outcome
-finished st = let t = closed (st .seen) (st .codes) in outcome (taskSeen (t .seen) (t .codes)) (t .codes)
+finished st = let t = closed (st .seen) (st .codes) in outcome (taskSeen (t .seen)) (t .codes)

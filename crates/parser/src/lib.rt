@@ -1,15 +1,11 @@
 // Turns the text that the listing program reads into what the program is to do. The text comes in chunks, of any length in all, and is
 // read to its end whatever is in it: what is kept of it is one `Scanned` and the tray of codes. None of the functions is an entry.
-use extents::has_blank;
 use extents::off_size;
 use refusals::BAD_RECORD;
-use refusals::BLANK_VOXEL;
 use refusals::OFF_SIZE;
 ghost use mathlib.Core.Path.{_≡_};
 ghost use Prim.Native.Nat.{_-_, _<_};
-ghost use lib.ListN.{take};
 ghost use Rattle.cells.specs.Box.{triple, volume};
-ghost use Rattle.cells.specs.Codes.{blank};
 ghost use Rattle.cells.specs.Extents.{Sized};
 ghost use Rattle.text.specs.Words.{gap};
 ghost use Rattle.parser.specs.Scanning.{state, begun, capped, spells, longer, grown, counts, extent, counted, lost, stored, closed, step, after};
@@ -265,36 +261,23 @@ fn is_whole(s: Scanned) -> bool
     code_count(s) == voxels(nx, ny, nz)
 }
 
-// Whether one of the first n codes is 0.
-fn front_blank(codes: &[u32], n: usize) -> bool
-    ensures { λ r. ⌜ r ≡ blank (take n (now (codes .entry))) ⌝ }
-{
-    if n < codes.len() {
-        return has_blank(&codes[..n]);
-    }
-    has_blank(codes)
-}
-
 // The number that the line `refused` is to show, and 0 where there is to be none.
-fn line_number(s: Scanned, codes: &[u32]) -> u32
-    ensures { λ r. ⌜ r ≡ lineNumber s (now (codes .entry)) ⌝ }
+fn line_number(s: Scanned) -> u32
+    ensures { λ r. ⌜ r ≡ lineNumber s ⌝ }
 {
     if off_extents(s) {
         return OFF_SIZE;
     }
     if is_whole(s) {
-        if front_blank(codes, code_count(s)) {
-            return BLANK_VOXEL;
-        }
         return 0;
     }
     BAD_RECORD
 }
 
-fn task_seen(s: Scanned, codes: &[u32]) -> Task
-    ensures { λ r. ⌜ r ≡ taskSeen s (now (codes .entry)) ⌝ }
+fn task_seen(s: Scanned) -> Task
+    ensures { λ r. ⌜ r ≡ taskSeen s ⌝ }
 {
-    let number = line_number(s, codes);
+    let number = line_number(s);
     if number != 0 {
         return Task::PrintRefused(number);
     }
@@ -306,5 +289,5 @@ pub fn finish(s: Scanned, codes: &mut [u32; 512]) -> Task
     ensures { λ r. ⌜ outcome r (now (codes .exit)) ≡ finished (state s (now (codes .entry))) ⌝ }
 {
     let t = close(s, codes);
-    task_seen(t, &codes[..])
+    task_seen(t)
 }

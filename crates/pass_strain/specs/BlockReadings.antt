@@ -42,7 +42,7 @@ faceAt g p = finalIn (g .numbers) (g .from) (getD (g .numbered) p 0)
 unfoldable pub ownFace : Triple → Triple → Brought → ℕ → ℕ
 ownFace e s g p = cond (startsBy s (place (sides e) p)) (faceAt g p) 0
 
--- What is taken at face cell p: both readings, where it counts here.
+-- What is taken at face cell p, where it counts here: the readings of its voxels, but for one that is outside.
 unfoldable pub cellTaken : Triple → Triple → Brought → ℕ → List Taken
 cellTaken e s g p = cond (eqb (ownFace e s g p) 0) [] (faceTaken e (g .numbered) (g .values) (g .kinds) (ownFace e s g p) p)
 

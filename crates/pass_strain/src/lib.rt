@@ -72,7 +72,7 @@ fn take_voxel(
     );
 }
 
-// Takes in the readings of both voxels at cell p of face n. They stand at places v and v + d of the lists.
+// Takes in the readings of the voxels at cell p of face n, but for one that is outside. They stand at places v and v + d of the lists.
 fn take_face(
     sums: &mut [f64],
     counts: &mut [u64],

@@ -1,22 +1,17 @@
--- The largest number and the blank voxels of a list of cells, along a line and from line to line.
+-- The largest number of a list of cells, along a line and from line to line.
 -- Assumes nothing.
-use mathlib.Core.Path.{_≡_, refl, sym, ap, _∙_}
-use mathlib.Core.Bool.{Bool, true, false, not, _&&_, true≢false}
-use mathlib.Core.Logic.{_≢_}
+use mathlib.Core.Path.{_≡_, sym, ap, _∙_}
 use mathlib.Core.List.{List, [], _∷_, _++_}
 use Prim.Native.Nat.{ℕ, _+_, _≤_, _<_, max}
 use native.Mathlib.Omega.{arith}
 use lib.Dec.{eqb}
 use lib.ListN.{getD}
-use borrow.Author.Tests.{eq-eqb, ne-eqb}
-use Rattle.lists.proofs.Tests.{none-all}
 use Rattle.cells.specs.Box.{Triple}
 use Rattle.cells.specs.Grid.{order}
-use Rattle.labels.specs.Components.{ofOrder, largest, blankVoxel}
+use Rattle.labels.specs.Components.{ofOrder, largest}
 use Rattle.lines.specs.Lines.{lineCount}
 use Rattle.lines.proofs.WalkLaws.{onwards, lines-first, lines-next, lines-last}
-use Rattle.joiner.specs.Declines.{filled}
-use Rattle.pass_survey.specs.Survey.{onLine, most, full, lineAdded}
+use Rattle.pass_survey.specs.Survey.{onLine, most, lineAdded}
 use Rattle.pass_survey.specs.declared.Survey.{Survey}
 
 -- ---- lists
@@ -29,28 +24,6 @@ unfolding most
 most-append m [] b n = omega arith
 most-append m (x ∷ a) b n = sym (max-three n (getD m x 0) (most m (a ++ b))) ∙ most-append m a b (max n (getD m x 0)) ∙ ap (λ (k : ℕ). max k (most m b)) (max-three n (getD m x 0) (most m a))
 
-and-three : (a b c : Bool) → (a && (b && c)) ≡ ((a && b) && c)
-and-three true b c = refl
-and-three false b c = refl
-
--- two tests, of which one fails, or both pass
-pub and-off : (s t : Bool) → not s ≡ true → false ≡ (s && t)
-and-off true t e = absurd (true≢false (sym e))
-and-off false t e = refl
-
-pub and-none : (s t : Bool) → t ≡ false → false ≡ (s && t)
-and-none true t e = sym e
-and-none false t e = refl
-
-pub and-all : (s t : Bool) → not s ≡ false → t ≡ true → true ≡ (s && t)
-and-all true t e f = sym f
-and-all false t e f = e
-
-full-append : (m a b : List ℕ) → full m (a ++ b) ≡ (full m a && full m b)
-unfolding full
-full-append m [] b = refl
-full-append m (x ∷ a) b = ap (λ (t : Bool). not (eqb (getD m x 0) 0) && t) (full-append m a b) ∙ and-three (not (eqb (getD m x 0) 0)) (full m a) (full m b)
-
 -- ---- the next cell of a list, and none
 
 module _ (m : List ℕ) where
@@ -61,18 +34,6 @@ module _ (m : List ℕ) where
   pub most-none : (k : ℕ) → k ≡ max k (most m [])
   unfolding most
   most-none k = omega arith
-
-  pub full-here : (p : ℕ) (ps : List ℕ) → getD m p 0 ≡ 0 → full m (p ∷ ps) ≡ false
-  unfolding full
-  full-here p ps z = rw (eq-eqb (getD m p 0) 0 z)
-
-  pub full-next : (p : ℕ) (ps : List ℕ) → getD m p 0 ≢ 0 → full m (p ∷ ps) ≡ full m ps
-  unfolding full
-  full-next p ps z = rw (ne-eqb (getD m p 0) 0 z)
-
-  pub full-none : full m [] ≡ true
-  unfolding full
-  full-none = refl
 
 -- ---- the cells of order j from line l on
 
@@ -92,7 +53,6 @@ from-last e j l h = lines-last (λ p. eqb (order e p) j) e h
 
 -- The survey s of the lines before l, and what is ahead, give that of the map.
 pub record Looked (e : Triple) (m : List ℕ) (l : ℕ) (s : Survey) : Type 0 where
-  pub voxels : (s .filled && full m (fromLine e 3 l)) ≡ filled e m
   pub faces : max (s .faces) (most m (fromLine e 2 l)) ≡ largest e m 2
   pub curves : max (s .curves) (most m (fromLine e 1 l)) ≡ largest e m 1
   pub points : max (s .points) (most m (fromLine e 0 l)) ≡ largest e m 0
@@ -102,27 +62,18 @@ module _ (e : Triple) (m : List ℕ) where
   unfolding most largest
   most-all j = rw (from-first e j) (omega arith)
 
-  pub looked-none : Looked e m 0 (record { filled = true; faces = 0; curves = 0; points = 0 })
-  unfolding full filled blankVoxel
-  looked-none = record { voxels = rw (from-first e 3) (none-all (λ p. eqb (getD m p 0) 0) (ofOrder e 3)); faces = most-all 2; curves = most-all 1; points = most-all 0 }
+  pub looked-none : Looked e m 0 (record { faces = 0; curves = 0; points = 0 })
+  looked-none = record { faces = most-all 2; curves = most-all 1; points = most-all 0 }
 
   module _ (l : ℕ) (h : l < lineCount e) where
     most-line : (j k : ℕ) → max (max k (most m (onLine e j l))) (most m (fromLine e j (l + 1))) ≡ max k (most m (fromLine e j l))
     most-line j k = sym (ap (λ (ps : List ℕ). max k (most m ps)) (from-next e j l h) ∙ most-append m (onLine e j l) (fromLine e j (l + 1)) k)
-
-    full-line : (t : Bool) → ((t && full m (onLine e 3 l)) && full m (fromLine e 3 (l + 1))) ≡ (t && full m (fromLine e 3 l))
-    full-line t =
-        sym
-        (ap (λ (ps : List ℕ). t && full m ps) (from-next e 3 l h)
-        ∙ ap (λ (f : Bool). t && f) (full-append m (onLine e 3 l) (fromLine e 3 (l + 1)))
-        ∙ and-three t (full m (onLine e 3 l)) (full m (fromLine e 3 (l + 1))))
 
     pub looked-next : (s r : Survey) → Looked e m l s → r ≡ lineAdded e m l s → Looked e m (l + 1) r
     unfolding lineAdded
     looked-next s r L i =
         rw i
         (record {
-          voxels = full-line (s .filled) ∙ L .voxels;
           faces = most-line 2 (s .faces) ∙ L .faces;
           curves = most-line 1 (s .curves) ∙ L .curves;
           points = most-line 0 (s .points) ∙ L .points;
@@ -133,10 +84,5 @@ module _ (e : Triple) (m : List ℕ) where
     unfolding most
     most-last j k = rw (from-last e j l h) (omega arith)
 
-    full-last : (t : Bool) → t ≡ (t && full m (fromLine e 3 l))
-    unfolding full
-    full-last true = sym (rw (from-last e 3 l h))
-    full-last false = refl
-
-    pub looked-all : (s .filled ≡ filled e m) × ((s .faces ≡ largest e m 2) × ((s .curves ≡ largest e m 1) × (s .points ≡ largest e m 0)))
-    looked-all = (full-last (s .filled) ∙ L .voxels, (most-last 2 (s .faces) ∙ L .faces, (most-last 1 (s .curves) ∙ L .curves, most-last 0 (s .points) ∙ L .points)))
+    pub looked-all : (s .faces ≡ largest e m 2) × ((s .curves ≡ largest e m 1) × (s .points ≡ largest e m 0))
+    looked-all = (most-last 2 (s .faces) ∙ L .faces, (most-last 1 (s .curves) ∙ L .curves, most-last 0 (s .points) ∙ L .points))

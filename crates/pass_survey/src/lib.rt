@@ -1,8 +1,7 @@
-// What every step of a job learns of a map first: whether each voxel has a code, and the largest number of each order.
+// What every step of a job learns of a map first: the largest number of each order.
 use lines::line_count;
 use lines::line_with;
 ghost use mathlib.Core.Path.{_≡_};
-ghost use mathlib.Core.Bool.{_&&_};
 ghost use Prim.Native.Nat.{_+_, _≤_, _<_, max};
 ghost use lib.ListN.{length};
 ghost use Rattle.cells.specs.Box.{triple};
@@ -10,12 +9,10 @@ ghost use Rattle.cells.specs.Extents.{Sized};
 ghost use Rattle.cells.specs.Grid.{cells};
 ghost use Rattle.labels.specs.Components.{largest};
 ghost use Rattle.lines.specs.Lines.{lineCount, lineY, lineZ};
-ghost use Rattle.joiner.specs.Declines.{filled};
-ghost use Rattle.pass_survey.specs.Survey.{onLine, most, full, lineAdded};
+ghost use Rattle.pass_survey.specs.Survey.{onLine, most, lineAdded};
 
-// Whether no voxel is 0, and the largest number of a face, a curve and a point.
+// The largest number of a face, a curve and a point.
 pub struct Survey {
-    pub filled: bool,
     pub faces: u32,
     pub curves: u32,
     pub points: u32,
@@ -52,25 +49,6 @@ fn larger_on(
     m
 }
 
-// Whether no voxel was 0 so far, and none is on line l, of which q axes are odd.
-fn full_on(map: &[u32], nx: usize, ny: usize, nz: usize, l: usize, q: usize, filled: bool) -> bool
-    requires { ⌜ Sized 64 (triple nx ny nz) × (length (now map) ≡ cells (triple nx ny nz)) × (l < lineCount (triple nx ny nz)) × (q ≡ lineY (triple nx ny nz) l + lineZ (triple nx ny nz) l) ⌝ }
-    ensures { λ r. ⌜ r ≡ (filled && full (now (map .entry)) (onLine (triple nx ny nz) 3 l)) ⌝ }
-{
-    if !filled {
-        return false;
-    }
-    let line = line_with(nx, ny, nz, 0, l, q);
-    let mut x = line.start;
-    while x < line.width {
-        if map[line.base + x] == 0 {
-            return false;
-        }
-        x += 2;
-    }
-    true
-}
-
 // Takes in line l. It has cells of two orders at most: the loops for the others end at once.
 fn take_line(map: &[u32], nx: usize, ny: usize, nz: usize, l: usize, s: Survey) -> Survey
     requires { ⌜ Sized 64 (triple nx ny nz) × (length (now map) ≡ cells (triple nx ny nz)) × (l < lineCount (triple nx ny nz)) ⌝ }
@@ -79,7 +57,6 @@ fn take_line(map: &[u32], nx: usize, ny: usize, nz: usize, l: usize, s: Survey) 
     let h = 2 * ny - 1;
     let q = l % h % 2 + l / h % 2;
     Survey {
-        filled: full_on(map, nx, ny, nz, l, q, s.filled),
         faces: larger_on(map, nx, ny, nz, 2, l, q, s.faces),
         curves: larger_on(map, nx, ny, nz, 1, l, q, s.curves),
         points: larger_on(map, nx, ny, nz, 0, l, q, s.points),
@@ -89,14 +66,12 @@ fn take_line(map: &[u32], nx: usize, ny: usize, nz: usize, l: usize, s: Survey) 
 // Surveys a map in one pass. Not an entry.
 pub fn survey_map(map: &[u32], nx: usize, ny: usize, nz: usize) -> Survey
     requires { ⌜ Sized 64 (triple nx ny nz) × (length (now map) ≡ cells (triple nx ny nz)) ⌝ }
-    ensures filled { λ r. ⌜ r .filled ≡ filled (triple nx ny nz) (now (map .entry)) ⌝ }
     ensures faces { λ r. ⌜ r .faces ≡ largest (triple nx ny nz) (now (map .entry)) 2 ⌝ }
     ensures curves { λ r. ⌜ r .curves ≡ largest (triple nx ny nz) (now (map .entry)) 1 ⌝ }
     ensures points { λ r. ⌜ r .points ≡ largest (triple nx ny nz) (now (map .entry)) 0 ⌝ }
 {
     let lines = line_count(nx, ny, nz);
     let mut s = Survey {
-        filled: true,
         faces: 0,
         curves: 0,
         points: 0,

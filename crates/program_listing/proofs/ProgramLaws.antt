@@ -1,7 +1,6 @@
 -- The parser, the labeller and the printer, one after the other as `main` calls them, give the text `printed`.
 -- Assumes nothing.
 use mathlib.Core.Path.{_≡_, ap, _∙_}
-use mathlib.Core.Bool.{false}
 use mathlib.Core.Logic.{_≢_}
 use mathlib.Core.List.{List}
 use Prim.Native.Nat.{ℕ}
@@ -10,7 +9,6 @@ use lib.ListN.{length, take}
 use borrow.Author.Tests.{eq-eqb, ne-eqb}
 use Rattle.lists.specs.Lists.{zeros}
 use Rattle.cells.specs.Box.{Triple, volume}
-use Rattle.cells.specs.Codes.{blank}
 use Rattle.cells.specs.Extents.{Sized}
 use Rattle.cells.specs.Grid.{cells}
 use Rattle.extents.proofs.SizeLaws.{sized-of, sized-within}
@@ -29,12 +27,12 @@ use Rattle.printer.proofs.LabelledLaws.{labels-printed}
 
 -- ---- the program
 
-labelled : (e : Triple) (codes m w : List ℕ) → Sized 8 e → length codes ≡ volume e → blank codes ≡ false → length m ≡ cells e → length w ≡ cells e
+labelled : (e : Triple) (codes m w : List ℕ) → Sized 8 e → length codes ≡ volume e → length m ≡ cells e → length w ≡ cells e
     → labeller.labelling e codes m w ≡ labeller.accepted e codes
 unfolding labeller.labelling
-labelled e codes m w s k b i j =
+labelled e codes m w s k i j =
     let ready : labeller.Ready e (length codes) (length m) (length w) = record { sized = sized-within (omega arith) s; codes-are = k; map-is = i; work-is = j } in
-    let z : labeller.refusalOf e codes (length m) (length w) ≡ 0 = ready-accepted e codes (length m) (length w) ready b in
+    let z : labeller.refusalOf e (length codes) (length m) (length w) ≡ 0 = ready-accepted e (length codes) (length m) (length w) ready in
     rw z
 
 -- A text read in whole, in any chunks (`after-append`), into a tray of 512 places.
@@ -62,7 +60,7 @@ module _ (text d : List ℕ) (room : length d ≡ 512) where
       labels-codes =
           let a = accepted-of text z in
           ap (λ (c : List ℕ). labeller.labelling e c m w) (text-read d text room .codes z)
-          ∙ labelled e (askedCodes text) m w (sized-of 8 _ (a .size)) (a .enough) (a .full) i j
+          ∙ labelled e (askedCodes text) m w (sized-of 8 _ (a .size)) (a .enough) i j
 
       -- and the listing of their map is printed
       pub prints-listing : (from : ℕ) (t : List ℕ) → printer.printing e (labels e (askedCodes text)) w from t

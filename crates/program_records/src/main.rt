@@ -141,15 +141,6 @@ fn declined(nx: u16, ny: u16, nz: u16, ox: u16, map: &[u32], n: usize) -> u32 {
     w.refusal
 }
 
-// The same with the number of cell p changed to 0, which is not undone.
-fn declined_blank(nx: u16, ny: u16, nz: u16, map: &mut [u32], p: usize) -> u32 {
-    if p >= map.len() {
-        return NOT_TRIED;
-    }
-    map[p] = 0;
-    declined(nx, ny, nz, 1, map, 700)
-}
-
 // Whether a head has these extents and the origin (1, 2, 3).
 fn placed(h: Head, nx: u16, ny: u16, nz: u16) -> bool {
     if h.nx != nx || h.ny != ny || h.nz != nz {
@@ -158,9 +149,10 @@ fn placed(h: Head, nx: u16, ny: u16, nz: u16) -> bool {
     h.ox == 1 && h.oy == 2 && h.oz == 3
 }
 
-// Writes a map, reads it back, and answers the length of the record.
+// Writes a map, reads it back, and answers the length of the record. What is special of the map stands after the name.
 fn round(
     name: &[u8],
+    what: &[u8],
     nx: u16,
     ny: u16,
     nz: u16,
@@ -172,6 +164,7 @@ fn round(
     let h = read_front(tray, w.length, back);
     let alike = placed(h, nx, ny, nz) && same(map, back);
     io::write_all(1, name);
+    io::write_all(1, what);
     tell(b"write", w.refusal as u64);
     tell(b"length", w.length as u64);
     tell(b"read", h.refusal as u64);
@@ -180,7 +173,7 @@ fn round(
     w.length
 }
 
-// Records with bits or numbers that are wrong. Where a voxel's bit is cleared the record is 4 bytes shorter, so that its length is right.
+// Records with bits or numbers that are wrong.
 fn bits(name: &[u8], tray: &[u8; 700], n: usize, c: usize) {
     if c < 1 {
         return;
@@ -194,9 +187,19 @@ fn bits(name: &[u8], tray: &[u8; 700], n: usize, c: usize) {
     let end = 8 * ((c + 7) / 8);
     say(name, b"spare", refused_bit(tray, c, n, c));
     say(name, b"last spare", refused_bit(tray, end - 1, n, c));
+    say(name, b"zero", refused_zero(tray, n - 4, n, c));
+}
+
+// Records with the bit of a voxel cleared and 4 bytes less: those of another map, with that voxel outside.
+fn voxels(name: &[u8], tray: &[u8; 700], n: usize, c: usize) {
+    if c < 1 {
+        return;
+    }
+    if n < 4 {
+        return;
+    }
     say(name, b"voxel", refused_bit(tray, 0, n - 4, c));
     say(name, b"last voxel", refused_bit(tray, c - 1, n - 4, c));
-    say(name, b"zero", refused_zero(tray, n - 4, n, c));
 }
 
 // Records whose length is wrong.
@@ -253,27 +256,35 @@ fn writings(name: &[u8], nx: u16, ny: u16, nz: u16, map: &[u32], n: usize) {
     say(name, b"write short", declined(nx, ny, nz, 1, map, n - 1));
 }
 
-// Writings of a map with 0 at the last voxel, and at the first too.
-fn blanks(name: &[u8], nx: u16, ny: u16, nz: u16, map: &mut [u32]) {
+// Puts a voxel outside.
+fn put_outside(map: &mut [u32], p: usize) {
+    if p < map.len() {
+        map[p] = 0;
+    }
+}
+
+// A map with 0 at the last voxel, and one with 0 at the first too, written and read back.
+fn outside(name: &[u8], nx: u16, ny: u16, nz: u16, map: &mut [u32], back: &mut [u32]) {
     if map.len() == 0 {
         return;
     }
     let last = map.len() - 1;
-    say(
-        name,
-        b"write last blank",
-        declined_blank(nx, ny, nz, map, last),
-    );
-    say(name, b"write blank", declined_blank(nx, ny, nz, map, 0));
+    let mut tray = [0u8; 700];
+    put_outside(map, last);
+    round(name, b" last outside", nx, ny, nz, map, back, &mut tray);
+    put_outside(map, 0);
+    let n = round(name, b" both outside", nx, ny, nz, map, back, &mut tray);
+    show(name, &tray, n);
 }
 
 // Writes a map, reads it back, reads what is damaged, and answers the length of the record.
 fn readings(name: &[u8], nx: u16, ny: u16, nz: u16, map: &[u32], back: &mut [u32]) -> usize {
     let mut tray = [0u8; 700];
     let c = map.len();
-    let n = round(name, nx, ny, nz, map, back, &mut tray);
+    let n = round(name, b"", nx, ny, nz, map, back, &mut tray);
     show(name, &tray, n);
     bits(name, &tray, n, c);
+    voxels(name, &tray, n, c);
     lengths(name, &tray, n, c);
     trays(name, &tray, n, c);
     heads(name, &tray, n, c);
@@ -285,7 +296,7 @@ fn shape(name: &[u8], nx: u16, ny: u16, nz: u16, map: &mut [u32], back: &mut [u3
     fill(map);
     let n = readings(name, nx, ny, nz, map, back);
     writings(name, nx, ny, nz, map, n);
-    blanks(name, nx, ny, nz, map);
+    outside(name, nx, ny, nz, map, back);
 }
 
 fn one() {

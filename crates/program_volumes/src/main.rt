@@ -1,4 +1,4 @@
-// The volumes to try of document 01 that are not starred, and two more, as far as they can be tried without the joiner's steps: the counts
+// The volumes to try of document 01 that are not starred, and five more, as far as they can be tried without the joiner's steps: the counts
 // of each on one line, its map on another; then the cuts of an axis of 65, with the refusal of an opening and the ticks that it leaves.
 use labeller::Labelled;
 use labeller::label;
@@ -175,6 +175,36 @@ fn rings() {
     show(b"rings", &map);
 }
 
+// Zeros only (document 02, item 4).
+fn space() {
+    let codes = [0u32; 18];
+    let mut map = [5u32; 75];
+    let mut work = [5u32; 75];
+    count(b"space", &codes, 3, 3, 2, &mut map, &mut work);
+    show(b"space", &map);
+}
+
+// One code with a hole in the middle.
+fn hole() {
+    let mut codes = [1u32; 27];
+    codes[13] = 0;
+    let mut map = [5u32; 125];
+    let mut work = [5u32; 125];
+    count(b"hole", &codes, 3, 3, 3, &mut map, &mut work);
+    show(b"hole", &map);
+}
+
+// Two voxels, codes 5 and 7, with space on all six sides.
+fn core() {
+    let mut codes = [0u32; 36];
+    codes[17] = 5;
+    codes[18] = 7;
+    let mut map = [5u32; 175];
+    let mut work = [5u32; 175];
+    count(b"core", &codes, 4, 3, 3, &mut map, &mut work);
+    show(b"core", &map);
+}
+
 // Opens a job for 65×1×1 voxels in tables without entries, whose two blocks have old ticks.
 fn open_cut(name: &[u8], cx: &[u32], one: &[u32], none: &[u32], no_keys: &[u64]) {
     let mut ticks = [7u32; 12];
@@ -241,5 +271,8 @@ fn main() {
     figure();
     handle();
     rings();
+    space();
+    hole();
+    core();
     cuts();
 }

@@ -24,12 +24,10 @@ use Rattle.cells.specs.Extents.{offPlace}
 use Rattle.cells.specs.Grid.{cells}
 use Rattle.cells.proofs.ExtentLaws.{cells-high}
 use Rattle.extents.proofs.SizeLaws.{sized-at}
-use Rattle.labels.specs.Components.{ofOrder}
 use Rattle.records.specs.Fields.{fieldAt}
 use Rattle.records.specs.Record.{extentsOf, originOf, bitAt, bitsBefore, bitmapLength, numberOf, decodeRecord, lengthOf, damaged}
 use Rattle.records.proofs.BitLaws.{bits-more}
 use Rattle.records.proofs.ReadLaws.{bits-mono}
-use Rattle.lines.proofs.WalkLaws.{someEqual}
 use Rattle.reader.specs.declared.Head.{Head}
 use Rattle.reader.specs.Parts.{Mapped, ReadTo, numberAt}
 use Rattle.reader.specs.Loaded.{headed, declines, refusalOf, outcome, headOf, accepted, refused, reading}
@@ -44,6 +42,10 @@ pub or-next : (t b d : Bool) {r : Bool} → t ≡ b → t ≡ false → r ≡ d 
 or-next t b d e h q = rw (sym e ∙ h) q
 
 -- ---- a loop that asks whether f is v at one of the places up to n
+
+-- Whether f is v at one of these places.
+abbrev pub someEqual : (ℕ → ℕ) → ℕ → List ℕ → Bool
+someEqual f v ps = someOf (λ p. eqb (f p) v) ps
 
 -- b is the answer, and the places from i on give it.
 pub record PlacesAsked (f : ℕ → ℕ) (v n : ℕ) (b : Bool) (i : ℕ) : Type 0 where
@@ -122,8 +124,7 @@ module _ (e : Triple) (r : List ℕ) where
 
     pub damaged-rest : length r ≡ 12 + bitmapLength n + 4 * k → damaged e r
         ≡ (someOf (λ c. eqb (bitAt r c) 1) (consecutive n (8 * bitmapLength n - n)) ||
-        (someOf (λ c. eqb (bitAt r c) 0) (ofOrder e 3) ||
-        someOf (λ c. eqb (fieldAt r (12 + bitmapLength n + 4 * c) 4) 0) (consecutive 0 k)))
+        someOf (λ c. eqb (fieldAt r (12 + bitmapLength n + 4 * c) 4) 0) (consecutive 0 k))
     unfolding damaged lengthOf
     damaged-rest d = rw (j, i, eq-eqb _ _ (rw (j, i) at d))
 

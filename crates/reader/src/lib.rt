@@ -1,8 +1,6 @@
 // The reader of block records.
 use extents::grid_cells;
 use extents::off_place;
-use lines::line_at;
-use lines::line_count;
 use refusals::BAD_RECORD;
 use refusals::OFF_SIZE;
 use refusals::WRONG_TRAY;
@@ -10,12 +8,9 @@ ghost use mathlib.Core.Path.{_≡_};
 ghost use Prim.Native.Nat.{_+_, _*_, _-_, _/_, _≤_, _<_};
 ghost use lib.Dec.{eqb};
 ghost use lib.ListN.{length};
-ghost use Rattle.lists.specs.Lists.{consecutive, keep, someOf};
+ghost use Rattle.lists.specs.Lists.{consecutive, someOf};
 ghost use Rattle.cells.specs.Box.{triple};
 ghost use Rattle.cells.specs.Extents.{Sized};
-ghost use Rattle.cells.specs.Grid.{cells, order};
-ghost use Rattle.labels.specs.Components.{ofOrder};
-ghost use Rattle.lines.specs.Lines.{lineCount};
 ghost use Rattle.records.specs.Fields.{fieldAt};
 ghost use Rattle.records.specs.Record.{extentsOf, originOf, bitAt, bitsBefore, bitmapLength, lengthOf, decodeRecord, damaged};
 ghost use Rattle.reader.specs.Parts.{Mapped, ReadTo, bitCount, numberAt};
@@ -118,38 +113,6 @@ fn spare_set(bytes: &[u8], n: usize) -> bool
     false
 }
 
-// Whether the bit of a voxel on line l is clear.
-fn line_clear(bytes: &[u8], nx: usize, ny: usize, nz: usize, l: usize) -> bool
-    requires { ⌜ Sized 64 (triple nx ny nz) × Mapped (now bytes) (cells (triple nx ny nz)) × (l < lineCount (triple nx ny nz)) ⌝ }
-    ensures { λ r. ⌜ r ≡ someOf (λ c. eqb (bitAt (now (bytes .entry)) c) 0) (keep (λ p. eqb (order (triple nx ny nz) p) 3) (consecutive (l * (2 * nx - 1)) (2 * nx - 1))) ⌝ }
-{
-    let line = line_at(nx, ny, nz, 0, l);
-    let mut x = line.start;
-    while x < line.width {
-        if bit_at(bytes, line.base + x) == 0 {
-            return true;
-        }
-        x += 2;
-    }
-    false
-}
-
-// Whether the bit of a voxel is clear.
-fn voxel_clear(bytes: &[u8], nx: usize, ny: usize, nz: usize) -> bool
-    requires { ⌜ Sized 64 (triple nx ny nz) × Mapped (now bytes) (cells (triple nx ny nz)) ⌝ }
-    ensures { λ r. ⌜ r ≡ someOf (λ c. eqb (bitAt (now (bytes .entry)) c) 0) (ofOrder (triple nx ny nz) 3) ⌝ }
-{
-    let lines = line_count(nx, ny, nz);
-    let mut l: usize = 0;
-    while l < lines {
-        if line_clear(bytes, nx, ny, nz, l) {
-            return true;
-        }
-        l += 1;
-    }
-    false
-}
-
 // Whether one of the numbers listed from place at on is 0.
 fn zero_listed(bytes: &[u8], at: usize, count: usize) -> bool
     requires { ⌜ at + 4 * count ≤ length (now bytes) ⌝ }
@@ -180,9 +143,6 @@ fn is_damaged(bytes: &[u8], nx: usize, ny: usize, nz: usize) -> bool
         return true;
     }
     if spare_set(bytes, n) {
-        return true;
-    }
-    if voxel_clear(bytes, nx, ny, nz) {
         return true;
     }
     zero_listed(bytes, at, count)

@@ -8,15 +8,12 @@ use native.Mathlib.Omega.{arith}
 use lib.Dec.{eqb, ltb}
 use lib.ListN.{length, getD, take, drop, length-append, length-take, length-drop, List·getD-append, List·getD-eq-default, take-append-drop}
 use lib.Seq.{getD-append-add, getD-take, getD-drop, take-length, take-all, take-add, drop-drop, drop-at, ext-getD}
-use borrow.Author.Tests.{eqb-true, eqb-false, ne-eqb, ltb-true, ltb-false}
+use borrow.Author.Tests.{eqb-true, ltb-true, ltb-false}
 use Rattle.lists.proofs.Cases.{by-test}
-use Rattle.lists.proofs.Tests.{some-none, none-some}
 use Rattle.closure.specs.Numbered.{countBelow}
 use Rattle.closure.proofs.Numbers.{count-same, Nth, nth-passes}
 use Rattle.cells.specs.Box.{Triple, Axis, coord, triple, X, Y, Z}
 use Rattle.cells.specs.Grid.{cells}
-use Rattle.labels.specs.Components.{ofOrder, blankVoxel}
-use Rattle.labels.proofs.ComponentLaws.{of-order-out}
 use Rattle.records.specs.Fields.{bytes, fieldAt}
 use Rattle.records.specs.Record.{headBytes, bit, mapByte, bitmapLength, bitmap, listed, encodeRecord, extentsOf, originOf, bitAt, bitsBefore, numberOf, decodeRecord, lengthOf, damaged}
 use Rattle.records.proofs.FieldLaws.{EntriesBelow, below-nil, below-append, below-bytes, value-two, value-four, bytes-field, byte-bits}
@@ -114,16 +111,12 @@ module _ (e o : Triple) (m : List ℕ) where
       let v : getD m c 0 ≡ 0 → ⊥ = λ n. omega (arith, bit-zero (getD m c 0) n) in
       v (sym (encode-place c l v (b c l)) ∙ rw (q .before) z)
 
-  pub encode-whole : length m ≡ cells e → EntriesBelow 4294967296 m → blankVoxel e m ≡ false → damaged e (encodeRecord e o m) ≡ false
-  unfolding blankVoxel
-  encode-whole s b v =
+  pub encode-whole : length m ≡ cells e → EntriesBelow 4294967296 m → damaged e (encodeRecord e o m) ≡ false
+  encode-whole s b =
       whole-damaged e (encodeRecord e o m)
       record {
         sized = rw (← s) encode-length-of;
         spared = λ c h l. encode-spare c (omega arith) (rw s l);
-        voxels = λ c k.
-            let l = of-order-out e 3 k in
-            encode-bits c (omega arith) ∙ bit-one (getD m c 0) (eqb-false (getD m c 0) 0 (some-none (λ p. eqb (getD m p 0) 0) (ofOrder e 3) v k));
         nonzero = rw (← s) (encode-nonzero b);
       }
 
@@ -209,14 +202,6 @@ encode-decode r b d =
     let w : Whole e r = damaged-whole e r d in
     let n : ℕ = bitmapLength (cells e) in
     rw (head-bytes r b (omega (arith, w .sized)), decode-bitmap e r w b, decode-tail e r w b, ← drop-drop n 12 r, append-assoc, take-append-drop, take-append-drop)
-
-pub decode-voxels : (r : List ℕ) → damaged (extentsOf r) r ≡ false → blankVoxel (extentsOf r) (decodeRecord (cells (extentsOf r)) r) ≡ false
-unfolding blankVoxel
-decode-voxels r d =
-    let e : Triple = extentsOf r in
-    let w : Whole e r = damaged-whole e r d in
-    none-some (λ p. eqb (getD (decodeRecord (cells e) r) p 0) 0) (ofOrder e 3)
-    (λ p k. let l = of-order-out e 3 k in rw (decode-at (cells e) r p (l .0)) (ne-eqb (numberOf (cells e) r p) 0 (number-listed e r w p (l .0) (w .voxels p k))))
 
 -- ---- two accepted records are told apart by extents, origin and map
 

@@ -9,7 +9,6 @@ use Rattle.lists.specs.Lists.{consecutive, tabulate, someOf}
 use Rattle.closure.specs.Numbered.{countBelow}
 use Rattle.cells.specs.Box.{Triple, triple}
 use Rattle.cells.specs.Grid.{cells}
-use Rattle.labels.specs.Components.{ofOrder}
 use Rattle.records.specs.Fields.{bytes, fieldAt, packed}
 
 -- ---- written
@@ -71,10 +70,9 @@ decodeRecord n r = tabulate n (numberOf n r)
 unfoldable pub lengthOf : ℕ → List ℕ → ℕ
 lengthOf n r = 12 + bitmapLength n + 4 * bitsBefore r n
 
--- Refusal 11, with a whole head: "wrong length, spare bit set, voxel bit clear, a listed number 0".
+-- Refusal 11, with a whole head: "wrong length, spare bit set, .. a listed number 0". "A record's voxel bit may be clear" (document 02, item 4).
 unfoldable pub damaged : Triple → List ℕ → Bool
 damaged e r =
     not (eqb (length r) (lengthOf (cells e) r)) ||
     (someOf (λ c. eqb (bitAt r c) 1) (consecutive (cells e) (8 * bitmapLength (cells e) - cells e)) ||
-    (someOf (λ c. eqb (bitAt r c) 0) (ofOrder e 3) ||
-    someOf (λ k. eqb (fieldAt r (12 + bitmapLength (cells e) + 4 * k) 4) 0) (consecutive 0 (bitsBefore r (cells e)))))
+    someOf (λ k. eqb (fieldAt r (12 + bitmapLength (cells e) + 4 * k) 4) 0) (consecutive 0 (bitsBefore r (cells e))))

@@ -9,10 +9,10 @@ use native.Mathlib.Omega.{arith}
 use Rattle.lists.specs.Lists.{consecutive, allOf}
 use Rattle.lists.proofs.Tests.{all-out}
 use Rattle.lists.proofs.Cases.{by-test}
-use lib.Dec.{ltb}
-use borrow.Author.Tests.{ltb-true, ltb-false}
+use lib.Dec.{eqb, ltb}
+use borrow.Author.Tests.{eqb-true, ltb-true, ltb-false}
 use Rattle.lists.proofs.Lists.{Ascends, ascends-le, ascends-consecutive}
-use Rattle.refusals.specs.Refusals.{Refusal, off-size, bad-cut, wrong-stage, no-such-place, done-already, wrong-tray, blank-voxel, stray-label, layers-differ, table-full, bad-record, bad-reading, number, table, first, givenBy}
+use Rattle.refusals.specs.Refusals.{Case, standsIn, givenRefusal, listedNumbers, Refusal, off-size, bad-cut, wrong-stage, no-such-place, done-already, wrong-tray, blank-voxel, stray-label, layers-differ, table-full, bad-record, bad-reading, number, table, first, givenBy}
 
 -- The numbers are 1 to 12, in the order of the table.
 pub table-numbers : map number table ≡ consecutive 1 12
@@ -118,3 +118,17 @@ module _ (stands : Refusal → Bool) where
         (λ t. let g = given-case (ltb-true 0 (givenBy stands) t) in absurd (true≢false (sym (g .case) ∙ n (g .refusal))))
         (λ f. omega (arith, ltb-false 0 (givenBy stands) f)),
   )
+
+-- What is given is one of the numbers that are listed.
+stands-listed : (cs : List Case) (r : Refusal) → standsIn cs r ≡ true → List·Memᴰ (number r) (listedNumbers cs)
+unfolding standsIn listedNumbers
+stands-listed [] r t = absurd (true≢false (sym t))
+stands-listed (c ∷ cs) r t =
+    by-test (eqb (number (c .refusal)) (number r))
+    (λ u. here (sym (eqb-true (number (c .refusal)) (number r) u)))
+    (λ u. later (stands-listed cs r (rw u at t)))
+
+pub given-listed : (cs : List Case) → 0 < givenRefusal cs → List·Memᴰ (givenRefusal cs) (listedNumbers cs)
+given-listed cs h =
+    let g = given-case (standsIn cs) h in
+    rw (g .is) (stands-listed cs (g .refusal) (g .case))

@@ -11,6 +11,7 @@ pub const DONE_ALREADY: u32 = 5;
 
 pub const WRONG_TRAY: u32 = 6;
 
+// No longer given (document 02, item 4); it keeps its number.
 pub const BLANK_VOXEL: u32 = 7;
 
 pub const STRAY_LABEL: u32 = 8;

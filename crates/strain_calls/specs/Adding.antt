@@ -29,7 +29,7 @@ unfoldable pub voxelTaken : ℕ → ℕ → ℕ → ℕ → Reading → List Tak
 voxelTaken n low high u x =
     cond (eqb u 0) [] (cond (eqb u low) (taken (slotOf n 0) x ∷ []) (cond (eqb u high) (taken (slotOf n 1) x ∷ []) []))
 
--- The readings of both voxels at cell p of face n.
+-- The readings of the voxels at cell p of face n, but for one that is outside.
 unfoldable pub faceTaken : Triple → List ℕ → List Float → List ℕ → ℕ → ℕ → List Taken
 faceTaken e m values kinds n p =
     gathered (λ q. voxelTaken n (getD (row e m p) 0 0) (getD (row e m p) 1 0) (getD m q 0) (readingAt values kinds (voxel e q))) (upperNeighbours e p)
@@ -42,7 +42,7 @@ isLowest k b p = eqb (lowestBlock k (place (sides (k .extents)) (embed k b p))) 
 unfoldable pub countedCells : Cutting → ℕ → List ℕ
 countedCells k b = keep (isLowest k b) (ofOrder (blockExtents k b) 2)
 
--- What cell p of block b adds: where it shows a face, the readings of its two voxels, each on its side of that face.
+-- What cell p of block b adds: where it shows a face, the readings of its voxels, each on its side of that face.
 unfoldable pub cellAdds : Cutting → Tables → ℕ → List ℕ → List Float → List ℕ → ℕ → List Taken
 cellAdds k t b m values kinds p =
     let n : ℕ = finalOf t Face b (getD m p 0) in

@@ -30,7 +30,7 @@ pub record StrainAnswer : Type 0 where
 abbrev pub strainAnswer : ℕ → Totals → StrainAnswer
 strainAnswer n t = record { refusal = n; totals = t }
 
--- A refusal's "every other field 0".
+-- A side with nothing on it: that of a refusal, "every other field 0", and that of the outside (item 4).
 abbrev pub noSide : Side
 noSide = record { sum = plusZero; strains = 0; clipped = 0; missing = 0 }
 

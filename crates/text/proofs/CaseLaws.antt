@@ -6,6 +6,6 @@ use Prim.Native.Nat.{ℕ}
 use Rattle.refusals.specs.Refusals.{listedNumbers, number}
 use Rattle.text.specs.Request.{declinesText}
 
-pub text-listed : (ws : List (List ℕ)) → listedNumbers (declinesText ws) ≡ 1 ∷ 7 ∷ 11 ∷ []
+pub text-listed : (ws : List (List ℕ)) → listedNumbers (declinesText ws) ≡ 1 ∷ 11 ∷ []
 unfolding listedNumbers declinesText number
 text-listed ws = refl

@@ -6,9 +6,8 @@ use mathlib.Core.List.{List, [], _∷_, map}
 use Prim.Native.Nat.{ℕ}
 use lib.Dec.{eqb, leb}
 use lib.ListN.{length, getD, drop}
-use Rattle.refusals.specs.Refusals.{off-size, blank-voxel, bad-record, Case, _if_, givenRefusal}
+use Rattle.refusals.specs.Refusals.{off-size, bad-record, Case, _if_, givenRefusal}
 use Rattle.cells.specs.Box.{Triple, triple, volume}
-use Rattle.cells.specs.Codes.{blank}
 use Rattle.cells.specs.Extents.{offSize}
 use Rattle.text.specs.Words.{wordsOf, isNumber, spelled}
 
@@ -36,9 +35,9 @@ codesIn ws = map spelled (drop 3 ws)
 unfoldable pub formed : List (List ℕ) → Bool
 formed ws = numbers ws && (leb 3 (length ws) && eqb (length (drop 3 ws)) (volume (extentsIn ws)))
 
--- The cases of a text: 1 where the extents can be read and are off size, 7 "only for text of its form", 11 for any other text.
+-- The cases of a text: 1 where the extents can be read and are off size, 11 for any other text that has not its form. A code 0 is a code (document 02, item 4).
 unfoldable pub declinesText : List (List ℕ) → List Case
-declinesText ws = off-size if (readable ws && offSize 8 (extentsIn ws)) ∷ blank-voxel if (formed ws && blank (codesIn ws)) ∷ bad-record if not (formed ws) ∷ []
+declinesText ws = off-size if (readable ws && offSize 8 (extentsIn ws)) ∷ bad-record if not (formed ws) ∷ []
 
 -- The refusal of a text, 0 for none.
 unfoldable pub textRefusal : List ℕ → ℕ

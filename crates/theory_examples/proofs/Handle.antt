@@ -17,12 +17,12 @@ use Rattle.cells.specs.Extents.{isExtent, offSize}
 use Rattle.cells.specs.Grid.{sides, cells, parity, order, voxel, along, upperNeighbours}
 use Rattle.cells.specs.Row.{rowOf, row, occupied, active}
 use Rattle.labels.specs.Number.{pairs, alike, edgesAt, orderBelow, edges, activeOf, number, numberedAt, numbered as numbered-of, codeAt, mapDown, labels}
-use Rattle.labels.specs.Components.{ofOrder, largest, component, rowAtFirst, componentRow, blankVoxel}
+use Rattle.labels.specs.Components.{ofOrder, largest, component, rowAtFirst, componentRow}
 use Rattle.cutting.specs.Cutting.{ascends, cutList, intervals, lowEnd, highEnd, blockSides, blocks, goodCut, interval, origin, blockExtents, embed, blockCodes, follows, sameInterval, seam}
 use Rattle.joiner.specs.Job.{Stage, sameStage, ticked, countOf, fromOf, node, keyOf, firstAt, lengthsFit, blockTrays, linkTrays, foundTrays, numberTrays, firstTrays, listedTrays, kindTrays, Seam, Crossing, Points, Closed}
 use Rattle.joiner.specs.Stages.{hasOn, hasCell, products, shared, seams, seamAxis, seamStep, stepsOf, nextStage, finished, nextAfter}
 use Rattle.joiner.specs.Calls.{differs, overfull, full, Call, enrol, join, cross, point}
-use Rattle.joiner.specs.Declines.{tallyFits, talliesFit, filled, counted, standing, mapStands, waysStand, linksStand, allLinksStand, rowsStand, numberStands, curvesStand, handedStands, lookStands, lastCrossing, stray, finalOf, finalRow, pointCells, adds, declines, refusal}
+use Rattle.joiner.specs.Declines.{tallyFits, talliesFit, counted, standing, mapStands, waysStand, linksStand, allLinksStand, rowsStand, numberStands, curvesStand, handedStands, lookStands, lastCrossing, stray, finalOf, finalRow, pointCells, adds, declines, refusal}
 use Rattle.joiner.specs.Outcomes.{allTrays, openDeclines, openRefusal, nothing, throughLinks, joinedRow, firstOf, enrolledKey, shifted, enrolledRow, blockEntry, notAfter, classOf, isOne, leads, heads, rank, headOf, rowAt, finalFace, rowFinal}
 use Rattle.theory_examples.specs.Large.{handle}
 use Rattle.theory_model.specs.Model.{relinked, atSeam, seamEdge, seamEdges, atCrossing, crossEdge, crossEdgesAt, crossEdges, instead, numberKind, moved, enrolTables, seamTables, crossTables, crossLast, crossed, pointTables, pointLast, pointed, acceptedState, after, freshJob, cleared, openedState}
@@ -137,11 +137,11 @@ closed =
     ((1 ∷ 3 ∷ 1 ∷ 2 ∷ 2 ∷ 3 ∷ 7 ∷ 7 ∷ 7 ∷ 7 ∷ []) ∷ (1 ∷ 2 ∷ 3 ∷ 0 ∷ 7 ∷ 7 ∷ 7 ∷ 7 ∷ []) ∷ [] ∷ [])
 
 enrols : runImage (handle .told) (imageOf (openedState (handle .told) (used (handle .told)))) (enrol 0 map₀ ∷ enrol 1 map₁ ∷ []) ≡ enrolled
-unfolding handle map₀ map₁ enrolled consecutive tabulate zeros overlay mergeIds join-roots joins ancestor rootOf parent root refusal-number table first givenBy standsIn stride volume index place isExtent offSize sides cells parity order along upperNeighbours rowOf row occupied ofOrder largest component rowAtFirst componentRow ascends cutList intervals lowEnd highEnd blockSides blocks goodCut interval origin blockExtents embed follows sameInterval seam sameStage ticked countOf fromOf node keyOf firstAt lengthsFit blockTrays linkTrays foundTrays numberTrays firstTrays listedTrays kindTrays hasOn hasCell products shared seams seamAxis seamStep stepsOf nextStage finished nextAfter differs overfull full tallyFits talliesFit filled counted standing mapStands waysStand linksStand allLinksStand soundAt soundWay soundFrom soundBelow soundRange stepsWithin depth depths soundWays rowsStand numberStands curvesStand handedStands lookStands lastCrossing stray finalOf finalRow pointCells adds declines refusal allTrays openDeclines openRefusal nothing throughLinks joinedRow firstOf enrolledKey shifted enrolledRow blockEntry notAfter classOf isOne leads heads rank headOf rowAt finalFace rowFinal relinked atSeam seamEdge seamEdges atCrossing crossEdge crossEdgesAt crossEdges instead numberKind moved enrolTables seamTables crossTables crossLast crossed pointTables pointLast pointed acceptedState after freshJob cleared openedState used threeKinds imageOf stateOf runImage blankVoxel
+unfolding handle map₀ map₁ enrolled consecutive tabulate zeros overlay mergeIds join-roots joins ancestor rootOf parent root refusal-number table first givenBy standsIn stride volume index place isExtent offSize sides cells parity order along upperNeighbours rowOf row occupied ofOrder largest component rowAtFirst componentRow ascends cutList intervals lowEnd highEnd blockSides blocks goodCut interval origin blockExtents embed follows sameInterval seam sameStage ticked countOf fromOf node keyOf firstAt lengthsFit blockTrays linkTrays foundTrays numberTrays firstTrays listedTrays kindTrays hasOn hasCell products shared seams seamAxis seamStep stepsOf nextStage finished nextAfter differs overfull full tallyFits talliesFit counted standing mapStands waysStand linksStand allLinksStand soundAt soundWay soundFrom soundBelow soundRange stepsWithin depth depths soundWays rowsStand numberStands curvesStand handedStands lookStands lastCrossing stray finalOf finalRow pointCells adds declines refusal allTrays openDeclines openRefusal nothing throughLinks joinedRow firstOf enrolledKey shifted enrolledRow blockEntry notAfter classOf isOne leads heads rank headOf rowAt finalFace rowFinal relinked atSeam seamEdge seamEdges atCrossing crossEdge crossEdgesAt crossEdges instead numberKind moved enrolTables seamTables crossTables crossLast crossed pointTables pointLast pointed acceptedState after freshJob cleared openedState used threeKinds imageOf stateOf runImage
 enrols = refl
 
 seam-accepted : refusal (stateOf (handle .told) enrolled) (join 0 1 map₀ map₁) ≡ 0
-unfolding handle map₀ map₁ enrolled consecutive refusal-number table first givenBy standsIn stride volume index place isExtent offSize sides cells parity order along upperNeighbours rowOf occupied ofOrder largest ascends cutList intervals lowEnd highEnd blockSides blocks goodCut interval origin blockExtents embed follows sameInterval seam sameStage ticked countOf fromOf node lengthsFit blockTrays linkTrays foundTrays numberTrays firstTrays listedTrays kindTrays hasOn hasCell products shared seams seamAxis seamStep stepsOf finished differs overfull full tallyFits talliesFit filled counted standing mapStands waysStand linksStand allLinksStand soundAt soundWay soundFrom soundBelow soundRange stepsWithin depth depths soundWays rowsStand numberStands curvesStand handedStands lookStands lastCrossing stray finalOf finalRow pointCells adds declines refusal stateOf parent blankVoxel
+unfolding handle map₀ map₁ enrolled consecutive refusal-number table first givenBy standsIn stride volume index place isExtent offSize sides cells parity order along upperNeighbours rowOf occupied ofOrder largest ascends cutList intervals lowEnd highEnd blockSides blocks goodCut interval origin blockExtents embed follows sameInterval seam sameStage ticked countOf fromOf node lengthsFit blockTrays linkTrays foundTrays numberTrays firstTrays listedTrays kindTrays hasOn hasCell products shared seams seamAxis seamStep stepsOf finished differs overfull full tallyFits talliesFit counted standing mapStands waysStand linksStand allLinksStand soundAt soundWay soundFrom soundBelow soundRange stepsWithin depth depths soundWays rowsStand numberStands curvesStand handedStands lookStands lastCrossing stray finalOf finalRow pointCells adds declines refusal stateOf parent
 seam-accepted = refl
 
 seam-left : imageOf (acceptedState (stateOf (handle .told) enrolled) (join 0 1 map₀ map₁)) ≡ seamed
@@ -149,7 +149,7 @@ unfolding handle map₀ map₁ enrolled seamed consecutive tabulate overlay merg
 seam-left = refl
 
 crosses : runImage (handle .told) seamed (cross 0 map₀ ∷ cross 1 map₁ ∷ []) ≡ crossed-over
-unfolding handle map₀ map₁ seamed crossed-over consecutive tabulate overlay mergeIds join-roots joins ancestor rootOf parent root refusal-number table first givenBy standsIn stride volume index place isExtent offSize sides cells parity order along upperNeighbours rowOf row occupied ofOrder largest component rowAtFirst componentRow ascends cutList intervals lowEnd highEnd blockSides blocks goodCut interval origin blockExtents embed follows sameInterval seam sameStage ticked countOf fromOf node keyOf firstAt lengthsFit blockTrays linkTrays foundTrays numberTrays firstTrays listedTrays kindTrays hasOn hasCell products shared seams seamAxis seamStep stepsOf nextStage finished nextAfter differs overfull full tallyFits talliesFit filled counted standing mapStands waysStand linksStand allLinksStand soundAt soundWay soundFrom soundBelow soundRange stepsWithin depth depths soundWays rowsStand numberStands curvesStand handedStands lookStands lastCrossing stray finalOf finalRow pointCells adds declines refusal throughLinks joinedRow firstOf enrolledKey shifted enrolledRow blockEntry notAfter classOf isOne leads heads rank headOf rowAt finalFace rowFinal relinked atSeam seamEdge seamEdges atCrossing crossEdge crossEdgesAt crossEdges instead numberKind moved enrolTables seamTables crossTables crossLast crossed pointTables pointLast pointed acceptedState after threeKinds imageOf stateOf runImage blankVoxel
+unfolding handle map₀ map₁ seamed crossed-over consecutive tabulate overlay mergeIds join-roots joins ancestor rootOf parent root refusal-number table first givenBy standsIn stride volume index place isExtent offSize sides cells parity order along upperNeighbours rowOf row occupied ofOrder largest component rowAtFirst componentRow ascends cutList intervals lowEnd highEnd blockSides blocks goodCut interval origin blockExtents embed follows sameInterval seam sameStage ticked countOf fromOf node keyOf firstAt lengthsFit blockTrays linkTrays foundTrays numberTrays firstTrays listedTrays kindTrays hasOn hasCell products shared seams seamAxis seamStep stepsOf nextStage finished nextAfter differs overfull full tallyFits talliesFit counted standing mapStands waysStand linksStand allLinksStand soundAt soundWay soundFrom soundBelow soundRange stepsWithin depth depths soundWays rowsStand numberStands curvesStand handedStands lookStands lastCrossing stray finalOf finalRow pointCells adds declines refusal throughLinks joinedRow firstOf enrolledKey shifted enrolledRow blockEntry notAfter classOf isOne leads heads rank headOf rowAt finalFace rowFinal relinked atSeam seamEdge seamEdges atCrossing crossEdge crossEdgesAt crossEdges instead numberKind moved enrolTables seamTables crossTables crossLast crossed pointTables pointLast pointed acceptedState after threeKinds imageOf stateOf runImage
 crosses = refl
 
 -- "Keeping only active points for the crossing pass" would join nothing.
@@ -160,7 +160,7 @@ unfolding handle map₁ seamed consecutive tabulate mergeIds join-roots joins an
 active-only = refl
 
 points : runImage (handle .told) crossed-over (point 0 map₀ ∷ point 1 map₁ ∷ []) ≡ closed
-unfolding handle map₀ map₁ crossed-over closed consecutive tabulate overlay mergeIds join-roots joins ancestor rootOf parent root refusal-number table first givenBy standsIn stride volume index place isExtent offSize sides cells parity order along upperNeighbours rowOf row occupied ofOrder largest component rowAtFirst componentRow ascends cutList intervals lowEnd highEnd blockSides blocks goodCut interval origin blockExtents embed follows sameInterval seam sameStage ticked countOf fromOf node keyOf firstAt lengthsFit blockTrays linkTrays foundTrays numberTrays firstTrays listedTrays kindTrays hasOn hasCell products shared seams seamAxis seamStep stepsOf nextStage finished nextAfter differs overfull full tallyFits talliesFit filled counted standing mapStands waysStand linksStand allLinksStand soundAt soundWay soundFrom soundBelow soundRange stepsWithin depth depths soundWays rowsStand numberStands curvesStand handedStands lookStands lastCrossing stray finalOf finalRow pointCells adds declines refusal throughLinks joinedRow firstOf enrolledKey shifted enrolledRow blockEntry notAfter classOf isOne leads heads rank headOf rowAt finalFace rowFinal relinked atSeam seamEdge seamEdges atCrossing crossEdge crossEdgesAt crossEdges instead numberKind moved enrolTables seamTables crossTables crossLast crossed pointTables pointLast pointed acceptedState after threeKinds imageOf stateOf runImage blankVoxel
+unfolding handle map₀ map₁ crossed-over closed consecutive tabulate overlay mergeIds join-roots joins ancestor rootOf parent root refusal-number table first givenBy standsIn stride volume index place isExtent offSize sides cells parity order along upperNeighbours rowOf row occupied ofOrder largest component rowAtFirst componentRow ascends cutList intervals lowEnd highEnd blockSides blocks goodCut interval origin blockExtents embed follows sameInterval seam sameStage ticked countOf fromOf node keyOf firstAt lengthsFit blockTrays linkTrays foundTrays numberTrays firstTrays listedTrays kindTrays hasOn hasCell products shared seams seamAxis seamStep stepsOf nextStage finished nextAfter differs overfull full tallyFits talliesFit counted standing mapStands waysStand linksStand allLinksStand soundAt soundWay soundFrom soundBelow soundRange stepsWithin depth depths soundWays rowsStand numberStands curvesStand handedStands lookStands lastCrossing stray finalOf finalRow pointCells adds declines refusal throughLinks joinedRow firstOf enrolledKey shifted enrolledRow blockEntry notAfter classOf isOne leads heads rank headOf rowAt finalFace rowFinal relinked atSeam seamEdge seamEdges atCrossing crossEdge crossEdgesAt crossEdges instead numberKind moved enrolTables seamTables crossTables crossLast crossed pointTables pointLast pointed acceptedState after threeKinds imageOf stateOf runImage
 points = refl
 
 -- ---- the whole

@@ -13,12 +13,12 @@ use Rattle.cells.specs.Extents.{isExtent, offSize}
 use Rattle.cells.specs.Grid.{sides, cells, parity, order, voxel, along, upperNeighbours}
 use Rattle.cells.specs.Row.{rowOf, row, occupied, active}
 use Rattle.labels.specs.Number.{pairs, alike, edgesAt, orderBelow, edges, activeOf, number, numberedAt, numbered as numbered-of, codeAt, mapDown, labels}
-use Rattle.labels.specs.Components.{ofOrder, largest, component, rowAtFirst, componentRow, blankVoxel}
+use Rattle.labels.specs.Components.{ofOrder, largest, component, rowAtFirst, componentRow}
 use Rattle.cutting.specs.Cutting.{ascends, cutList, intervals, lowEnd, highEnd, blockSides, blocks, goodCut, interval, origin, blockExtents, embed, blockCodes, follows, sameInterval, seam}
 use Rattle.joiner.specs.Job.{sameStage, ticked, countOf, fromOf, node, keyOf, firstAt, lengthsFit, blockTrays, linkTrays, foundTrays, numberTrays, firstTrays, listedTrays, kindTrays}
 use Rattle.joiner.specs.Stages.{hasOn, hasCell, products, shared, seams, seamAxis, seamStep, stepsOf, nextStage, finished, nextAfter}
 use Rattle.joiner.specs.Calls.{differs, overfull, full}
-use Rattle.joiner.specs.Declines.{tallyFits, talliesFit, filled, counted, standing, mapStands, waysStand, linksStand, allLinksStand, rowsStand, numberStands, curvesStand, handedStands, lookStands, lastCrossing, stray, finalOf, finalRow, pointCells, adds, declines, refusal}
+use Rattle.joiner.specs.Declines.{tallyFits, talliesFit, counted, standing, mapStands, waysStand, linksStand, allLinksStand, rowsStand, numberStands, curvesStand, handedStands, lookStands, lastCrossing, stray, finalOf, finalRow, pointCells, adds, declines, refusal}
 use Rattle.joiner.specs.Outcomes.{allTrays, openDeclines, openRefusal, nothing, throughLinks, joinedRow, firstOf, enrolledKey, shifted, enrolledRow, blockEntry, notAfter, classOf, isOne, leads, heads, rank, headOf, rowAt, finalFace, rowFinal}
 use Rattle.theory_examples.specs.Large.{rings}
 use Rattle.theory_model.specs.Model.{relinked, atSeam, seamEdge, seamEdges, atCrossing, crossEdge, crossEdgesAt, crossEdges, instead, numberKind, moved, enrolTables, seamTables, crossTables, crossLast, crossed, pointTables, pointLast, pointed, acceptedState, after, freshJob, cleared, openedState}
@@ -37,7 +37,7 @@ its-point = refl
 closed-is : outcome
     (stateOf (rings .told) (runImage (rings .told) (imageOf (openedState (rings .told) (used (rings .told)))) (steps (rings .told .cutting) (mapOf (rings .told .cutting) (rings .codes)))))
     ≡ rings .listed
-unfolding rings consecutive tabulate zeros overlay mergeIds join-roots joins rep countBelow leader numberBy label ancestor rootOf parent root refusal-number table first givenBy standsIn stride volume index place isExtent offSize sides cells parity order voxel along upperNeighbours rowOf row occupied active pairs alike edgesAt orderBelow edges activeOf number numberedAt numbered-of codeAt mapDown labels ofOrder largest component rowAtFirst componentRow ascends cutList intervals lowEnd highEnd blockSides blocks goodCut interval origin blockExtents embed blockCodes follows sameInterval seam sameStage ticked countOf fromOf node keyOf firstAt lengthsFit blockTrays linkTrays foundTrays numberTrays firstTrays listedTrays kindTrays hasOn hasCell products shared seams seamAxis seamStep stepsOf nextStage finished nextAfter differs overfull full tallyFits talliesFit filled counted standing mapStands waysStand linksStand allLinksStand soundAt soundWay soundFrom soundBelow soundRange stepsWithin depth depths soundWays rowsStand numberStands curvesStand handedStands lookStands lastCrossing stray finalOf finalRow pointCells adds declines refusal allTrays openDeclines openRefusal nothing throughLinks joinedRow firstOf enrolledKey shifted enrolledRow blockEntry notAfter classOf isOne leads heads rank headOf rowAt finalFace rowFinal relinked atSeam seamEdge seamEdges atCrossing crossEdge crossEdgesAt crossEdges instead numberKind moved enrolTables seamTables crossTables crossLast crossed pointTables pointLast pointed acceptedState after freshJob cleared openedState used mapOf steps contents outcome threeKinds imageOf stateOf runImage blankVoxel
+unfolding rings consecutive tabulate zeros overlay mergeIds join-roots joins rep countBelow leader numberBy label ancestor rootOf parent root refusal-number table first givenBy standsIn stride volume index place isExtent offSize sides cells parity order voxel along upperNeighbours rowOf row occupied active pairs alike edgesAt orderBelow edges activeOf number numberedAt numbered-of codeAt mapDown labels ofOrder largest component rowAtFirst componentRow ascends cutList intervals lowEnd highEnd blockSides blocks goodCut interval origin blockExtents embed blockCodes follows sameInterval seam sameStage ticked countOf fromOf node keyOf firstAt lengthsFit blockTrays linkTrays foundTrays numberTrays firstTrays listedTrays kindTrays hasOn hasCell products shared seams seamAxis seamStep stepsOf nextStage finished nextAfter differs overfull full tallyFits talliesFit counted standing mapStands waysStand linksStand allLinksStand soundAt soundWay soundFrom soundBelow soundRange stepsWithin depth depths soundWays rowsStand numberStands curvesStand handedStands lookStands lastCrossing stray finalOf finalRow pointCells adds declines refusal allTrays openDeclines openRefusal nothing throughLinks joinedRow firstOf enrolledKey shifted enrolledRow blockEntry notAfter classOf isOne leads heads rank headOf rowAt finalFace rowFinal relinked atSeam seamEdge seamEdges atCrossing crossEdge crossEdgesAt crossEdges instead numberKind moved enrolTables seamTables crossTables crossLast crossed pointTables pointLast pointed acceptedState after freshJob cleared openedState used mapOf steps contents outcome threeKinds imageOf stateOf runImage
 closed-is = refl
 
 pub rings-joined : joinedUp (rings .told) (rings .codes) ≡ rings .listed

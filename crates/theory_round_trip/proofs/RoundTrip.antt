@@ -9,9 +9,8 @@ use lib.Dec.{eqb, leb, ltb}
 use lib.ListN.{length, take, drop}
 use lib.Seq.{take-at}
 use borrow.Author.Tests.{eqb-true, eq-eqb, le-leb, le-ltb, leb-true, ltb-false, not-false}
-use Rattle.labels.specs.Components.{blankVoxel}
 use Rattle.lists.proofs.Cases.{by-test, neither}
-use Rattle.refusals.specs.Refusals.{off-size, wrong-tray, stray-label, bad-record, number, table, first, givenBy, standsIn}
+use Rattle.refusals.specs.Refusals.{off-size, wrong-tray, bad-record, number, table, first, givenBy, standsIn}
 use Rattle.refusals.proofs.RefusalLaws.{given-none}
 use Rattle.cells.specs.Box.{Triple, Axis, coord}
 use Rattle.cells.specs.Extents.{offPlace}
@@ -19,7 +18,7 @@ use Rattle.cells.specs.Grid.{cells}
 use Rattle.records.specs.Record.{encodeRecord, extentsOf, originOf, decodeRecord, damaged}
 use Rattle.records.proofs.FieldLaws.{EntriesBelow}
 use Rattle.records.proofs.ReadLaws.{length-decode}
-use Rattle.records.proofs.RoundTrip.{encode-extents, encode-origin, decode-encoded, encode-whole, encode-decode, decode-voxels}
+use Rattle.records.proofs.RoundTrip.{encode-extents, encode-origin, decode-encoded, encode-whole, encode-decode}
 use Rattle.records.proofs.LaidLaws.{encode-length}
 use Rattle.writer.specs.declared.Written.{Written}
 use Rattle.writer.specs.Writing as w
@@ -33,7 +32,6 @@ record Writable (e o : Triple) (m : List ℕ) (tray : ℕ) : Type 0 where
   placed : offPlace e o ≡ false
   whole : length m ≡ cells e
   room : length (encodeRecord e o m) ≤ tray
-  voxels : blankVoxel e m ≡ false
 
 module _ (e o : Triple) (m : List ℕ) (tray : ℕ) where
   writable : w.refusalOf e o m tray ≡ 0 → Writable e o m tray
@@ -45,12 +43,11 @@ module _ (e o : Triple) (m : List ℕ) (tray : ℕ) where
         placed = n off-size;
         whole = eqb-true (length m) (cells e) (not-false _ (t .0));
         room = ltb-false tray (length (encodeRecord e o m)) (t .1);
-        voxels = n stray-label;
       }
 
   unrefused : Writable e o m tray → w.refusalOf e o m tray ≡ 0
   unfolding w.refusalOf w.declines givenBy first table number standsIn
-  unrefused k = rw (k .placed, eq-eqb (length m) (cells e) (k .whole), le-ltb tray (length (encodeRecord e o m)) (k .room), k .voxels)
+  unrefused k = rw (k .placed, eq-eqb (length m) (cells e) (k .whole), le-ltb tray (length (encodeRecord e o m)) (k .room))
 
 module _ (e o : Triple) (m t : List ℕ) where
   accepted-writing : w.refusalOf e o m (length t) ≡ 0 → w.writing e o m t ≡ w.accepted e o m t
@@ -126,7 +123,7 @@ written-read e o m t a t′ promise fine he ho hm s k =
       headed = omega (arith, encode-length e o m);
       placed = rw (ee, oo) (W .placed);
       room = k ∙ ap cells (sym ee);
-      sound = rw ee (encode-whole e o m (W .whole) hm (W .voxels));
+      sound = rw ee (encode-whole e o m (W .whole) hm);
     } in
     let back : decodeRecord (cells e) E ≡ m = rw (W .whole) at (decode-encoded e o m hm) in
     rw bytes (accepted-reading E s (undeclined E (length s) R) ∙ rw (ee, oo, back))
@@ -145,6 +142,5 @@ read-written b t a t′ promise fine hb s k =
       placed = R .placed;
       whole = rw tray (length-decode n b);
       room = rw same k;
-      voxels = rw tray (decode-voxels b (R .sound));
     } in
     accepted-writing (extentsOf b) (originOf b) t′ s (unrefused (extentsOf b) (originOf b) t′ (length s) W) ∙ rw same

@@ -1,12 +1,12 @@
--- The totals of two small closed jobs, computed: what is refused, what is added in either order of blocks, and the totals of the uncut volume. The first is the
--- line, 3×1×1 with codes 1 2 1, cut 0 1 2; the second has a face cell in the overlap of its blocks.
+-- The totals of three small closed jobs, computed: what is refused, what is added in either order of blocks, and the totals of the uncut volume. The first is the
+-- line, 3×1×1 with codes 1 2 1, cut 0 1 2; the second has a face cell in the overlap of its blocks; the third has a voxel outside.
 -- Assumes nothing.
 use mathlib.Core.Path.{_≡_, refl}
 use mathlib.Core.Bool.{true, false, cond}
 use mathlib.Core.List.{List, [], _∷_}
-use Prim.Native.Nat.{ℕ}
+use Prim.Native.Nat.{ℕ, _*_}
 use lib.Dec.{eqb}
-use lib.ListN.{set}
+use lib.ListN.{set, length, replicate}
 use lib.IntN.{pos, negsuc}
 use lib.Ieee.{Float, nan, fin, add}
 use Rattle.lists.specs.Lists.{consecutive, tabulate, zeros}
@@ -18,11 +18,11 @@ use Rattle.cells.specs.Extents.{isExtent, offSize}
 use Rattle.cells.specs.Grid.{sides, cells, parity, order, voxelCell, voxel, along, upperNeighbours}
 use Rattle.cells.specs.Row.{rowOf, row, occupied, active}
 use Rattle.labels.specs.Number.{pairs, alike, edgesAt, orderBelow, edges, activeOf, number as Number·number, numberedAt, numbered, codeAt, mapDown, labels}
-use Rattle.labels.specs.Components.{ofOrder, largest, component, blankVoxel}
+use Rattle.labels.specs.Components.{ofOrder, largest, component, rowAtFirst, componentRow}
 use Rattle.cutting.specs.Cutting.{Cutting, ascends, cutList, intervals, lowEnd, highEnd, blockSides, blocks, goodCut, interval, origin, blockExtents, embed}
 use Rattle.joiner.specs.Job.{Face, Curve, Point, Closed, State, sameStage, countOf, fromOf, node, lengthsFit, numberTrays}
 use Rattle.joiner.specs.Stages.{hasOn, hasCell, local, lowestBlock, codeIn, codesOf}
-use Rattle.joiner.specs.Declines.{tallyFits, talliesFit, filled, counted, standing, mapStands, numberStands, finalOf}
+use Rattle.joiner.specs.Declines.{tallyFits, talliesFit, counted, standing, mapStands, numberStands, finalOf}
 use Rattle.strains.specs.Units.{isUnits, unitsOf, floatOf, plusZero}
 use Rattle.strains.specs.Readings.{isGood, sumWith, unitsIn, unitsSum, kindOf, ofKind}
 use Rattle.totals.specs.Totals.{slotOf, after, sumAdded, sumsWith, more, countAdded, countsWith, readingOf, readingAt, fitsAt, readingsFit, sideAt, givenSide, totalsOf, sideStands, standsAt, bothStand}
@@ -30,7 +30,7 @@ use Rattle.totals.specs.declared.Side.{Side}
 use Rattle.totals.specs.declared.Totals.{Totals}
 use Rattle.strain_calls.specs.Tables.{TotalTables, totalTables, totalTrays, zeroed}
 use Rattle.strain_calls.specs.Adding.{gathered, voxelTaken, faceTaken, isLowest, countedCells, cellAdds, blockAdds}
-use Rattle.strain_calls.specs.Calls.{StrainCall, strain, total, allCome}
+use Rattle.strain_calls.specs.Calls.{StrainCall, strain, total, noSide, allCome}
 use Rattle.strain_calls.specs.Declines.{hasCome, totalStands, faceStands, facesStand, strainDeclines, strainRefusal}
 use Rattle.strain_calls.specs.Outcomes.{withReadings}
 use Rattle.theory_totals.specs.Book.{onSide, sideReadings, sideTotals, faceTotals, readingFrom}
@@ -38,19 +38,20 @@ use Rattle.theory_totals.specs.Statement.{uncutFrom}
 
 -- ---- the closed job, its maps and its readings
 
--- A closed job of two blocks with a face each, whose final numbers are listed: `many` different ones.
-abbrev closedJob : Cutting → ℕ → List ℕ → State
-closedJob k many finals =
+-- A closed job of blocks with a face each, whose final numbers are listed: `many` different ones. The table of blocks has for each its counts and where its faces
+-- and curves begin.
+abbrev closedJob : Cutting → List ℕ → ℕ → List ℕ → State
+closedJob k blockTable many finals =
     record {
       job = record {
-        told = record { cutting = k; entries = elim [ Face ↦ 2 | Curve ↦ 0 | Point ↦ 0 ] };
+        told = record { cutting = k; entries = elim [ Face ↦ length finals | Curve ↦ 0 | Point ↦ 0 ] };
         stage = Closed;
-        sofar = elim [ Face ↦ 2 | Curve ↦ 0 | Point ↦ 0 ];
+        sofar = elim [ Face ↦ length finals | Curve ↦ 0 | Point ↦ 0 ];
         numbered = elim [ Face ↦ many | Curve ↦ 0 | Point ↦ 0 ];
       };
       tables = record {
         ticks = [];
-        blocks = 1 ∷ 0 ∷ 0 ∷ 0 ∷ 0 ∷ 1 ∷ 0 ∷ 0 ∷ 1 ∷ 0 ∷ [];
+        blocks = blockTable;
         links = λ κ. [];
         keys = λ κ. [];
         rows = λ κ. [];
@@ -60,13 +61,17 @@ closedJob k many finals =
       };
     }
 
+-- .. of two blocks.
+abbrev twoBlocks : List ℕ
+twoBlocks = 1 ∷ 0 ∷ 0 ∷ 0 ∷ 0 ∷ 1 ∷ 0 ∷ 0 ∷ 1 ∷ 0 ∷ []
+
 -- Three voxels in a row, the second in both blocks.
 abbrev cutting : Cutting
 cutting = record { extents = triple 3 1 1; cx = 0 ∷ 1 ∷ 2 ∷ []; cy = 0 ∷ []; cz = 0 ∷ [] }
 
 -- The first block's face is face 1 of the volume, the second's face 2.
 abbrev closed : State
-closed = closedJob cutting 2 (1 ∷ 2 ∷ [])
+closed = closedJob cutting twoBlocks 2 (1 ∷ 2 ∷ [])
 
 abbrev map₀ : List ℕ
 map₀ = 1 ∷ 1 ∷ 2 ∷ []
@@ -87,13 +92,16 @@ values₁ = fin false 3 (negsuc 0) ∷ nan ∷ []
 abbrev kinds₁ : List ℕ
 kinds₁ = 0 ∷ 2 ∷ []
 
--- Three tables with the stated lengths, whatever they held, and the totals zeroed.
+-- Three tables with the lengths that a job of so many blocks and entries states, whatever they held, and the totals zeroed.
+abbrev freshFor : ℕ → ℕ → TotalTables
+freshFor many entries = zeroed (totalTables (replicate many 7) (replicate (2 * entries) nan) (replicate (6 * entries) 7))
+
 abbrev fresh : TotalTables
-fresh = zeroed (totalTables (7 ∷ 7 ∷ []) (nan ∷ nan ∷ nan ∷ nan ∷ []) (7 ∷ 7 ∷ 7 ∷ 7 ∷ 7 ∷ 7 ∷ 7 ∷ 7 ∷ 7 ∷ 7 ∷ 7 ∷ 7 ∷ []))
+fresh = freshFor 2 2
 
 -- What a call is refused with.
 unfoldable pub refused : TotalTables → StrainCall → ℕ
-unfolding add consecutive tabulate zeros number table first givenBy standsIn stride volume index place isExtent offSize sides cells parity order voxel along upperNeighbours rowOf row ofOrder largest component ascends cutList intervals lowEnd highEnd blockSides blocks goodCut interval origin blockExtents embed sameStage countOf fromOf node lengthsFit numberTrays hasOn hasCell local lowestBlock tallyFits talliesFit filled counted standing mapStands numberStands finalOf isUnits unitsOf floatOf isGood sumWith unitsIn unitsSum kindOf ofKind slotOf after sumAdded sumsWith more countAdded countsWith readingOf readingAt fitsAt readingsFit sideAt givenSide totalsOf sideStands standsAt bothStand totalTrays zeroed gathered voxelTaken faceTaken isLowest countedCells cellAdds blockAdds allCome hasCome totalStands faceStands facesStand strainDeclines strainRefusal withReadings onSide sideReadings sideTotals faceTotals readingFrom blankVoxel
+unfolding add consecutive tabulate zeros number table first givenBy standsIn stride volume index place isExtent offSize sides cells parity order voxel along upperNeighbours rowOf row ofOrder largest component ascends cutList intervals lowEnd highEnd blockSides blocks goodCut interval origin blockExtents embed sameStage countOf fromOf node lengthsFit numberTrays hasOn hasCell local lowestBlock tallyFits talliesFit counted standing mapStands numberStands finalOf isUnits unitsOf floatOf isGood sumWith unitsIn unitsSum kindOf ofKind slotOf after sumAdded sumsWith more countAdded countsWith readingOf readingAt fitsAt readingsFit sideAt givenSide totalsOf sideStands standsAt bothStand totalTrays zeroed gathered voxelTaken faceTaken isLowest countedCells cellAdds blockAdds allCome hasCome totalStands faceStands facesStand strainDeclines strainRefusal withReadings onSide sideReadings sideTotals faceTotals readingFrom
 refused w c = strainRefusal closed w c
 
 -- The tables after a block's readings.
@@ -290,7 +298,7 @@ columns = record { extents = triple 2 3 1; cx = 0 ∷ 1 ∷ []; cy = 0 ∷ 1 ∷
 
 -- Both blocks' faces are face 1 of the volume.
 abbrev closedColumns : State
-closedColumns = closedJob columns 1 (1 ∷ 1 ∷ [])
+closedColumns = closedJob columns twoBlocks 1 (1 ∷ 1 ∷ [])
 
 -- Both blocks have this map.
 abbrev columnMap : List ℕ
@@ -328,3 +336,50 @@ columns-read = refl
 pub columns-uncut : faceTotals (triple 2 3 1) (uncutFrom columns (λ b. columnMap)) (readingFrom columns powers strainsOnly) 1 ≡ columnTotals
 unfolding refused mergeIds joinClasses joins rep countBelow leader numberBy label voxelCell occupied active pairs alike edgesAt orderBelow edges activeOf Number·number numberedAt numbered codeAt mapDown labels codeIn codesOf
 columns-uncut = refl
+
+-- ---- a voxel outside: 2×1×1 with codes 5 0, in one block
+
+abbrev border : Cutting
+border = record { extents = triple 2 1 1; cx = 0 ∷ 1 ∷ []; cy = 0 ∷ []; cz = 0 ∷ [] }
+
+abbrev closedBorder : State
+closedBorder = closedJob border (1 ∷ 0 ∷ 0 ∷ 0 ∷ 0 ∷ []) 1 (1 ∷ [])
+
+abbrev borderMap : List ℕ
+borderMap = 5 ∷ 1 ∷ 0 ∷ []
+
+-- A strain of 1.5 at the voxel of code 5, and one of 8 outside.
+abbrev borderValues : List Float
+borderValues = fin false 3 (negsuc 0) ∷ fin false 1 (pos 3) ∷ []
+
+abbrev borderFresh : TotalTables
+borderFresh = freshFor 1 1
+
+abbrev borderIn : TotalTables
+borderIn = withReadings closedBorder borderFresh 0 borderMap borderValues (zeros 2)
+
+-- One reading, on the lower side.
+abbrev borderTotals : Totals
+borderTotals = record { lower = side (fin false 3 (negsuc 0)) 1 0 0; higher = noSide }
+
+-- The face cell is active, with the row 5 0.
+pub border-map : uncutFrom border (λ b. borderMap) ≡ borderMap
+unfolding refused mergeIds joinClasses joins rep countBelow leader numberBy label voxelCell occupied active pairs alike edgesAt orderBelow edges activeOf Number·number numberedAt numbered codeAt mapDown labels codeIn codesOf
+border-map = refl
+
+pub border-row : componentRow (triple 2 1 1) borderMap 2 1 ≡ 5 ∷ 0 ∷ 0 ∷ 0 ∷ 0 ∷ 0 ∷ []
+unfolding refused rowAtFirst componentRow
+border-row = refl
+
+-- The step is accepted; a reading outside is tested as any other.
+pub border-accepted :
+    strainRefusal closedBorder borderFresh (strain 0 borderMap borderValues (zeros 2)) ∷
+    strainRefusal closedBorder borderFresh (strain 0 borderMap borderValues (0 ∷ 3 ∷ [])) ∷
+    strainRefusal closedBorder borderIn (total 1) ∷ [] ≡ 0 ∷ 12 ∷ 0 ∷ []
+unfolding refused
+border-accepted = refl
+
+-- The total that is read, and that of the uncut volume: the outside has none.
+pub border-read : totalsOf (borderIn .sums) (borderIn .counts) 1 ∷ faceTotals (triple 2 1 1) borderMap (readingFrom border (λ b. borderValues) (λ b. zeros 2)) 1 ∷ [] ≡ borderTotals ∷ borderTotals ∷ []
+unfolding refused
+border-read = refl

@@ -18,7 +18,6 @@ use Rattle.lists.proofs.Tests.{all-in, all-out, in-is, is-in}
 use Rattle.cells.specs.Box.{volume}
 use Rattle.cells.specs.Extents.{offSize}
 use Rattle.cells.specs.Grid.{cells}
-use Rattle.labels.specs.Components.{component}
 use Rattle.cutting.specs.Cutting.{Cutting, blocks, goodCut, blockExtents}
 use Rattle.joiner.specs.Book.{Book, uncut}
 use Rattle.joiner.specs.Declines.{numberStands}
@@ -43,7 +42,7 @@ use Rattle.pass_strain.specs.BlockReadings.{Brought}
 use Rattle.theory_totals.specs.Volume.{broughtTo, volumeTaken, sumsOver, countsOver}
 use Rattle.theory_totals.proofs.Reordering.{NoRepeats, re-unique, unique-ascends, unique-append}
 use Rattle.theory_totals.proofs.GoodLaws.{readings-good}
-use Rattle.theory_totals.proofs.ClosedLaws.{few, table-whole, table-exact, table-counted, sides-stand}
+use Rattle.theory_totals.proofs.ClosedLaws.{few, table-few, table-exact, table-counted, sides-stand}
 use Rattle.theory_totals.proofs.SideReadings.{side-readings}
 
 -- ---- the tables as an opening leaves them
@@ -197,21 +196,17 @@ module _ (o : Told) (own : ℕ → List ℕ) (ext : offSize 1024 (o .cutting .ex
         unfolding slotOf
         slot-in = (omega (arith, Z .sums-long), omega (arith, Z .counts-long))
 
-        -- how many readings a side has
-        pub side-long : length on-side ≡ length (component (k .extents) (uncut B) 2 n)
-        side-long = sym (ap length same-readings) ∙ table-whole o own ext good lab B s S at-closed (R .values) (R .kinds) n side hn hs
-
         taken-size : natAbs (unitsSum taken) < 2 ^ 53
         taken-size =
             omega (
               arith,
               ap natAbs (+ℤ-idl (unitsSum taken)),
               size-summed (pos 0) taken (readings-all slot),
-              table-whole o own ext good lab B s S at-closed (R .values) (R .kinds) n side hn hs,
+              table-few o own ext good lab B s S at-closed (R .values) (R .kinds) n side hn hs,
               few o own ext good lab B s S at-closed (R .values) (R .kinds) n,
             )
 
-        -- .. and their sum is below the bound of exactness
+        -- the sum of a side is below the bound of exactness
         pub side-size : natAbs (unitsSum on-side) < 2 ^ 53
         side-size = subst (λ (l : List Reading). natAbs (unitsSum l) < 2 ^ 53) same-readings taken-size
 

@@ -1,123 +1,128 @@
--- Each side of a face gets one reading for each of its cells.
+-- The readings that a face cell adds for a side of its face are those of the voxels on that side.
 -- Assumes nothing.
 use mathlib.Core.Path.{_≡_, refl, sym, ap, ap₂, _∙_}
-use mathlib.Core.Bool.{Bool, true, false, cond}
+use mathlib.Core.Bool.{Bool, true, false, not, cond, _&&_}
 use mathlib.Core.Logic.{_≢_}
-use mathlib.Core.List.{List, [], _∷_, _++_, map, map-append, append-nil, List·Memᴰ, List·Memᴰ·head, List·Memᴰ·tail}
-use Prim.Native.Nat.{ℕ, _+_, _-_, _*_, _≤_, _<_, min, max}
+use mathlib.Core.List.{List, [], _∷_, _++_, map, map-append}
+use Prim.Native.Nat.{ℕ, zero, suc, _-_, _*_, _+_, _≤_, _<_}
 use native.Mathlib.Omega.{arith}
-use lib.Dec.{eqb, ltb}
-use lib.ListN.{getD, length, length-append}
+use lib.Dec.{eqb}
+use lib.ListN.{getD}
 use lib.Ieee.{Float}
-use borrow.Author.Tests.{eqb-true, eqb-false, eq-eqb, ne-eqb, ltb-true, ltb-false}
+use borrow.Author.Tests.{eqb-true, eqb-false, eq-eqb, ne-eqb, not-true}
 use Rattle.lists.specs.Lists.{keep}
-use Rattle.lists.proofs.Cases.{by-test}
+use Rattle.lists.proofs.Cases.{by-test, and-first}
 use Rattle.lists.proofs.Lists.{keep-append}
-use Rattle.cells.specs.Box.{Triple, place}
-use Rattle.cells.specs.Grid.{sides, cells, order, voxel}
-use Rattle.cells.specs.Row.{rowOf, row}
-use Rattle.labels.proofs.ComponentLaws.{of-order-out}
-use Rattle.labels.specs.Components.{ofOrder, component}
-use Rattle.cutting.specs.Cutting.{Cutting, blockExtents}
-use Rattle.joiner.specs.Stages.{local, lowestBlock}
+use Rattle.cells.specs.Box.{Triple}
+use Rattle.cells.specs.Grid.{upperNeighbours, voxel}
+use Rattle.cells.specs.Row.{row, numbersAt}
+use Rattle.cells.proofs.RowFacts.{first-two-apart}
 use Rattle.strains.specs.declared.Reading.{Reading}
-use Rattle.totals.specs.Totals.{Taken, taken, slotOf, readingAt, readingsFor}
-use Rattle.lowest.specs.Lowest.{starts}
+use Rattle.totals.specs.Totals.{Taken, slotOf, readingAt, readingsFor}
 use Rattle.strain_calls.specs.Adding.{gathered, voxelTaken, faceTaken}
 use Rattle.pass_strain.specs.BlockReadings.{Brought, ownFace, cellTaken}
-use Rattle.theory_totals.specs.Volume.{takenAt, volumeTaken, Parted, Shows}
+use Rattle.theory_totals.specs.Book.{onSide}
 
--- ---- the row of two different codes
+-- ---- one voxel
 
-row-two : (u v : ℕ) → u ≢ 0 → v ≢ 0 → u ≢ v → rowOf (u ∷ v ∷ []) ≡ min u v ∷ max u v ∷ 0 ∷ 0 ∷ 0 ∷ 0 ∷ []
-unfolding rowOf
-row-two u v hu hv h = rw (ne-eqb u 0 hu, ne-eqb v 0 hv, eq-eqb u u refl, eq-eqb v v refl, ne-eqb u v h, ne-eqb v u (λ e. h (sym e))) refl
+-- A voxel of number u is on the side where a row has x. The outside is on none.
+abbrev pub isOn : ℕ → ℕ → Bool
+isOn x u = not (eqb u 0) && eqb u x
 
--- the voxel of the smaller code is on the lower side, the other on the higher
-module _ (n u v : ℕ) (x y : Reading) (hu : u ≢ 0) (hv : v ≢ 0) (h : u ≢ v) where
-  abbrev pub pair : List Taken
-  pair = voxelTaken n (min u v) (max u v) u x ++ voxelTaken n (min u v) (max u v) v y
+slot-apart : (n n′ t side : ℕ) → 0 < n → 0 < n′ → t ≤ 1 → side ≤ 1 → n ≢ n′ → eqb (slotOf n t) (slotOf n′ side) ≡ false
+unfolding slotOf
+slot-apart n n′ t side h h′ ht hs d = ne-eqb (2 * (n - 1) + t) (2 * (n′ - 1) + side) (λ q. d (omega arith))
 
-  pub pair-up : u < v → pair ≡ taken (slotOf n 0) x ∷ taken (slotOf n 1) y ∷ []
-  unfolding voxelTaken
-  pair-up l =
-      let a : min u v ≡ u = omega arith in
-      let b : max u v ≡ v = omega arith in
-      rw (a, b, ne-eqb u 0 hu, ne-eqb v 0 hv, eq-eqb u u refl, eq-eqb v v refl, ne-eqb v u (λ e. h (sym e))) refl
+side-apart : (n t side : ℕ) → t ≢ side → eqb (slotOf n t) (slotOf n side) ≡ false
+unfolding slotOf
+side-apart n t side d = ne-eqb (2 * (n - 1) + t) (2 * (n - 1) + side) (λ q. d (omega arith))
 
-  pub pair-down : v < u → pair ≡ taken (slotOf n 1) x ∷ taken (slotOf n 0) y ∷ []
-  unfolding voxelTaken
-  pair-down l =
-      let a : min u v ≡ v = omega arith in
-      let b : max u v ≡ u = omega arith in
-      rw (a, b, ne-eqb u 0 hu, ne-eqb v 0 hv, eq-eqb u u refl, eq-eqb v v refl, ne-eqb u v h) refl
+pub on-nonzero : (x u : ℕ) → isOn x u ≡ true → u ≢ 0
+on-nonzero x u t = eqb-false u 0 (not-true (eqb u 0) (and-first (not (eqb u 0)) (eqb u x) t))
 
--- how many readings go to a side of face n′, of two that go to both sides of face n
-module _ (n n′ side : ℕ) (h : 0 < n) (h′ : 0 < n′) (hs : side ≤ 1) (x y : Reading) where
-  slot-other : (t : ℕ) → t ≤ 1 → n ≢ n′ → eqb (slotOf n t) (slotOf n′ side) ≡ false
-  unfolding slotOf
-  slot-other t ht e = ne-eqb (2 * (n - 1) + t) (2 * (n′ - 1) + side) (λ q. e (omega arith))
+-- A voxel of number u beside a cell of face n with row r: its reading goes to the side where the row has u, unless u is 0 ..
+own-voxel : (n u : ℕ) (r : List ℕ) (x : Reading) (side : ℕ) → side ≤ 1 → (getD r 0 0 ≡ getD r 1 0 → getD r 0 0 ≡ 0)
+    → readingsFor (slotOf n side) (voxelTaken n (getD r 0 0) (getD r 1 0) u x) ≡ cond (isOn (getD r side 0) u) (x ∷ []) []
+unfolding voxelTaken readingsFor
+own-voxel n u r x zero hs d =
+    by-test (eqb u 0)
+    (λ z. rw z refl)
+    (λ z. by-test (eqb u (getD r 0 0))
+    (λ a. rw (z, a, eq-eqb (slotOf n 0) (slotOf n 0) refl) refl)
+    (λ a. by-test (eqb u (getD r 1 0)) (λ b. rw (z, a, b, side-apart n 1 0 (λ q. omega arith)) refl) (λ b. rw (z, a, b) refl)))
+own-voxel n u r x (suc zero) hs d =
+    by-test (eqb u 0)
+    (λ z. rw z refl)
+    (λ z. by-test (eqb u (getD r 0 0))
+    (λ a.
+    let f : u ≡ getD r 0 0 = eqb-true u (getD r 0 0) a in
+    let b : eqb u (getD r 1 0) ≡ false = ne-eqb u (getD r 1 0) (λ q. eqb-false u 0 z (f ∙ d (sym f ∙ q))) in
+    rw (z, a, b, side-apart n 0 1 (λ q. omega arith)) refl)
+    (λ a. by-test (eqb u (getD r 1 0)) (λ b. rw (z, a, b, eq-eqb (slotOf n 1) (slotOf n 1) refl) refl) (λ b. rw (z, a, b) refl)))
+own-voxel n u r x (suc (suc side)) hs d = absurd (omega arith)
 
-  slot-here : (t : ℕ) → t ≤ 1 → n ≡ n′ → t ≡ side → eqb (slotOf n t) (slotOf n′ side) ≡ true
-  unfolding slotOf
-  slot-here t ht e f = eq-eqb (2 * (n - 1) + t) (2 * (n′ - 1) + side) (omega arith)
-
-  pub slot-side : (t : ℕ) → t ≤ 1 → n ≡ n′ → t ≢ side → eqb (slotOf n t) (slotOf n′ side) ≡ false
-  unfolding slotOf
-  slot-side t ht e f = ne-eqb (2 * (n - 1) + t) (2 * (n′ - 1) + side) (λ q. f (omega arith))
-
-  one-of : (t t′ : ℕ) → t ≤ 1 → t′ ≤ 1 → t + t′ ≡ 1 → length (readingsFor (slotOf n′ side) (taken (slotOf n t) x ∷ taken (slotOf n t′) y ∷ [])) ≡ cond (eqb n n′) 1 0
-  unfolding readingsFor
-  one-of t t′ ht ht′ e =
-      by-test (eqb n n′)
-      (λ a.
-      let f : n ≡ n′ = eqb-true n n′ a in
-      by-test (eqb t side)
-      (λ b. let c : t ≡ side = eqb-true t side b in rw (a, slot-here t ht f c, slot-side t′ ht′ f (λ q. omega arith)) refl)
-      (λ b. let c : t′ ≡ side = not-t b in rw (a, slot-side t ht f (eqb-false t side b), slot-here t′ ht′ f c) refl))
-      (λ a. rw (a, slot-other t ht (eqb-false n n′ a), slot-other t′ ht′ (eqb-false n n′ a)) refl)
-    where
-      not-t : eqb t side ≡ false → t′ ≡ side
-      not-t b = let k : t ≢ side = eqb-false t side b in omega arith
+-- .. and to no other face.
+other-voxel : (n n′ low high u : ℕ) (x : Reading) (side : ℕ) → 0 < n → 0 < n′ → side ≤ 1 → n ≢ n′ → readingsFor (slotOf n′ side) (voxelTaken n low high u x) ≡ []
+unfolding voxelTaken readingsFor
+other-voxel n n′ low high u x side h h′ hs d =
+    by-test (eqb u 0)
+    (λ z. rw z refl)
+    (λ z. by-test (eqb u low)
+    (λ a. rw (z, a, slot-apart n n′ 0 side h h′ (omega arith) hs d) refl)
+    (λ a. by-test (eqb u high) (λ b. rw (z, a, b, slot-apart n n′ 1 side h h′ (omega arith) hs d) refl) (λ b. rw (z, a, b) refl)))
 
 -- ---- one face cell
 
-module _ (e : Triple) (m : List ℕ) (values : List Float) (kinds : List ℕ) (n p : ℕ) (P : Parted e m p) where
-  abbrev pub u : ℕ
-  u = getD m (P .q) 0
-
-  abbrev pub v : ℕ
-  v = getD m (P .r) 0
-
-  abbrev pub x : Reading
-  x = readingAt values kinds (voxel e (P .q))
-
-  abbrev pub y : Reading
-  y = readingAt values kinds (voxel e (P .r))
-
-  pub row-is : row e m p ≡ min u v ∷ max u v ∷ 0 ∷ 0 ∷ 0 ∷ 0 ∷ []
-  unfolding row
-  row-is = rw (P .sides) (row-two u v (P .one) (P .two) (P .apart))
-
-  pub face-is : faceTaken e m values kinds n p ≡ voxelTaken n (min u v) (max u v) u x ++ voxelTaken n (min u v) (max u v) v y
-  unfolding faceTaken gathered
-  face-is = rw (row-is, P .sides) (ap (λ (l : List Taken). voxelTaken n (min u v) (max u v) u x ++ l) (append-nil (voxelTaken n (min u v) (max u v) v y)))
-
-  pub one-each : (n′ side : ℕ) → 0 < n → 0 < n′ → side ≤ 1 → length (readingsFor (slotOf n′ side) (faceTaken e m values kinds n p)) ≡ cond (eqb n n′) 1 0
-  one-each n′ side h h′ hs =
-      by-test (ltb u v)
-      (λ t. ap (λ (l : List Taken). length (readingsFor (slotOf n′ side) l)) (face-is ∙ pair-up n u v x y (P .one) (P .two) (P .apart) (ltb-true u v t))
-      ∙ one-of n n′ side h h′ hs x y 0 1 (omega arith) (omega arith) refl)
-      (λ t.
-      let k : u ≢ v = P .apart in
-      ap (λ (l : List Taken). length (readingsFor (slotOf n′ side) l)) (face-is ∙ pair-down n u v x y (P .one) (P .two) (P .apart) (omega (arith, ltb-false u v t)))
-      ∙ one-of n n′ side h h′ hs x y 1 0 (omega arith) (omega arith) refl)
-
--- ---- all face cells
-
-none-for : (s : ℕ) → length (readingsFor s []) ≡ 0
+pub for-split : (s : ℕ) (a b : List Taken) → readingsFor s (a ++ b) ≡ readingsFor s a ++ readingsFor s b
 unfolding readingsFor
-none-for s = refl
+for-split s a b =
+    ap (map (λ t. t .reading)) (keep-append (λ t. eqb (t .slot) s) a b) ∙ map-append (λ t. t .reading) (keep (λ t. eqb (t .slot) s) a) (keep (λ t. eqb (t .slot) s) b)
+
+pub for-none : (s : ℕ) → readingsFor s [] ≡ []
+unfolding readingsFor
+for-none s = refl
+
+module _ (e : Triple) (m : List ℕ) (values : List Float) (kinds : List ℕ) (n p side : ℕ) (hs : side ≤ 1) where
+  abbrev reading : ℕ → Reading
+  reading q = readingAt values kinds (voxel e q)
+
+  abbrev added : ℕ → List Taken
+  added q = voxelTaken n (getD (row e m p) 0 0) (getD (row e m p) 1 0) (getD m q 0) (reading q)
+
+  abbrev on-it : ℕ → Bool
+  on-it q = isOn (getD (row e m p) side 0) (getD m q 0)
+
+  apart : getD (row e m p) 0 0 ≡ getD (row e m p) 1 0 → getD (row e m p) 0 0 ≡ 0
+  unfolding row
+  apart = first-two-apart (numbersAt m (upperNeighbours e p))
+
+  own-voxels : (qs : List ℕ) → readingsFor (slotOf n side) (gathered added qs) ≡ map reading (keep on-it qs)
+  unfolding gathered
+  own-voxels [] = for-none (slotOf n side)
+  own-voxels (q ∷ qs) =
+      for-split (slotOf n side) (added q) (gathered added qs)
+      ∙ ap₂ (λ (a b : List Reading). a ++ b) (own-voxel n (getD m q 0) (row e m p) (reading q) side hs apart) (own-voxels qs)
+      ∙ by-test (on-it q) (λ t. rw t refl) (λ t. rw t refl)
+
+  -- the readings for a side of the face that the cell shows are those of the voxels on it
+  pub own-side : readingsFor (slotOf n side) (faceTaken e m values kinds n p) ≡ map reading (onSide e m side p)
+  unfolding faceTaken onSide
+  own-side = own-voxels (upperNeighbours e p)
+
+  -- .. and none for another face
+  module _ (n′ : ℕ) (h : 0 < n) (h′ : 0 < n′) (d : n ≢ n′) where
+    other-voxels : (qs : List ℕ) → readingsFor (slotOf n′ side) (gathered added qs) ≡ []
+    unfolding gathered
+    other-voxels [] = for-none (slotOf n′ side)
+    other-voxels (q ∷ qs) =
+        for-split (slotOf n′ side) (added q) (gathered added qs)
+        ∙ ap₂ (λ (a b : List Reading). a ++ b) (other-voxel n n′ (getD (row e m p) 0 0) (getD (row e m p) 1 0) (getD m q 0) (reading q) side h h′ hs d) (other-voxels qs)
+
+    pub other-side : readingsFor (slotOf n′ side) (faceTaken e m values kinds n p) ≡ []
+    unfolding faceTaken
+    other-side = other-voxels (upperNeighbours e p)
+
+-- ---- whether the cell shows a face
 
 pub cell-zero : (e s : Triple) (g : Brought) (p : ℕ) → ownFace e s g p ≡ 0 → cellTaken e s g p ≡ []
 unfolding cellTaken
@@ -126,41 +131,3 @@ cell-zero e s g p z = rw (eq-eqb (ownFace e s g p) 0 z)
 pub cell-other : (e s : Triple) (g : Brought) (p n : ℕ) → ownFace e s g p ≡ n → n ≢ 0 → cellTaken e s g p ≡ faceTaken e (g .numbered) (g .values) (g .kinds) n p
 unfolding cellTaken
 cell-other e s g p n f w = rw (f, ne-eqb n 0 w)
-
-pub for-split : (s : ℕ) (a b : List Taken) → readingsFor s (a ++ b) ≡ readingsFor s a ++ readingsFor s b
-unfolding readingsFor
-for-split s a b =
-    ap (map (λ t. t .reading)) (keep-append (λ t. eqb (t .slot) s) a b) ∙ map-append (λ t. t .reading) (keep (λ t. eqb (t .slot) s) a) (keep (λ t. eqb (t .slot) s) b)
-
-for-append : (s : ℕ) (a b : List Taken) → length (readingsFor s (a ++ b)) ≡ length (readingsFor s a) + length (readingsFor s b)
-for-append s a b = ap length (for-split s a b) ∙ length-append (readingsFor s a) (readingsFor s b)
-
-module _ (k : Cutting) (g : ℕ → Brought) (M : List ℕ) (n side : ℕ) (hn : 0 < n) (hs : side ≤ 1) where
-  at-cell : (t : ℕ) → Shows k g M t → length (readingsFor (slotOf n side) (takenAt k g t)) ≡ cond (eqb (getD M t 0) n) 1 0
-  unfolding takenAt
-  at-cell t S =
-      let b : ℕ = lowestBlock k (place (sides (k .extents)) t) in
-      let p : ℕ = local k b (place (sides (k .extents)) t) in
-      by-test (eqb (getD M t 0) 0)
-      (λ z.
-      let w : getD M t 0 ≡ 0 = eqb-true (getD M t 0) 0 z in
-      ap (λ (l : List Taken). length (readingsFor (slotOf n side) l)) (cell-zero (blockExtents k b) (starts k b) (g b) p (S .number ∙ w))
-      ∙ none-for (slotOf n side)
-      ∙ sym (ap (λ (c : Bool). cond c 1 0) (ne-eqb (getD M t 0) n (λ q. omega arith))))
-      (λ z.
-      let w : getD M t 0 ≢ 0 = eqb-false (getD M t 0) 0 z in
-      ap (λ (l : List Taken). length (readingsFor (slotOf n side) l)) (cell-other (blockExtents k b) (starts k b) (g b) p (getD M t 0) (S .number) w)
-      ∙ one-each (blockExtents k b) (g b .numbered) (g b .values) (g b .kinds) (getD M t 0) p (S .parted w) n side (omega arith) hn hs)
-
-  over-cells : (ts : List ℕ) → ((t : ℕ) → List·Memᴰ t ts → Shows k g M t) → length (readingsFor (slotOf n side) (gathered (takenAt k g) ts)) ≡ length (keep (λ t. eqb (getD M t 0) n) ts)
-  unfolding gathered
-  over-cells [] S = none-for (slotOf n side)
-  over-cells (t ∷ ts) S =
-      for-append (slotOf n side) (takenAt k g t) (gathered (takenAt k g) ts)
-      ∙ ap₂ _+_ (at-cell t (S t (List·Memᴰ·head refl))) (over-cells ts (λ q m. S q (List·Memᴰ·tail m)))
-      ∙ by-test (eqb (getD M t 0) n) (λ z. rw z (omega arith)) (λ z. rw z (omega arith))
-
-  -- "Once all blocks have come, strains, clipped and missing together are twice the face's cells": once for each side.
-  pub side-whole : ((t : ℕ) → t < cells (k .extents) → order (k .extents) t ≡ 2 → Shows k g M t) → length (readingsFor (slotOf n side) (volumeTaken k g)) ≡ length (component (k .extents) M 2 n)
-  unfolding volumeTaken component
-  side-whole S = over-cells (ofOrder (k .extents) 2) (λ t m. let o = of-order-out (k .extents) 2 m in S t (o .0) (o .1))

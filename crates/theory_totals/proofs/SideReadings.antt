@@ -1,23 +1,24 @@
 -- The readings that the blocks take for a side of a face are those of the voxels on that side of the uncut face.
 -- Assumes nothing.
-use mathlib.Core.Path.{_≡_, refl, sym, ap, ap₂, _∙_}
+use mathlib.Core.Path.{_≡_, refl, sym, ap, ap₂, _∙_, subst}
 use mathlib.Core.Bool.{Bool, true, false, cond}
 use mathlib.Core.Logic.{_≢_}
-use mathlib.Core.List.{List, [], _∷_, _++_, map, map-map, List·Memᴰ, List·Memᴰ·head, List·Memᴰ·tail}
-use Prim.Native.Nat.{ℕ, zero, suc, _≤_, _<_, min, max}
+use mathlib.Core.List.{List, [], _∷_, _++_, map, map-map, List·Memᴰ, List·Memᴰ·head, List·Memᴰ·tail, Memᴰ·of-map}
+use Prim.Native.Nat.{ℕ, suc, _≤_, _<_}
 use native.Mathlib.Omega.{arith}
-use lib.Dec.{eqb, ltb}
-use lib.ListN.{getD, length}
+use lib.Dec.{eqb}
+use lib.ListN.{getD}
 use lib.Ieee.{Float}
-use borrow.Author.Tests.{eqb-true, eqb-false, eq-eqb, ne-eqb, ltb-true, ltb-false}
+use borrow.Author.Tests.{eqb-true, eqb-false, ne-eqb}
 use Rattle.lists.specs.Lists.{keep}
 use Rattle.lists.proofs.Cases.{by-test}
 use Rattle.lists.proofs.Lists.{keep-out}
 use Rattle.lists.proofs.Tests.{keep-same}
-use Rattle.cells.specs.Box.{Triple}
+use Rattle.cells.specs.Box.{Triple, index, place}
 use Rattle.cells.specs.Extents.{offSize}
-use Rattle.cells.specs.Grid.{cells, order, upperNeighbours, voxel}
+use Rattle.cells.specs.Grid.{sides, cells, order, upperNeighbours, voxel}
 use Rattle.cells.specs.Row.{row}
+use Rattle.cells.proofs.BoxLaws.{index-place}
 use Rattle.cells.proofs.GridLaws.{Upper, upper-neighbour}
 use Rattle.labels.specs.Components.{ofOrder, component}
 use Rattle.labels.proofs.ComponentLaws.{of-order-out}
@@ -27,115 +28,27 @@ use Rattle.cutting.proofs.RenameLaws.{keep-map}
 use Rattle.cutting.proofs.BlockLaws.{voxel-same, face-row}
 use Rattle.cutting.proofs.CutLaws.{embed-up}
 use Rattle.joiner.specs.Book.{Book, uncut}
-use Rattle.joiner.specs.Job.{Closed, State, Told, stageNumber}
-use Rattle.joiner.specs.Stages.{codesOf}
+use Rattle.joiner.specs.Declines.{finalOf}
+use Rattle.joiner.specs.Job.{Closed, Face, Point, State, Tables, Told, stageNumber}
+use Rattle.joiner.specs.Outcomes.{cellNumber, lookedUp}
+use Rattle.joiner.specs.Stages.{codesOf, local, lowestBlock}
 use Rattle.joiner.specs.Statement.{Labelling}
 use Rattle.joiner.proofs.Codes.{lowestOf, localOf, InLowest, in-lowest}
 use Rattle.joiner.proofs.Final.{part-is, uncut-is}
-use Rattle.joiner.proofs.Simulation.{Sim}
+use Rattle.joiner.proofs.Readings.{cell-read}
+use Rattle.joiner.proofs.Simulation.{Sim, finals-at}
+use Rattle.pass_point.specs.FoundPoints.{finalIn}
 use Rattle.strains.specs.declared.Reading.{Reading}
-use Rattle.totals.specs.Totals.{Taken, taken, slotOf, readingAt, readingsFor}
-use Rattle.lowest.specs.Lowest.{starts}
+use Rattle.totals.specs.Totals.{slotOf, readingAt, readingsFor}
+use Rattle.lowest.specs.Lowest.{ownCell, starts, startsBy}
+use Rattle.lowest.proofs.LowestLaws.{own-lowest}
 use Rattle.strain_calls.specs.Adding.{gathered, faceTaken}
 use Rattle.theory_totals.specs.Book.{onSide, sideReadings, readingFrom}
-use Rattle.pass_strain.specs.BlockReadings.{Brought}
-use Rattle.theory_totals.specs.Volume.{takenAt, volumeTaken, Parted, Shows, broughtTo}
-use Rattle.theory_totals.proofs.OwnCells.{embed-local}
-use Rattle.theory_totals.proofs.SideLaws.{pair-up, pair-down, slot-side, row-is, face-is, one-each, cell-zero, cell-other, for-split}
-use Rattle.theory_totals.proofs.ClosedLaws.{closed-shows}
-
--- ---- one of two
-
-module _ (s a b : ℕ) (x y : Reading) where
-  for-first : eqb a s ≡ true → eqb b s ≡ false → readingsFor s (taken a x ∷ taken b y ∷ []) ≡ x ∷ []
-  unfolding readingsFor
-  for-first h g = rw (h, g) refl
-
-  for-second : eqb a s ≡ false → eqb b s ≡ true → readingsFor s (taken a x ∷ taken b y ∷ []) ≡ y ∷ []
-  unfolding readingsFor
-  for-second h g = rw (h, g) refl
-
-module _ (m : List ℕ) (x q r : ℕ) where
-  keep-first : eqb (getD m q 0) x ≡ true → eqb (getD m r 0) x ≡ false → keep (λ q. eqb (getD m q 0) x) (q ∷ r ∷ []) ≡ q ∷ []
-  keep-first h g = rw (h, g) refl
-
-  keep-second : eqb (getD m q 0) x ≡ false → eqb (getD m r 0) x ≡ true → keep (λ q. eqb (getD m q 0) x) (q ∷ r ∷ []) ≡ r ∷ []
-  keep-second h g = rw (h, g) refl
-
-empty-of : {A : Type 0} (l : List A) → length l ≡ 0 → l ≡ []
-empty-of [] h = refl
-empty-of (x ∷ l) h = absurd (omega arith)
-
--- ---- one cell of a block
-
-module _ (e : Triple) (m : List ℕ) (values : List Float) (kinds : List ℕ) (n p : ℕ) (P : Parted e m p) (hn : 0 < n) where
-  abbrev reading : ℕ → Reading
-  reading q = readingAt values kinds (voxel e q)
-
-  abbrev u : ℕ
-  u = getD m (P .q) 0
-
-  abbrev v : ℕ
-  v = getD m (P .r) 0
-
-  -- the voxels on the lower-code and on the higher-code side
-  on-lower : onSide e m 0 p ≡ keep (λ q. eqb (getD m q 0) (min u v)) (P .q ∷ P .r ∷ [])
-  unfolding onSide
-  on-lower = rw (row-is e m values kinds n p P, P .sides) refl
-
-  on-higher : onSide e m 1 p ≡ keep (λ q. eqb (getD m q 0) (max u v)) (P .q ∷ P .r ∷ [])
-  unfolding onSide
-  on-higher = rw (row-is e m values kinds n p P, P .sides) refl
-
-  abbrev taken-here : List Taken
-  taken-here = faceTaken e m values kinds n p
-
-  up-taken : u < v → taken-here ≡ taken (slotOf n 0) (reading (P .q)) ∷ taken (slotOf n 1) (reading (P .r)) ∷ []
-  up-taken l = face-is e m values kinds n p P ∙ pair-up n u v (reading (P .q)) (reading (P .r)) (P .one) (P .two) (P .apart) l
-
-  down-taken : v < u → taken-here ≡ taken (slotOf n 1) (reading (P .q)) ∷ taken (slotOf n 0) (reading (P .r)) ∷ []
-  down-taken l = face-is e m values kinds n p P ∙ pair-down n u v (reading (P .q)) (reading (P .r)) (P .one) (P .two) (P .apart) l
-
-  -- the place of a side, and that of the other
-  here : (t : ℕ) → t ≤ 1 → eqb (slotOf n t) (slotOf n t) ≡ true
-  here t h = eq-eqb (slotOf n t) (slotOf n t) refl
-
-  other : (t t′ : ℕ) → t ≤ 1 → t′ ≤ 1 → t ≢ t′ → eqb (slotOf n t) (slotOf n t′) ≡ false
-  other t t′ h h′ d = slot-side n n t′ hn hn h′ (reading p) (reading p) t h refl d
-
-  -- the readings for a side of the face that the cell shows are those of the voxels on it
-  side-of : (side : ℕ) → side ≤ 1 → readingsFor (slotOf n side) taken-here ≡ map reading (onSide e m side p)
-  side-of zero h =
-      by-test (ltb u v)
-      (λ t.
-      let l : u < v = ltb-true u v t in
-      ap (readingsFor (slotOf n 0)) (up-taken l)
-      ∙ for-first (slotOf n 0) (slotOf n 0) (slotOf n 1) _ _ (here 0 (omega arith)) (other 1 0 (omega arith) (omega arith) (λ d. omega arith))
-      ∙ sym (ap (map reading) (on-lower ∙ keep-first m (min u v) (P .q) (P .r) (eq-eqb u (min u v) (omega arith)) (ne-eqb v (min u v) (λ d. omega arith)))))
-      (λ t.
-      let d : u ≢ v = P .apart in
-      let l : v < u = omega (arith, ltb-false u v t) in
-      ap (readingsFor (slotOf n 0)) (down-taken l)
-      ∙ for-second (slotOf n 0) (slotOf n 1) (slotOf n 0) _ _ (other 1 0 (omega arith) (omega arith) (λ d. omega arith)) (here 0 (omega arith))
-      ∙ sym (ap (map reading) (on-lower ∙ keep-second m (min u v) (P .q) (P .r) (ne-eqb u (min u v) (λ d. omega arith)) (eq-eqb v (min u v) (omega arith)))))
-  side-of (suc zero) h =
-      by-test (ltb u v)
-      (λ t.
-      let l : u < v = ltb-true u v t in
-      ap (readingsFor (slotOf n 1)) (up-taken l)
-      ∙ for-second (slotOf n 1) (slotOf n 0) (slotOf n 1) _ _ (other 0 1 (omega arith) (omega arith) (λ d. omega arith)) (here 1 (omega arith))
-      ∙ sym (ap (map reading) (on-higher ∙ keep-second m (max u v) (P .q) (P .r) (ne-eqb u (max u v) (λ d. omega arith)) (eq-eqb v (max u v) (omega arith)))))
-      (λ t.
-      let d : u ≢ v = P .apart in
-      let l : v < u = omega (arith, ltb-false u v t) in
-      ap (readingsFor (slotOf n 1)) (down-taken l)
-      ∙ for-first (slotOf n 1) (slotOf n 1) (slotOf n 0) _ _ (here 1 (omega arith)) (other 0 1 (omega arith) (omega arith) (λ d. omega arith))
-      ∙ sym (ap (map reading) (on-higher ∙ keep-first m (max u v) (P .q) (P .r) (eq-eqb u (max u v) (omega arith)) (ne-eqb v (max u v) (λ d. omega arith)))))
-  side-of (suc (suc side)) h = absurd (omega arith)
-
-  -- .. and none for another face
-  side-none : (n′ side : ℕ) → 0 < n′ → side ≤ 1 → n ≢ n′ → readingsFor (slotOf n′ side) taken-here ≡ []
-  side-none n′ side h hs d = empty-of _ (one-each e m values kinds n p P n′ side hn h hs ∙ ap (λ (b : Bool). cond b 1 0) (ne-eqb n n′ d))
+use Rattle.pass_strain.specs.BlockReadings.{Brought, faceAt, ownFace}
+use Rattle.pass_strain.proofs.AddingLaws.{final-is}
+use Rattle.theory_totals.specs.Volume.{takenAt, volumeTaken, broughtTo}
+use Rattle.theory_totals.proofs.OwnCells.{embed-local, lowest-true}
+use Rattle.theory_totals.proofs.SideLaws.{isOn, for-split, for-none, own-side, other-side, cell-zero, cell-other}
 
 -- a voxel on a side of a cell is one of the cells
 beside : (e : Triple) (m : List ℕ) (side p q : ℕ) → p < cells e → List·Memᴰ q (onSide e m side p) → q < cells e
@@ -154,15 +67,54 @@ module _ (k : Cutting) (good : goodCut k ≡ true) (codes : List ℕ) (b : ℕ) 
   on-side-embed : onSide (k .extents) (uncutMap k codes) side (embed k b p) ≡ map (embed k b) (onSide (blockExtents k b) (part k codes b) side p)
   unfolding onSide
   on-side-embed =
-      ap₂ (λ (r l : List ℕ). keep (λ q. eqb (getD (uncutMap k codes) q 0) (getD r side 0)) l) (sym (face-row k good codes b hb p hp cell-level)) (sym (embed-up k good b hb p hp))
-      ∙ keep-map (λ q. eqb (getD (uncutMap k codes) q 0) (getD (row (blockExtents k b) (part k codes b) p) side 0)) (embed k b) (upperNeighbours (blockExtents k b) p)
+      ap₂ (λ (r l : List ℕ). keep (λ q. isOn (getD r side 0) (getD (uncutMap k codes) q 0)) l) (sym (face-row k good codes b hb p hp cell-level)) (sym (embed-up k good b hb p hp))
+      ∙ keep-map (λ q. isOn (getD (row (blockExtents k b) (part k codes b) p) side 0) (getD (uncutMap k codes) q 0)) (embed k b) (upperNeighbours (blockExtents k b) p)
       ∙ ap (map (embed k b))
       (keep-same _ _ (upperNeighbours (blockExtents k b) p)
       (λ q i.
       let w : Upper (blockExtents k b) p q = upper-neighbour (blockExtents k b) p hp i in
-      ap (λ (x : ℕ). eqb x (getD (row (blockExtents k b) (part k codes b) p) side 0)) (sym (voxel-same k good codes b hb q (w .within) (w .higher ∙ ap suc cell-level)))))
+      ap (isOn (getD (row (blockExtents k b) (part k codes b) p) side 0)) (sym (voxel-same k good codes b hb q (w .within) (w .higher ∙ ap suc cell-level)))))
+
+-- Voxel cell q beside face cell t of the volume, as a voxel cell of the lowest block that has t.
+pub record InBlock (k : Cutting) (t q : ℕ) : Type 0 where
+  pub cell : ℕ
+  pub within : cell < cells (blockExtents k (lowestOf k t))
+  pub level : order (blockExtents k (lowestOf k t)) cell ≡ 3
+  pub is : embed k (lowestOf k t) cell ≡ q
+
+module _ (k : Cutting) (good : goodCut k ≡ true) (t : ℕ) (ht : t < cells (k .extents)) where
+  pub in-block : order (k .extents) t ≡ 2 → (q : ℕ) → List·Memᴰ q (upperNeighbours (k .extents) t) → InBlock k t q
+  in-block ot q i =
+      let b : ℕ = lowestOf k t in
+      let p : ℕ = localOf k t in
+      let l : InLowest k t = in-lowest k good t ht in
+      let up = embed-up k good b (l .listed) p (l .within) ∙ ap (upperNeighbours (k .extents)) (l .is) in
+      let f = Memᴰ·of-map (embed k b) (upperNeighbours (blockExtents k b) p) (subst (List·Memᴰ q) (sym up) i) in
+      let u : Upper (blockExtents k b) p (f .0) = upper-neighbour (blockExtents k b) p (l .within) (f .1) in
+      record { cell = f .0; within = u .within; level = u .higher ∙ ap suc (l .level ∙ ot); is = f .2 }
+
+  -- its reading is the one that the block brings there
+  pub reading-in : (values : ℕ → List Float) (kinds : ℕ → List ℕ) (q : ℕ) (v : InBlock k t q)
+      → readingFrom k values kinds t q ≡ readingAt (values (lowestOf k t)) (kinds (lowestOf k t)) (voxel (blockExtents k (lowestOf k t)) (v .cell))
+  unfolding readingFrom
+  reading-in values kinds q v =
+      let b : ℕ = lowestOf k t in
+      let here = ap (λ (x : ℕ). local k b (place (sides (k .extents)) x)) (sym (v .is)) ∙ embed-local k good b (in-lowest k good t ht .listed) (v .cell) (v .within) in
+      ap (λ (x : ℕ). readingAt (values b) (kinds b) (voxel (blockExtents k b) x)) here
 
 -- ---- a closed job
+
+number-face : (k : Cutting) (t : Tables) (points b : ℕ) (m : List ℕ) (c : Triple) (p : ℕ) → order (blockExtents k b) p ≡ 2 → cellNumber k t points b m c p ≡ finalOf t Face b (getD m p 0)
+unfolding cellNumber
+number-face k t points b m c p o = rw o refl
+
+own-starts : (k : Cutting) (b p : ℕ) → ownCell k b p ≡ true → startsBy (starts k b) (place (sides (blockExtents k b)) p) ≡ true
+unfolding ownCell
+own-starts k b p t = t
+
+own-face : (e s : Triple) (g : Brought) (p : ℕ) → startsBy s (place (sides e) p) ≡ true → ownFace e s g p ≡ finalIn (g .numbers) (g .from) (getD (g .numbered) p 0)
+unfolding ownFace faceAt
+own-face e s g p t = rw t
 
 module _ (o : Told) (own : ℕ → List ℕ) (ext : offSize 1024 (o .cutting .extents) ≡ false) (good : goodCut (o .cutting) ≡ true)
     (lab : (b : ℕ) → b < blocks (o .cutting) → Labelling (blockExtents (o .cutting) b) (own b)) (B : Book) (s : State) (S : Sim o own ext good lab B s) (at-closed : stageNumber (B .stage) ≡ stageNumber Closed)
@@ -200,38 +152,48 @@ module _ (o : Told) (own : ℕ → List ℕ) (ext : offSize 1024 (o .cutting .ex
         ∙ ap (map (readingFrom k values kinds t)) (sym (on-side-embed k good codes b (l .listed) p (l .within) (l .level ∙ ot) side))
         ∙ ap₂ (λ (m : List ℕ) (x : ℕ). map (readingFrom k values kinds t) (onSide (k .extents) m side x)) (sym (uncut-is o own good lab B s (S .inv) (omega (arith, at-closed)))) (l .is)
 
+    -- the block shows there the face that the uncut map has
+    shows : ownFace (blockExtents k b) (starts k b) (g b) p ≡ getD (uncut B) t 0
+    unfolding lookedUp
+    shows =
+        let c : Triple = place (sides (k .extents)) t in
+        let owned : ownCell k b p ≡ true = own-lowest k good b (l .listed) p (l .within) ∙ lowest-true k b p (ap (λ (x : ℕ). lowestBlock k (place (sides (k .extents)) x)) (l .is)) in
+        own-face (blockExtents k b) (starts k b) (g b) p (own-starts k b p owned)
+        ∙ final-is (s .tables) b (getD (own b) p 0)
+        ∙ sym (number-face k (s .tables) (s .job .numbered Point) b (own b) c p (l .level ∙ ot))
+        ∙ sym (ap (λ (z : Told). cellNumber (z .cutting) (s .tables) (s .job .numbered Point) b (own b) c (local (z .cutting) b c)) (S .inv .told))
+        ∙ cell-read o own good lab B s (S .inv) (omega (arith, at-closed)) (finals-at o own ext good lab B s S at-closed) b c (l .listed) (l .has)
+        ∙ ap (λ (z : Told). getD (uncut B) (index (sides (z .cutting .extents)) c) 0) (S .inv .btold)
+        ∙ ap (λ (x : ℕ). getD (uncut B) x 0) (index-place (sides (k .extents)) t)
+
     -- what is taken at the cell for a side of face n
     at-cell : readingsFor (slotOf n side) (takenAt k g t) ≡ cond (eqb (getD (uncut B) t 0) n) (cell-readings t) []
     unfolding takenAt
     at-cell =
-        let Z : Shows k g (uncut B) t = closed-shows o own ext good lab B s S at-closed values kinds t ht ot in
         let N : ℕ = getD (uncut B) t 0 in
         by-test (eqb N 0)
         (λ z.
         let y : N ≡ 0 = eqb-true N 0 z in
-        ap (readingsFor (slotOf n side)) (cell-zero (blockExtents k b) (starts k b) (g b) p (Z .number ∙ y))
-        ∙ none-taken
+        ap (readingsFor (slotOf n side)) (cell-zero (blockExtents k b) (starts k b) (g b) p (shows ∙ y))
+        ∙ for-none (slotOf n side)
         ∙ sym (ap (λ (a : Bool). cond a (cell-readings t) []) (ne-eqb N n (λ d. omega arith))))
         (λ z.
         let y : N ≢ 0 = eqb-false N 0 z in
-        ap (readingsFor (slotOf n side)) (cell-other (blockExtents k b) (starts k b) (g b) p N (Z .number) y)
+        ap (readingsFor (slotOf n side)) (cell-other (blockExtents k b) (starts k b) (g b) p N shows y)
         ∙ by-test (eqb N n)
         (λ a.
         let d : N ≡ n = eqb-true N n a in
         ap (λ (x : ℕ). readingsFor (slotOf n side) (faceTaken (blockExtents k b) (own b) (values b) (kinds b) x p)) d
-        ∙ side-of (blockExtents k b) (own b) (values b) (kinds b) n p (Z .parted y) hn side hs
+        ∙ own-side (blockExtents k b) (own b) (values b) (kinds b) n p side hs
         ∙ lifted
         ∙ sym (ap (λ (x : Bool). cond x (cell-readings t) []) a))
         (λ a.
-        side-none (blockExtents k b) (own b) (values b) (kinds b) N p (Z .parted y) (omega arith) n side hn hs (eqb-false N n a)
+        other-side (blockExtents k b) (own b) (values b) (kinds b) N p side hs n (omega arith) hn (eqb-false N n a)
         ∙ sym (ap (λ (x : Bool). cond x (cell-readings t) []) a)))
-      where
-        none-taken : readingsFor (slotOf n side) [] ≡ []
-        none-taken = unfold readingsFor in refl
 
   over-cells : (ts : List ℕ) → ((t : ℕ) → List·Memᴰ t ts → (t < cells (k .extents)) × (order (k .extents) t ≡ 2)) → readingsFor (slotOf n side) (gathered (takenAt k g) ts) ≡ gathered cell-readings (keep (λ t. eqb (getD (uncut B) t 0) n) ts)
   unfolding gathered
-  over-cells [] f = unfold readingsFor in refl
+  over-cells [] f = for-none (slotOf n side)
   over-cells (t ∷ ts) f =
       let i = f t (List·Memᴰ·head refl) in
       for-split (slotOf n side) (takenAt k g t) (gathered (takenAt k g) ts)

@@ -2,7 +2,7 @@
 -- Assumes nothing.
 use mathlib.Core.Path.{_≡_, refl, sym, ap, ap₂, _∙_, subst}
 use mathlib.Core.Bool.{true, false}
-use mathlib.Core.Logic.{⊎-elim}
+use mathlib.Core.Logic.{_≢_, ⊎-elim}
 use mathlib.Core.List.{List, [], _∷_, _++_, map, List·Memᴰ, List·Memᴰ·head, List·Memᴰ·tail, List·Memᴰ·not-nil, List·Memᴰ·cases-cons, List·Memᴰ·append-cases}
 use Prim.Native.Nat.{ℕ, _^_, _≤_, _<_}
 use native.Mathlib.Omega.{arith}
@@ -18,33 +18,38 @@ use Rattle.cells.specs.Box.{Triple, place}
 use Rattle.cells.specs.Extents.{offSize}
 use Rattle.cells.specs.Grid.{sides, cells, order, upperNeighbours, voxel}
 use Rattle.cells.specs.Row.{row}
+use Rattle.labels.specs.Number.{labels}
 use Rattle.labels.specs.Components.{component, ofOrder}
 use Rattle.labels.proofs.ComponentLaws.{of-order-out}
+use Rattle.cutting.specs.Nodes.{part}
 use Rattle.cutting.specs.Cutting.{Cutting, blocks, goodCut, blockExtents}
 use Rattle.joiner.specs.Book.{Book, begun, turned, uncut}
 use Rattle.joiner.specs.Job.{Closed, Face, State, Told, sameStage}
-use Rattle.joiner.specs.Stages.{local, lowestBlock}
+use Rattle.joiner.specs.Stages.{codesOf, local, lowestBlock}
 use Rattle.joiner.specs.Statement.{Labelling}
 use Rattle.joiner.proofs.Codes.{lowest-has}
-use Rattle.joiner.proofs.Final.{uncut-is}
+use Rattle.joiner.proofs.Final.{part-is, uncut-is}
 use Rattle.joiner.proofs.Simulation.{Sim, one-call}
 use Rattle.joiner.proofs.Statement3.{begun-sim, opened-passed}
 use Rattle.extended.specs.Extended.{base, added, LongRun}
 use Rattle.strains.specs.Units.{isUnits, unitsOf, floatOf}
-use Rattle.strains.specs.Readings.{unitsSum}
+use Rattle.strains.specs.Readings.{unitsSum, ofKind}
 use Rattle.strains.specs.declared.Reading.{Reading}
+use Rattle.strains.proofs.Sums.{float-none}
 use Rattle.strains.proofs.Whole.{float-units, units-float}
 use Rattle.totals.specs.Totals.{readingAt}
 use Rattle.totals.specs.declared.Totals.{Totals}
 use Rattle.strain_calls.specs.Tables.{TotalTables}
 use Rattle.strain_calls.specs.Adding.{gathered}
-use Rattle.strain_calls.specs.Calls.{StrainCall, strain, total, StrainAnswer, allCome}
+use Rattle.strain_calls.specs.Calls.{StrainCall, strain, total, StrainAnswer, noSide, allCome}
 use Rattle.strain_calls.specs.Outcomes.{StrainStep}
 use Rattle.theory_totals.specs.Book.{ReadingBook, noReadings, strainAccepts, readingsAfter, turnedReadings, onSide, sideReadings, sideTotals, faceTotals, readingFrom, bookTotals}
-use Rattle.theory_totals.specs.Statement.{StrainEvent, LongFair, BringsLists, TotalRead, uncutFrom, IsUnits, SumsExact, TotalsExact, countedOn, TotalsWhole, OrderFree}
+use Rattle.theory_totals.specs.Statement.{StrainEvent, LongFair, BringsLists, TotalRead, uncutFrom, IsUnits, SumsExact, TotalsExact, countedOn, BordersOutside, TotalsWhole, OrderFree}
 use Rattle.theory_totals.proofs.SlotLaws.{kinds-all}
+use Rattle.theory_totals.proofs.SideLaws.{isOn, on-nonzero}
+use Rattle.theory_totals.proofs.SideCounts.{lower-whole, higher-whole, higher-none}
 use Rattle.theory_totals.proofs.SideReadings.{map-alike}
-use Rattle.theory_totals.proofs.Recorded.{Emptied, opened-empty, Recorded, each-come, side-long, side-size}
+use Rattle.theory_totals.proofs.Recorded.{Emptied, opened-empty, Recorded, each-come, side-size}
 use Rattle.theory_totals.proofs.StrainSteps.{Passed, one-reading}
 use Rattle.theory_totals.proofs.StrainStatement.{base-recorded, begun-recorded}
 
@@ -54,15 +59,18 @@ unfolding gathered
 gathered-same f g [] h = refl
 gathered-same f g (t ∷ l) h = ap₂ (λ (a b : List Reading). a ++ b) (h t (List·Memᴰ·head refl)) (gathered-same f g l (λ q m. h q (List·Memᴰ·tail m)))
 
--- readings that are the same at the two voxels of each face cell give the same totals
-module _ (e : Triple) (m : List ℕ) (f g : ℕ → ℕ → Reading) (n : ℕ) (h : (t : ℕ) → t < cells e → order e t ≡ 2 → (q : ℕ) → List·Memᴰ q (upperNeighbours e t) → f t q ≡ g t q) where
+-- readings that are the same at the voxels of each face cell, the outside left out, give the same totals
+module _ (e : Triple) (m : List ℕ) (f g : ℕ → ℕ → Reading) (n : ℕ) (h : (t : ℕ) → t < cells e → order e t ≡ 2 → (q : ℕ) → List·Memᴰ q (upperNeighbours e t) → getD m q 0 ≢ 0 → f t q ≡ g t q) where
   side-same : (side : ℕ) → sideReadings e m f n side ≡ sideReadings e m g n side
   unfolding sideReadings component onSide
   side-same side =
       gathered-same (λ t. map (f t) (onSide e m side t)) (λ t. map (g t) (onSide e m side t)) (component e m 2 n)
       (λ t i.
       let c = of-order-out e 2 (keep-out (λ p. eqb (getD m p 0) n) (ofOrder e 2) i .0) in
-      map-alike (f t) (g t) (onSide e m side t) (λ q j. h t (c .0) (c .1) q (keep-out (λ p. eqb (getD m p 0) (getD (row e m t) side 0)) (upperNeighbours e t) j .0)))
+      map-alike (f t) (g t) (onSide e m side t)
+      (λ q j.
+      let w = keep-out (λ p. isOn (getD (row e m t) side 0) (getD m p 0)) (upperNeighbours e t) j in
+      h t (c .0) (c .1) q (w .0) (on-nonzero (getD (row e m t) side 0) (getD m q 0) (w .1))))
 
   pub face-same : faceTotals e m f n ≡ faceTotals e m g n
   unfolding faceTotals
@@ -72,8 +80,9 @@ module _ (o : Told) (own : ℕ → List ℕ) (values : ℕ → List Float) (kind
   -- What is shown of totals T that are read for face n.
   record ReadFor (n : ℕ) (T : Totals) : Type 0 where
     exact : T ≡ faceTotals (o .cutting .extents) (uncutFrom (o .cutting) own) (readingFrom (o .cutting) values kinds) n
-    long : (side : ℕ) → side ≤ 1 → length (sideReadings (o .cutting .extents) (uncutFrom (o .cutting) own) (readingFrom (o .cutting) values kinds) n side) ≡ length (component (o .cutting .extents) (uncutFrom (o .cutting) own) 2 n)
     small : (side : ℕ) → side ≤ 1 → natAbs (unitsSum (sideReadings (o .cutting .extents) (uncutFrom (o .cutting) own) (readingFrom (o .cutting) values kinds) n side)) < 2 ^ 53
+    some : 0 < n
+    parts : (b : ℕ) → b < blocks (o .cutting) → own b ≡ part (o .cutting) (codesOf (o .cutting) own) b
 
   -- .. by a call of the list
   abbrev Reads : StrainEvent → Type 0
@@ -124,9 +133,9 @@ module _ (o : Told) (own : ℕ → List ℕ) (values : ℕ → List Float) (kind
       same-map = uncut-is o own good lab B s (S .inv) (omega (arith, p .closed))
 
       -- all lists are those that the blocks brought
-      same-reading : (t : ℕ) → t < cells (k .extents) → order (k .extents) t ≡ 2 → (q : ℕ) → List·Memᴰ q (upperNeighbours (k .extents) t) → readingFrom k (R .values) (R .kinds) t q ≡ readingFrom k values kinds t q
+      same-reading : (t : ℕ) → t < cells (k .extents) → order (k .extents) t ≡ 2 → (q : ℕ) → List·Memᴰ q (upperNeighbours (k .extents) t) → getD (uncutFrom k own) q 0 ≢ 0 → readingFrom k (R .values) (R .kinds) t q ≡ readingFrom k values kinds t q
       unfolding readingFrom
-      same-reading t ht ot q i =
+      same-reading t ht ot q i d =
           let b : ℕ = lowestBlock k (place (sides (k .extents)) t) in
           let l = H b (each-come o own ext good lab v Z B s S R w Q (p .closed) come-all b (lowest-has k good t ht .0)) in
           ap₂ (λ (x : List Float) (y : List ℕ). readingAt x y (voxel (blockExtents k b) (local k b (place (sides (k .extents)) q)))) (l .0) (l .1)
@@ -137,16 +146,13 @@ module _ (o : Told) (own : ℕ → List ℕ) (values : ℕ → List Float) (kind
           record {
             exact = ap₂ (λ (z : Told) (m : List ℕ). faceTotals (z .cutting .extents) m (readingFrom (z .cutting) (R .values) (R .kinds)) n) (S .inv .btold) same-map
                 ∙ face-same (k .extents) (uncutFrom k own) (readingFrom k (R .values) (R .kinds)) (readingFrom k values kinds) n same-reading;
-            long = λ side hs.
-                ap length (sym (side-same (k .extents) (uncutFrom k own) (readingFrom k (R .values) (R .kinds)) (readingFrom k values kinds) n same-reading side))
-                ∙ ap (λ (m : List ℕ). length (sideReadings (k .extents) m (readingFrom k (R .values) (R .kinds)) n side)) (sym same-map)
-                ∙ side-long o own ext good lab v Z B s S R w Q (p .closed) come-all n numbered-some most side hs
-                ∙ ap (λ (m : List ℕ). length (component (k .extents) m 2 n)) same-map;
             small = λ side hs.
                 subst (λ (l : List Reading). natAbs (unitsSum l) < 2 ^ 53)
                 (ap (λ (m : List ℕ). sideReadings (k .extents) m (readingFrom k (R .values) (R .kinds)) n side) same-map
                 ∙ side-same (k .extents) (uncutFrom k own) (readingFrom k (R .values) (R .kinds)) (readingFrom k values kinds) n same-reading side)
                 (side-size o own ext good lab v Z B s S R w Q (p .closed) come-all n numbered-some most side hs);
+            some = numbered-some;
+            parts = part-is o own good lab B s (S .inv) (omega (arith, p .closed));
           }
 
     -- every total that a list of calls reads
@@ -200,14 +206,41 @@ counted-all : (e : Triple) (m : List ℕ) (f : ℕ → ℕ → Reading) (n : ℕ
 unfolding faceTotals sideTotals
 counted-all e m f n = (kinds-all (sideReadings e m f n 0), kinds-all (sideReadings e m f n 1))
 
--- "Strains, clipped and missing together are twice the face's cells."
+-- a side without readings has zero sums and counts
+no-readings : sideTotals [] ≡ noSide
+unfolding sideTotals unitsSum ofKind
+no-readings = rw float-none refl
+
+-- "Strains, clipped and missing together are twice the face's cells", and at the outside "one reading per cell".
 pub totals-whole : TotalsWhole
-totals-whole o own values kinds n T X =
-    let r = read-of o own values kinds n T X in
-    let c = counted-all (o .cutting .extents) (uncutFrom (o .cutting) own) (readingFrom (o .cutting) values kinds) n in
-    let low = ap (λ (t : Totals). countedOn (t .lower)) (r .exact) ∙ c .0 ∙ r .long 0 (omega arith) in
-    let high = ap (λ (t : Totals). countedOn (t .higher)) (r .exact) ∙ c .1 ∙ r .long 1 (omega arith) in
-    (low, high, omega (arith, low, high))
+unfolding faceTotals
+totals-whole o own values kinds n T X = record { lower = low; higher = high; twice = λ d. omega (arith, low, high d); nothing = none; one-per-cell = λ z. omega (arith, low, ap countedOn (none z)) }
+  where
+    e : Triple
+    e = o .cutting .extents
+
+    codes : List ℕ
+    codes = codesOf (o .cutting) own
+
+    f : ℕ → ℕ → Reading
+    f = readingFrom (o .cutting) values kinds
+
+    r : ReadFor o own values kinds n T
+    r = read-of o own values kinds n T X
+
+    low : countedOn (T .lower) ≡ length (component e (labels e codes) 2 n)
+    low = ap (λ (t : Totals). countedOn (t .lower)) (r .exact) ∙ counted-all e (labels e codes) f n .0 ∙ lower-whole e codes f n (r .some)
+
+    high : (BordersOutside e (labels e codes) n → ⊥) → countedOn (T .higher) ≡ length (component e (labels e codes) 2 n)
+    high d = ap (λ (t : Totals). countedOn (t .higher)) (r .exact) ∙ counted-all e (labels e codes) f n .1 ∙ higher-whole e codes f n (r .some) d
+
+    none : BordersOutside e (labels e codes) n → T .higher ≡ noSide
+    none z = ap (λ (t : Totals). t .higher) (r .exact) ∙ ap sideTotals (higher-none e codes f n (r .some) z) ∙ no-readings
+
+-- the blocks' maps are parts of the uncut volume
+pub parts-read : (o : Told) (own : ℕ → List ℕ) (values : ℕ → List Float) (kinds : ℕ → List ℕ) (n : ℕ) (T : Totals) → TotalRead o own values kinds n T
+    → (b : ℕ) → b < blocks (o .cutting) → own b ≡ part (o .cutting) (codesOf (o .cutting) own) b
+parts-read o own values kinds n T X = read-of o own values kinds n T X .parts
 
 -- ".. for any order of blocks": two lists of calls with the same readings give the same totals.
 pub order-free : OrderFree

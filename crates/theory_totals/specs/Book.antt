@@ -28,9 +28,10 @@ use Rattle.strain_calls.specs.Calls.{StrainCall, strain, total, StrainAnswer, s
 
 -- ---- the totals of a face of an uncut map
 
--- The voxels beside face cell t on a side of it: 0 is the lower-code side, 1 the higher-code side, by the row of the cell.
+-- The voxels beside face cell t on a side of it: 0 is the lower-code side, 1 the higher-code side, by the row of the cell. "The outside is
+-- the higher side of a face and has zero sums and counts" (item 4): no voxel of number 0 is counted on it.
 unfoldable pub onSide : Triple → List ℕ → ℕ → ℕ → List ℕ
-onSide e m side t = keep (λ q. eqb (getD m q 0) (getD (row e m t) side 0)) (upperNeighbours e t)
+onSide e m side t = keep (λ q. not (eqb (getD m q 0) 0) && eqb (getD m q 0) (getD (row e m t) side 0)) (upperNeighbours e t)
 
 -- The readings on a side of face n, cell by cell: `reading t q` is that of voxel cell q at face cell t.
 unfoldable pub sideReadings : Triple → List ℕ → (ℕ → ℕ → Reading) → ℕ → ℕ → List Reading

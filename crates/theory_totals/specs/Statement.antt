@@ -5,13 +5,13 @@ use mathlib.Core.Logic.{_↔_, _≢_}
 use mathlib.Core.Bool.{true}
 use mathlib.Core.List.{List, [], _∷_, List·Memᴰ}
 use Prim.Native.Nat.{ℕ, _+_, _*_, _<_, _≤_}
-use lib.ListN.{length}
+use lib.ListN.{getD, length}
 use lib.IntN.{ℤ}
 use lib.Ieee.{Float}
-use Rattle.cells.specs.Box.{volume}
+use Rattle.cells.specs.Box.{Triple, volume}
 use Rattle.cells.specs.Grid.{voxel, voxelCell}
 use Rattle.labels.specs.Number.{labels}
-use Rattle.labels.specs.Components.{component}
+use Rattle.labels.specs.Components.{component, componentRow}
 use Rattle.cutting.specs.Cutting.{Cutting, blocks, blockExtents, blockCodes, embed}
 use Rattle.joiner.specs.Job.{Told, Tables, State}
 use Rattle.joiner.specs.Stages.{codesOf}
@@ -25,7 +25,7 @@ use Rattle.totals.specs.Totals.{readingAt}
 use Rattle.totals.specs.declared.Side.{Side}
 use Rattle.totals.specs.declared.Totals.{Totals}
 use Rattle.strain_calls.specs.Tables.{TotalTables}
-use Rattle.strain_calls.specs.Calls.{StrainCall, strain, total, StrainAnswer, strainAnswer}
+use Rattle.strain_calls.specs.Calls.{StrainCall, strain, total, StrainAnswer, strainAnswer, noSide}
 use Rattle.strain_calls.specs.Outcomes.{OpenedTotals, StrainStep}
 use Rattle.theory_totals.specs.Book.{ReadingBook, noReadings, strainBookRefusal, strainBookEarly, bringsMap, strainAccepts, turnedReadings, strainBookAnswer, sideReadings, faceTotals, readingFrom}
 
@@ -126,14 +126,37 @@ TotalsExact =
 abbrev pub countedOn : Side → ℕ
 countedOn d = d .strains + d .clipped + d .missing
 
--- "Strains, clipped and missing together are twice the face's cells": once for each side.
+-- Face n of a map is one to the outside: the second place of its row is 0, as in "5 0" (item 4).
+abbrev pub BordersOutside : Triple → List ℕ → ℕ → Type 0
+BordersOutside e m n = getD (componentRow e m 2 n) 1 0 ≡ 0
+
+-- How many readings the totals of face n of a map count.
+pub record ReadingCounts (e : Triple) (m : List ℕ) (n : ℕ) (T : Totals) : Type 0 where
+  -- the lower side has one reading per cell
+  pub lower : countedOn (T .lower) ≡ length (component e m 2 n)
+  -- "strains, clipped and missing together are twice the face's cells": between two segments the higher side has one per cell too
+  pub higher : (BordersOutside e m n → ⊥) → countedOn (T .higher) ≡ length (component e m 2 n)
+  pub twice : (BordersOutside e m n → ⊥) → countedOn (T .lower) + countedOn (T .higher) ≡ 2 * length (component e m 2 n)
+  -- "the outside .. has zero sums and counts .., whose total for that face is one reading per cell" (item 4)
+  pub nothing : BordersOutside e m n → T .higher ≡ noSide
+  pub one-per-cell : BordersOutside e m n → countedOn (T .lower) + countedOn (T .higher) ≡ length (component e m 2 n)
+
+-- .. of the uncut face, in every total that is read.
 abbrev pub TotalsWhole : Type 0
 TotalsWhole =
     (o : Told) (own : ℕ → List ℕ) (values : ℕ → List Float) (kinds : ℕ → List ℕ) (n : ℕ) (T : Totals)
     → TotalRead o own values kinds n T
-    → (countedOn (T .lower) ≡ length (component (o .cutting .extents) (uncutFrom (o .cutting) own) 2 n))
-    × (countedOn (T .higher) ≡ length (component (o .cutting .extents) (uncutFrom (o .cutting) own) 2 n))
-    × (countedOn (T .lower) + countedOn (T .higher) ≡ 2 * length (component (o .cutting .extents) (uncutFrom (o .cutting) own) 2 n))
+    → ReadingCounts (o .cutting .extents) (uncutFrom (o .cutting) own) n T
+
+-- Readings of voxels outside count nowhere (12 looks at them as at any other): where two lists of calls differ only in such readings, they give the same totals.
+abbrev pub OutsideFree : Type 0
+OutsideFree =
+    (o : Told) (own : ℕ → List ℕ) (values values′ : ℕ → List Float) (kinds kinds′ : ℕ → List ℕ) (n : ℕ) (T T′ : Totals)
+    → ((b v : ℕ) → b < blocks (o .cutting) → v < volume (blockExtents (o .cutting) b) → getD (own b) (voxelCell (blockExtents (o .cutting) b) v) 0 ≢ 0
+    → readingAt (values b) (kinds b) v ≡ readingAt (values′ b) (kinds′ b) v)
+    → TotalRead o own values kinds n T
+    → TotalRead o own values′ kinds′ n T′
+    → T ≡ T′
 
 -- ".. for any order of blocks": two lists of calls with the same readings give the same totals, bit for bit.
 abbrev pub OrderFree : Type 0

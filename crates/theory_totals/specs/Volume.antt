@@ -1,21 +1,18 @@
 -- What all blocks of a volume add to the totals, said without any order of blocks (document 02, item 1).
 -- Assumes nothing.
-use mathlib.Core.Path.{_≡_}
-use mathlib.Core.Logic.{_≢_}
 use mathlib.Core.List.{List, [], _∷_}
 use Prim.Native.Nat.{ℕ}
 use Rattle.cells.specs.Box.{Triple, place}
-use Rattle.cells.specs.Grid.{sides, upperNeighbours}
+use Rattle.cells.specs.Grid.{sides}
 use Rattle.labels.specs.Components.{ofOrder}
 use Rattle.cutting.specs.Cutting.{Cutting, blockExtents}
 use Rattle.joiner.specs.Job.{Face, Tables, fromOf}
 use Rattle.joiner.specs.Stages.{local, lowestBlock}
 use lib.Ieee.{Float}
-use lib.ListN.{getD}
 use Rattle.totals.specs.Totals.{Taken, sumsWith, countsWith}
 use Rattle.lowest.specs.Lowest.{starts}
 use Rattle.strain_calls.specs.Adding.{gathered}
-use Rattle.pass_strain.specs.BlockReadings.{Brought, brought, ownFace, cellTaken, blockTaken}
+use Rattle.pass_strain.specs.BlockReadings.{Brought, brought, cellTaken, blockTaken}
 
 -- What block b adds, if it brings g b.
 unfoldable pub takenBy : Cutting → (ℕ → Brought) → ℕ → List Taken
@@ -41,24 +38,6 @@ sumsOver k g sums (b ∷ bs) = sumsOver k g (sumsWith sums (takenBy k g b)) bs
 unfoldable pub countsOver : Cutting → (ℕ → Brought) → List ℕ → List ℕ → List ℕ
 countsOver k g counts [] = counts
 countsOver k g counts (b ∷ bs) = countsOver k g (countsWith counts (takenBy k g b)) bs
-
--- ---- what the proofs find of a closed job; no theorem supposes it
-
--- Cell p of a map has two voxels beside it, of different codes, none 0.
-pub record Parted (e : Triple) (m : List ℕ) (p : ℕ) : Type 0 where
-  pub q : ℕ
-  pub r : ℕ
-  pub sides : upperNeighbours e p ≡ q ∷ r ∷ []
-  pub one : getD m q 0 ≢ 0
-  pub two : getD m r 0 ≢ 0
-  pub apart : getD m q 0 ≢ getD m r 0
-
--- Face cell t of the volume shows, in the lowest block that has it, the face that the uncut map M has there; where there is one, its codes differ.
-pub record Shows (k : Cutting) (g : ℕ → Brought) (M : List ℕ) (t : ℕ) : Type 0 where
-  pub number : let b : ℕ = lowestBlock k (place (sides (k .extents)) t) in
-      ownFace (blockExtents k b) (starts k b) (g b) (local k b (place (sides (k .extents)) t)) ≡ getD M t 0
-  pub parted : let b : ℕ = lowestBlock k (place (sides (k .extents)) t) in
-      getD M t 0 ≢ 0 → Parted (blockExtents k b) (g b .numbered) (local k b (place (sides (k .extents)) t))
 
 -- What block b brings to a closed job with these tables: its map, and the readings that came for it.
 abbrev pub broughtTo : Tables → (ℕ → List ℕ) → (ℕ → List Float) → (ℕ → List ℕ) → ℕ → Brought

@@ -9,23 +9,22 @@ use Rattle.closure.specs.Trees.{ancestor, rootOf}
 use Rattle.union_find.specs.Links.{parent, root, soundAt, soundWay, soundFrom, soundBelow, soundRange, stepsWithin, depth, depths, soundWays}
 use Rattle.refusals.specs.Refusals.{number as refusal-number, table, first, givenBy, standsIn}
 use Rattle.cells.specs.Box.{stride, volume, index, place}
-use Rattle.cells.specs.Codes.{blank}
 use Rattle.cells.specs.Extents.{isExtent, offSize}
 use Rattle.cells.specs.Grid.{sides, cells, parity, order, along, upperNeighbours, voxel}
 use Rattle.cells.specs.Row.{rowOf, occupied, row, active}
 use Rattle.labels.specs.Number.{pairs, alike, edgesAt, orderBelow, edges, activeOf, number, numberedAt, numbered as numbered-of, codeAt, mapDown, labels}
-use Rattle.labels.specs.Components.{ofOrder, largest, component, rowAtFirst, componentRow, blankVoxel}
+use Rattle.labels.specs.Components.{ofOrder, largest, component, rowAtFirst, componentRow}
 use Rattle.labeller.specs.Labelling.{wrongTray, declines as label-declines, refusalOf, accepted, refused, labelling}
 use Rattle.cutting.specs.Cutting.{ascends, cutList, intervals, lowEnd, highEnd, blockSides, blocks, goodCut, interval, origin, blockExtents, embed, blockCodes, follows, sameInterval, seam}
 use Rattle.joiner.specs.Job.{sameStage, ticked, countOf, fromOf, node, keyOf, firstAt, lengthsFit, blockTrays, linkTrays, foundTrays, numberTrays, firstTrays, listedTrays, kindTrays}
 use Rattle.joiner.specs.Stages.{hasOn, hasCell, products, shared, seams, seamAxis, seamStep, stepsOf, nextStage, finished, nextAfter}
 use Rattle.joiner.specs.Calls.{differs, overfull, full}
-use Rattle.joiner.specs.Declines.{tallyFits, talliesFit, filled, counted, standing, mapStands, waysStand, linksStand, allLinksStand, rowsStand, numberStands, curvesStand, handedStands, lookStands, lastCrossing, stray, finalOf, finalRow, pointCells, adds, declines, refusal}
+use Rattle.joiner.specs.Declines.{tallyFits, talliesFit, counted, standing, mapStands, waysStand, linksStand, allLinksStand, rowsStand, numberStands, curvesStand, handedStands, lookStands, lastCrossing, stray, finalOf, finalRow, pointCells, adds, declines, refusal}
 use Rattle.joiner.specs.Outcomes.{allTrays, openDeclines, openRefusal, nothing, throughLinks, joinedRow, firstOf, enrolledKey, shifted, enrolledRow, blockEntry, notAfter, classOf, isOne, leads, heads, rank, headOf, rowAt, finalFace, rowFinal}
 use Rattle.theory_model.specs.Model.{relinked, atSeam, seamEdge, seamEdges, atCrossing, crossEdge, crossEdgesAt, crossEdges, instead, numberKind, moved, enrolTables, seamTables, crossTables, crossLast, crossed, pointTables, pointLast, pointed, acceptedState, after, freshJob, cleared, openedState}
 use Rattle.theory_model.specs.Scripts.{run, used, mapOf, steps, contents, outcome, joinedUp}
-use Rattle.theory_volumes.specs.Volumes.{positionsAndRows, closedJob, answer, line, lineCodes, columns, columnCodes, cube, figure, volumes}
+use Rattle.theory_volumes.specs.Volumes.{positionsAndRows, closedJob, answer, line, lineCodes, columns, columnCodes, cube, figure, zeroCodes, hole, coreCut, coreCodes, volumes}
 
 pub volumes-listed : map (λ v. answer (v .question)) volumes ≡ map (λ v. v .listed) volumes
-unfolding volumes answer positionsAndRows closedJob line lineCodes columns columnCodes cube figure blank wrongTray label-declines refusalOf accepted refused labelling consecutive tabulate zeros overlay mergeIds join-roots joins rep countBelow leader numberBy label ancestor rootOf parent root refusal-number table first givenBy standsIn stride volume index place isExtent offSize sides cells parity order voxel along upperNeighbours rowOf row occupied active pairs alike edgesAt orderBelow edges activeOf number numberedAt numbered-of codeAt mapDown labels ofOrder largest component rowAtFirst componentRow ascends cutList intervals lowEnd highEnd blockSides blocks goodCut interval origin blockExtents embed blockCodes follows sameInterval seam sameStage ticked countOf fromOf node keyOf firstAt lengthsFit blockTrays linkTrays foundTrays numberTrays firstTrays listedTrays kindTrays hasOn hasCell products shared seams seamAxis seamStep stepsOf nextStage finished nextAfter differs overfull full tallyFits talliesFit filled counted standing mapStands waysStand linksStand allLinksStand soundAt soundWay soundFrom soundBelow soundRange stepsWithin depth depths soundWays rowsStand numberStands curvesStand handedStands lookStands lastCrossing stray finalOf finalRow pointCells adds declines refusal allTrays openDeclines openRefusal nothing throughLinks joinedRow firstOf enrolledKey shifted enrolledRow blockEntry notAfter classOf isOne leads heads rank headOf rowAt finalFace rowFinal relinked atSeam seamEdge seamEdges atCrossing crossEdge crossEdgesAt crossEdges instead numberKind moved enrolTables seamTables crossTables crossLast crossed pointTables pointLast pointed acceptedState after freshJob cleared openedState run used mapOf steps contents outcome joinedUp blankVoxel
+unfolding volumes answer positionsAndRows closedJob line lineCodes columns columnCodes cube figure zeroCodes hole coreCut coreCodes wrongTray label-declines refusalOf accepted refused labelling consecutive tabulate zeros overlay mergeIds join-roots joins rep countBelow leader numberBy label ancestor rootOf parent root refusal-number table first givenBy standsIn stride volume index place isExtent offSize sides cells parity order voxel along upperNeighbours rowOf row occupied active pairs alike edgesAt orderBelow edges activeOf number numberedAt numbered-of codeAt mapDown labels ofOrder largest component rowAtFirst componentRow ascends cutList intervals lowEnd highEnd blockSides blocks goodCut interval origin blockExtents embed blockCodes follows sameInterval seam sameStage ticked countOf fromOf node keyOf firstAt lengthsFit blockTrays linkTrays foundTrays numberTrays firstTrays listedTrays kindTrays hasOn hasCell products shared seams seamAxis seamStep stepsOf nextStage finished nextAfter differs overfull full tallyFits talliesFit counted standing mapStands waysStand linksStand allLinksStand soundAt soundWay soundFrom soundBelow soundRange stepsWithin depth depths soundWays rowsStand numberStands curvesStand handedStands lookStands lastCrossing stray finalOf finalRow pointCells adds declines refusal allTrays openDeclines openRefusal nothing throughLinks joinedRow firstOf enrolledKey shifted enrolledRow blockEntry notAfter classOf isOne leads heads rank headOf rowAt finalFace rowFinal relinked atSeam seamEdge seamEdges atCrossing crossEdge crossEdgesAt crossEdges instead numberKind moved enrolTables seamTables crossTables crossLast crossed pointTables pointLast pointed acceptedState after freshJob cleared openedState run used mapOf steps contents outcome joinedUp
 volumes-listed = refl

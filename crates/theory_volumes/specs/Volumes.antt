@@ -1,9 +1,10 @@
--- The volumes of document 01, "Volumes to try", that are marked *, and Figure 5 of document 003: what is asked of each, and the numbers listed.
+-- The volumes of document 01, "Volumes to try", that are marked *, Figure 5 of document 003, and volumes with space around or inside (document 02, item 4): what is asked of
+-- each, and the numbers listed.
 -- Assumes nothing.
 use mathlib.Core.Bool.{cond}
 use mathlib.Core.List.{List, [], _∷_, _++_, map}
 use Prim.Native.Nat.{ℕ}
-use lib.ListN.{getD}
+use lib.ListN.{getD, replicate}
 use Rattle.lists.specs.Lists.{tabulate, zeros}
 use Rattle.cells.specs.Box.{Triple, triple, volume}
 use Rattle.cells.specs.Grid.{cells, upperNeighbours}
@@ -19,6 +20,8 @@ use Rattle.theory_model.specs.Volumes.{told}
 pub data Question : Type 0 where
   -- the refusal that `label` answers for a block of these extents, 0 for none: its codes are all 1, its trays have the stated lengths
   size : Triple → Question
+  -- the refusal that it answers for these codes
+  refusal-of : Triple → List ℕ → Question
   -- the map of a volume
   map-of : Triple → List ℕ → Question
   -- how many faces, curves and points it has
@@ -45,6 +48,7 @@ closedJob o =
 -- What the definitions answer.
 unfoldable pub answer : Question → List ℕ
 answer (size e) = labelling e (tabulate (volume e) (λ i. 1)) (zeros (cells e)) (zeros (cells e)) .answer .refusal ∷ []
+answer (refusal-of e codes) = labelling e codes (zeros (cells e)) (zeros (cells e)) .answer .refusal ∷ []
 answer (map-of e codes) = labels e codes
 answer (counts e codes) = map (λ j. largest e (labels e codes) j) (2 ∷ 1 ∷ 0 ∷ [])
 answer (row-of e codes j n) = componentRow e (labels e codes) j n
@@ -82,7 +86,22 @@ cube = 1 ∷ 2 ∷ 3 ∷ 4 ∷ 5 ∷ 6 ∷ 7 ∷ 8 ∷ []
 unfoldable pub figure : List ℕ
 figure = 1 ∷ 1 ∷ 1 ∷ 1 ∷ 2 ∷ 1 ∷ 1 ∷ 1 ∷ 3 ∷ 4 ∷ 4 ∷ 4 ∷ 4 ∷ 5 ∷ 4 ∷ 4 ∷ 4 ∷ 6 ∷ []
 
--- The table, in the order of document 01; the last two lines are Figure 5b and the counts given for it.
+-- Codes 0 0 0, cut as the line (document 02, item 4).
+unfoldable pub zeroCodes : List ℕ
+zeroCodes = 0 ∷ 0 ∷ 0 ∷ []
+
+-- A hole inside: 3×3×3 of code 1, but 0 in the middle.
+unfoldable pub hole : List ℕ
+hole = replicate 13 1 ++ 0 ∷ replicate 13 1
+
+-- A core of two voxels, 5 and 7, with space on all six sides, 4×3×3, cut through the core on all axes.
+unfoldable pub coreCut : Cutting
+coreCut = record { extents = triple 4 3 3; cx = 0 ∷ 2 ∷ 3 ∷ []; cy = 0 ∷ 1 ∷ 2 ∷ []; cz = 0 ∷ 1 ∷ 2 ∷ [] }
+
+unfoldable pub coreCodes : List ℕ
+coreCodes = zeros 17 ++ 5 ∷ 7 ∷ zeros 17
+
+-- The table, in the order of document 01; then Figure 5b and the counts given for it; then volumes with space, the first two those that item 4 tells of.
 unfoldable pub volumes : List Listed
 volumes =
     ask (map-of (triple 1 1 1) (9 ∷ [])) (9 ∷ []) ∷
@@ -114,4 +133,16 @@ volumes =
     ask (map-of (triple 3 3 2) figure)
     (1 ∷ 0 ∷ 1 ∷ 0 ∷ 1 ∷ 0 ∷ 0 ∷ 1 ∷ 0 ∷ 0 ∷ 1 ∷ 1 ∷ 2 ∷ 1 ∷ 1 ∷ 0 ∷ 0 ∷ 1 ∷ 0 ∷ 2 ∷ 1 ∷ 0 ∷ 1 ∷ 2 ∷ 3 ∷ 3 ∷ 0 ∷ 3 ∷ 0 ∷ 3 ∷ 0 ∷ 0 ∷ 1 ∷ 0 ∷ 0 ∷ 3 ∷ 1 ∷ 4 ∷ 1 ∷ 3 ∷ 0 ∷ 0 ∷ 1 ∷ 0 ∷ 2 ∷ 3 ∷ 0 ∷ 3 ∷ 2 ∷ 5 ∷ 4 ∷ 0 ∷ 4 ∷ 0 ∷ 4 ∷ 0 ∷ 0 ∷ 6 ∷ 0 ∷ 0 ∷ 4 ∷ 6 ∷ 5 ∷ 6 ∷ 4 ∷ 0 ∷ 0 ∷ 6 ∷ 0 ∷ 7 ∷ 4 ∷ 0 ∷ 4 ∷ 7 ∷ 6 ∷ []) ∷
     ask (counts (triple 3 3 2) figure) (7 ∷ 2 ∷ 0 ∷ []) ∷
+    ask (refusal-of (triple 2 1 1) (5 ∷ 0 ∷ [])) (0 ∷ []) ∷
+    ask (map-of (triple 2 1 1) (5 ∷ 0 ∷ [])) (5 ∷ 1 ∷ 0 ∷ []) ∷
+    ask (row-of (triple 2 1 1) (5 ∷ 0 ∷ []) 2 1) (5 ∷ 0 ∷ 0 ∷ 0 ∷ 0 ∷ 0 ∷ []) ∷
+    ask (map-of (triple 2 2 1) (1 ∷ 0 ∷ 0 ∷ 2 ∷ [])) (1 ∷ 1 ∷ 0 ∷ 1 ∷ 0 ∷ 2 ∷ 0 ∷ 2 ∷ 2 ∷ []) ∷
+    ask (row-of (triple 2 2 1) (1 ∷ 0 ∷ 0 ∷ 2 ∷ []) 2 2) (2 ∷ 0 ∷ 0 ∷ 0 ∷ 0 ∷ 0 ∷ []) ∷
+    ask (refusal-of (line .extents) zeroCodes) (0 ∷ []) ∷
+    ask (map-of (line .extents) zeroCodes) (0 ∷ 0 ∷ 0 ∷ 0 ∷ 0 ∷ []) ∷
+    ask (joined (told line 0 0 0) zeroCodes) (0 ∷ 0 ∷ 0 ∷ []) ∷
+    ask (counts (triple 3 3 3) hole) (1 ∷ 0 ∷ 0 ∷ []) ∷
+    ask (row-of (triple 3 3 3) hole 2 1) (1 ∷ 0 ∷ 0 ∷ 0 ∷ 0 ∷ 0 ∷ []) ∷
+    ask (counts (coreCut .extents) coreCodes) (3 ∷ 1 ∷ 0 ∷ []) ∷
+    ask (joined (told coreCut 16 4 0) coreCodes) (3 ∷ 1 ∷ 0 ∷ 51 ∷ 53 ∷ 87 ∷ 5 ∷ 0 ∷ 7 ∷ 0 ∷ 5 ∷ 7 ∷ 52 ∷ 1 ∷ 2 ∷ 3 ∷ 0 ∷ []) ∷
     []

@@ -12,7 +12,6 @@ use lib.ListN.{length, getD, take, drop, set, drop-of-length-le, length-append, 
 use lib.Seq.{drop-cons, take-all}
 use borrow.Author.Tests.{eqb-true, eq-eqb, ne-eqb, ltb-false, lt-ltb, le-ltb, not-false}
 use Rattle.lists.specs.Lists.{consecutive, tabulate}
-use Rattle.labels.specs.Components.{blankVoxel}
 use Rattle.lists.proofs.Cases.{by-test, neither}
 use Rattle.lists.proofs.Lists.{length-tabulate, tabulate-snoc, drop-down}
 use Rattle.cells.specs.Box.{Triple}
@@ -150,7 +149,7 @@ pieces e o m t t₁ t₂ t₃ at r g a b c d = (
 
 module _ (e o : Triple) (m : List ℕ) (tray : ℕ) where
   -- the tests in the order of the code
-  ladder : refusalOf e o m tray ≡ cond (offPlace e o) 1 (cond (not (eqb (length m) (cells e)) || ltb tray (length (encodeRecord e o m))) 6 (cond (blankVoxel e m) 8 0))
+  ladder : refusalOf e o m tray ≡ cond (offPlace e o) 1 (cond (not (eqb (length m) (cells e)) || ltb tray (length (encodeRecord e o m))) 6 0)
   unfolding refusalOf givenBy first table number standsIn declines
   ladder = refl
 
@@ -164,12 +163,8 @@ module _ (e o : Triple) (m : List ℕ) (tray : ℕ) where
     pub wrong-tray-given : tray < r → 6 ≡ refusalOf e o m tray
     wrong-tray-given h = rw (ladder, p, eq-eqb _ _ k, encode-length e o m, ← q, lt-ltb tray r h)
 
-    module _ (h : r ≤ tray) where
-      pub stray-label-given : blankVoxel e m ≡ true → 8 ≡ refusalOf e o m tray
-      stray-label-given b = rw (ladder, p, eq-eqb _ _ k, encode-length e o m, ← q, le-ltb tray r h, b)
-
-      pub none-given : blankVoxel e m ≡ false → 0 ≡ refusalOf e o m tray
-      none-given b = rw (ladder, p, eq-eqb _ _ k, encode-length e o m, ← q, le-ltb tray r h, b)
+    pub none-given : r ≤ tray → 0 ≡ refusalOf e o m tray
+    none-given h = rw (ladder, p, eq-eqb _ _ k, encode-length e o m, ← q, le-ltb tray r h)
 
   -- What holds where nothing is refused.
   pub ready-of : refusalOf e o m tray ≡ 0 → Ready m tray
@@ -196,6 +191,6 @@ unfolding writing accepted
 write-accepted e o m t u n r h z d = rw (← h, eq-eqb n 0 z, d .0, d .1, laid-front)
 
 -- The numbers that `write_record` lists, in the order of the table.
-pub write-listed : (e o : Triple) (m : List ℕ) (tray : ℕ) → listedNumbers (declines e o m tray) ≡ 1 ∷ 6 ∷ 8 ∷ []
+pub write-listed : (e o : Triple) (m : List ℕ) (tray : ℕ) → listedNumbers (declines e o m tray) ≡ 1 ∷ 6 ∷ []
 unfolding listedNumbers declines number
 write-listed e o m tray = refl

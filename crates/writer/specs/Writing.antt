@@ -5,8 +5,7 @@ use mathlib.Core.List.{List, [], _∷_, _++_}
 use Prim.Native.Nat.{ℕ}
 use lib.Dec.{eqb, ltb}
 use lib.ListN.{length, drop}
-use Rattle.labels.specs.Components.{blankVoxel}
-use Rattle.refusals.specs.Refusals.{off-size, wrong-tray, stray-label, Case, _if_, givenRefusal}
+use Rattle.refusals.specs.Refusals.{off-size, wrong-tray, Case, _if_, givenRefusal}
 use Rattle.cells.specs.Box.{Triple}
 use Rattle.cells.specs.Extents.{offPlace}
 use Rattle.cells.specs.Grid.{cells}
@@ -16,7 +15,7 @@ use Rattle.writer.specs.declared.Written.{Written}
 -- The cases of `write_record`. The tray goes in by its length.
 unfoldable pub declines : Triple → Triple → List ℕ → ℕ → List Case
 declines e o m tray =
-    off-size if offPlace e o ∷ wrong-tray if (not (eqb (length m) (cells e)) || ltb tray (length (encodeRecord e o m))) ∷ stray-label if blankVoxel e m ∷ []
+    off-size if offPlace e o ∷ wrong-tray if (not (eqb (length m) (cells e)) || ltb tray (length (encodeRecord e o m))) ∷ []
 
 -- The refusal of a call, 0 for none.
 unfoldable pub refusalOf : Triple → Triple → List ℕ → ℕ → ℕ

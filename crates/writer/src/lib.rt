@@ -1,22 +1,13 @@
 // The writer of block records. Everything is decided before the first store.
 use extents::grid_cells;
 use extents::off_place;
-use lines::line_at;
-use lines::line_count;
 use refusals::OFF_SIZE;
-use refusals::STRAY_LABEL;
 use refusals::WRONG_TRAY;
 ghost use mathlib.Core.Path.{_≡_};
 ghost use mathlib.Core.List.{[], _∷_, _++_};
-ghost use Prim.Native.Nat.{_+_, _-_, _*_, _<_, _≤_};
-ghost use lib.Dec.{eqb};
-ghost use lib.ListN.{length, getD, take, drop};
-ghost use Rattle.labels.specs.Components.{blankVoxel};
-ghost use Rattle.lists.specs.Lists.{consecutive, keep, someOf};
+ghost use Prim.Native.Nat.{_+_, _*_, _<_, _≤_};
+ghost use lib.ListN.{length, take, drop};
 ghost use Rattle.cells.specs.Box.{triple};
-ghost use Rattle.cells.specs.Extents.{Sized};
-ghost use Rattle.cells.specs.Grid.{cells, order};
-ghost use Rattle.lines.specs.Lines.{lineCount};
 ghost use Rattle.records.specs.Fields.{bytes, laid};
 ghost use Rattle.records.specs.Record.{headBytes, bit, mapByte, bitmap, bitmapLength, listed, encodeRecord};
 ghost use Rattle.writer.specs.Inner.{byteOf, Ready};
@@ -49,38 +40,6 @@ fn record_length(map: &[u32]) -> usize
     12 + (map.len() + 7) / 8 + 4 * n
 }
 
-// Whether a voxel of line l has 0.
-fn blank_on(map: &[u32], nx: usize, ny: usize, nz: usize, l: usize) -> bool
-    requires { ⌜ Sized 64 (triple nx ny nz) × (length (now map) ≡ cells (triple nx ny nz)) × (l < lineCount (triple nx ny nz)) ⌝ }
-    ensures { λ r. ⌜ r ≡ someOf (λ p. eqb (getD (now (map .entry)) p 0) 0) (keep (λ p. eqb (order (triple nx ny nz) p) 3) (consecutive (l * (2 * nx - 1)) (2 * nx - 1))) ⌝ }
-{
-    let line = line_at(nx, ny, nz, 0, l);
-    let mut x = line.start;
-    while x < line.width {
-        if map[line.base + x] == 0 {
-            return true;
-        }
-        x += 2;
-    }
-    false
-}
-
-// Whether a voxel has 0.
-fn has_blank_voxel(map: &[u32], nx: usize, ny: usize, nz: usize) -> bool
-    requires { ⌜ Sized 64 (triple nx ny nz) × (length (now map) ≡ cells (triple nx ny nz)) ⌝ }
-    ensures { λ r. ⌜ r ≡ blankVoxel (triple nx ny nz) (now (map .entry)) ⌝ }
-{
-    let lines = line_count(nx, ny, nz);
-    let mut l: usize = 0;
-    while l < lines {
-        if blank_on(map, nx, ny, nz, l) {
-            return true;
-        }
-        l += 1;
-    }
-    false
-}
-
 // The number of the refusal, the lowest that applies, and 0 for none.
 fn refusal(nx: u16, ny: u16, nz: u16, ox: u16, oy: u16, oz: u16, map: &[u32], tray: usize) -> u32
     ensures { λ r. ⌜ r ≡ refusalOf (triple nx ny nz) (triple ox oy oz) (now (map .entry)) tray ⌝ }
@@ -96,9 +55,6 @@ fn refusal(nx: u16, ny: u16, nz: u16, ox: u16, oy: u16, oz: u16, map: &[u32], tr
     }
     if tray < record_length(map) {
         return WRONG_TRAY;
-    }
-    if has_blank_voxel(map, x, y, z) {
-        return STRAY_LABEL;
     }
     0
 }

@@ -11,7 +11,7 @@ Labels and joins a whole volume.
 
 usage: tugrelis VOLUME NX NY NZ FOLDER [--size N | --cut X-LIST Y-LIST Z-LIST]
 
-  VOLUME      a file of little-endian 32-bit codes, x fastest
+  VOLUME      a file of little-endian 32-bit codes, x fastest; 0 is outside the specimen
   NX NY NZ    the extents of the volume in voxels
   FOLDER      gets one record for each block, and the result sheet sheet.txt; must not exist yet
   --size N    blocks of at most N voxels on each axis, 2 to 64; 64 if nothing is said

@@ -7,10 +7,10 @@ refusals! {
     4 NoSuchPlace "no such place" "There is no such block, the pair is no seam, the cell is outside the block, or a component's number is 0 or too large."
     5 DoneAlready "done already" "This block or seam has had this step in this stage."
     6 WrongTray "wrong tray" "A tray, map, list of codes or readings, or table has another length than the stated one, or the record tray is too short."
-    7 BlankVoxel "blank voxel" "A code is 0 in the codes to be labelled."
+    7 BlankVoxel "blank voxel" "Is no longer given: a code 0 is a voxel outside the specimen."
     8 StrayLabel "stray label" "A map, a tally or an entry holds a number that cannot stand there."
     9 LayersDiffer "layers differ" "The two blocks of a seam differ in the layer that they share: in a code, or in a cell that is active in one of them only."
     10 TableFull "table full" "The faces, curves or points would exceed the entries of their table."
-    11 BadRecord "bad record" "The record's head is missing, a spare bit is set, the bit of a voxel is clear, a listed number is 0, or the length is wrong."
+    11 BadRecord "bad record" "The record's head is missing, a spare bit is set, a listed number is 0, or the length is wrong."
     12 BadReading "bad reading" "A kind byte is above 2, or a strain or clipped value is no whole multiple of 1/1,024, beyond 2,048 or no number."
 }

@@ -191,7 +191,7 @@ fn texts(random: &mut Random) -> Vec<Vec<u8>> {
     }
     for _ in 0..20 {
         let codes = 1 + random.below(30);
-        let words: Vec<String> = [8; 3].into_iter().chain((0..512).map(|_| 1 + random.below(codes))).map(|n| n.to_string()).collect();
+        let words: Vec<String> = [8; 3].into_iter().chain((0..512).map(|_| random.below(codes + 1))).map(|n| n.to_string()).collect();
         texts.push(text(random, &words));
     }
     texts.extend((0..400).map(|_| spoiled(random)));

@@ -16,20 +16,14 @@ returns c = rw refusal-is (search (cond-here, cond-next) depth 10)
 
 wrong-tray-requires : tie.Need-wrong-tray-requires
 wrong-tray-requires c κs =
-    let a = c .before .before .before .args in
+    let a = c .before .before .args in
     sized-of 64 (triple (a .nx) (a .ny) (a .nz)) (sym (c .before .off-size .ensures) ∙ c .if1 .left)
 
 returns-2 : tie.Need-returns-2
 returns-2 c = rw refusal-is (search (cond-here, cond-next) depth 10)
 
-has-blank-requires : tie.Need-has-blank-requires
-has-blank-requires c κs = search needs
-
 returns-3 : tie.Need-returns-3
 returns-3 c = rw refusal-is (search (cond-here, cond-next) depth 10)
-
-returns-4 : tie.Need-returns-4
-returns-4 c = rw refusal-is (search (cond-here, cond-next) depth 10)
 
 pub refusal-spec : {M : Type 1} → statement M
 refusal-spec =
@@ -39,6 +33,4 @@ refusal-spec =
     returns
     wrong-tray-requires
     returns-2
-    has-blank-requires
-    returns-3
-    returns-4)
+    returns-3)

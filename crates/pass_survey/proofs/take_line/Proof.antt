@@ -21,10 +21,6 @@ div-q c = search needs
 add-q : tie.Need-add-q
 add-q c = search needs
 
-full-on-requires : tie.Need-full-on-requires
-unfolding lineY lineZ sides
-full-on-requires c κs = search needs
-
 larger-on-requires : tie.Need-larger-on-requires
 unfolding lineY lineZ sides
 larger-on-requires c κs = search needs
@@ -50,7 +46,6 @@ take-line-spec =
     rem-q
     div-q
     add-q
-    full-on-requires
     larger-on-requires
     larger-on-requires-2
     larger-on-requires-3

@@ -55,25 +55,14 @@ returns-3 c =
     let back4 = c .before .before .before .before in
     or-here _ _ _ (c .before .spare-set .ensures) (c .if3 .taken) ∙ sym (damaged-rest _ _ (back4 .before .grid-cells .ensures) (c .before .before .before .count-bits .ensures) (c .before .before .if2 .left))
 
-voxel-clear-requires : tie.Need-voxel-clear-requires
-voxel-clear-requires c κs =
-    let back4 = c .before .before .before .before in
-    (back4 .before .before .before .pre, rw (back4 .before .grid-cells .ensures) at (mapped (c .before .before .before .before)))
+zero-listed-requires : tie.Need-zero-listed-requires
+zero-listed-requires c κs = omega arith
 
 returns-4 : tie.Need-returns-4
 unfolding bitmapLength
 returns-4 c =
-    let back4 = c .before .before .before .before in
-    or-next _ _ _ (c .before .before .before .spare-set .ensures) (c .before .before .if3 .left) (or-here _ _ _ (c .before .voxel-clear .ensures) (c .if4 .taken)) ∙ sym (damaged-rest _ _ (back4 .before .before .before .grid-cells .ensures) (back4 .before .count-bits .ensures) (c .before .before .before .before .if2 .left))
-
-zero-listed-requires : tie.Need-zero-listed-requires
-zero-listed-requires c κs = omega arith
-
-returns-5 : tie.Need-returns-5
-unfolding bitmapLength
-returns-5 c =
-    let back4 = c .before .before .before .before in
-    or-next _ _ _ (c .before .before .before .before .spare-set .ensures) (c .before .before .before .if3 .left) (or-next _ _ _ (c .before .before .voxel-clear .ensures) (c .before .if4 .left) (c .zero-listed .ensures)) ∙ sym (damaged-rest _ _ (back4 .before .before .before .before .grid-cells .ensures) (back4 .before .before .count-bits .ensures) (back4 .before .if2 .left))
+    let else2 = c .before .before .before in
+    or-next _ _ _ (c .before .before .spare-set .ensures) (c .before .if3 .left) (c .zero-listed .ensures) ∙ sym (damaged-rest _ _ (else2 .before .before .before .grid-cells .ensures) (else2 .before .count-bits .ensures) (else2 .if2 .left))
 
 pub is-damaged-spec : {M : Type 1} → statement M
 is-damaged-spec =
@@ -89,7 +78,5 @@ is-damaged-spec =
     returns-2
     spare-set-requires
     returns-3
-    voxel-clear-requires
-    returns-4
     zero-listed-requires
-    returns-5)
+    returns-4)

@@ -4,8 +4,7 @@ use native.Mathlib.Omega.{arith}
 use borrow.Author.Needs.{needs}
 use Rattle.lists.specs.Lists.{consecutive}
 use Rattle.records.specs.Fields.{fieldAt}
-use Rattle.lines.proofs.WalkLaws.{someEqual}
-use Rattle.reader.proofs.LoadedLaws.{PlacesAsked, places-asked-first, places-asked-found, places-asked-next, places-asked-last}
+use Rattle.reader.proofs.LoadedLaws.{someEqual, PlacesAsked, places-asked-first, places-asked-found, places-asked-next, places-asked-last}
 use Rattle.reader.proofs.zero_listed.Statement.{statement}
 use Rattle.reader.proofs.zero_listed.Tie as tie
 

@@ -7,7 +7,7 @@ use Rattle.cells.specs.Box.{triple}
 use Rattle.cells.specs.Extents.{offPlace}
 use Rattle.cells.proofs.ExtentLaws.{cells-high}
 use Rattle.extents.proofs.SizeLaws.{sized-at, sized-within}
-use Rattle.writer.proofs.WriteLaws.{off-size-given, wrong-map-given, wrong-tray-given, stray-label-given, none-given}
+use Rattle.writer.proofs.WriteLaws.{off-size-given, wrong-map-given, wrong-tray-given, none-given}
 use Rattle.writer.proofs.refusal.Statement.{statement}
 use Rattle.writer.proofs.refusal.Tie as tie
 
@@ -35,22 +35,10 @@ returns-3 c =
     let else2 = c .before .before in
     wrong-tray-given _ _ _ _ (placed (else2 .before .before)) (else2 .if2 .left ∙ else2 .before .grid-cells .ensures) _ (c .before .record-length .ensures) (c .if3 .taken)
 
-has-blank-voxel-requires : tie.Need-has-blank-voxel-requires
-has-blank-voxel-requires c κs =
-    let else2 = c .before .before in
-    (sized-at _ _ (placed (else2 .before .before)), else2 .if2 .left ∙ else2 .before .grid-cells .ensures)
-
 returns-4 : tie.Need-returns-4
 returns-4 c =
-    let else3 = c .before .before in
-    let else2 = else3 .before .before in
-    stray-label-given _ _ _ _ (placed (else2 .before .before)) (else2 .if2 .left ∙ else2 .before .grid-cells .ensures) _ (else3 .before .record-length .ensures) (else3 .if3 .left) (sym (c .before .has-blank-voxel .ensures) ∙ c .if4 .taken)
-
-returns-5 : tie.Need-returns-5
-returns-5 c =
-    let else3 = c .before .before in
-    let else2 = else3 .before .before in
-    none-given _ _ _ _ (placed (else2 .before .before)) (else2 .if2 .left ∙ else2 .before .grid-cells .ensures) _ (else3 .before .record-length .ensures) (else3 .if3 .left) (sym (c .before .has-blank-voxel .ensures) ∙ c .if4 .left)
+    let else2 = c .before .before in
+    none-given _ _ _ _ (placed (else2 .before .before)) (else2 .if2 .left ∙ else2 .before .grid-cells .ensures) _ (c .before .record-length .ensures) (c .if3 .left)
 
 pub refusal-spec : {M : Type 1} → statement M
 refusal-spec =
@@ -62,6 +50,4 @@ refusal-spec =
     returns-2
     record-length-requires
     returns-3
-    has-blank-voxel-requires
-    returns-4
-    returns-5)
+    returns-4)

@@ -163,10 +163,6 @@ impl Comparison {
         if self.random.once_in(25) {
             called[self.random.below(3)] = self.random.pick(&[0, 65, 66, 128, 256, 65_535]);
         }
-        if self.random.once_in(20) {
-            let at = self.random.below(codes.len());
-            codes[at] = 0;
-        }
         let length = self.length(codes.len());
         codes.resize(length, 1);
         let (m, w) = (self.length(grid.cells()), self.length(grid.cells()));
@@ -204,14 +200,10 @@ impl Comparison {
     /// The labelled map, or one with numbers that no labelling gives.
     fn map(&mut self, grid: &Grid, labelled: Option<Vec<u32>>) -> Vec<u32> {
         let random = &mut self.random;
-        let mut map = match labelled {
+        match labelled {
             Some(map) if !random.once_in(4) => map,
-            _ => (0..grid.cells()).map(|p| if grid.order(p) < 3 && random.once_in(2) { 0 } else { (random.word() as u32).max(1) }).collect(),
-        };
-        if random.once_in(15) {
-            map[grid.voxel(random.below(grid.voxels()))] = 0;
+            _ => (0..grid.cells()).map(|_| if random.once_in(2) { 0 } else { random.word() as u32 }).collect(),
         }
-        map
     }
 
     fn records(&mut self, extents: [u16; 3], grid: &Grid, mut map: Vec<u32>) {

@@ -56,8 +56,8 @@ impl Comparison {
         let codes = volume(random, extents);
         let mut other = codes.clone();
         if random.once_in(6) {
-            let at = random.below(other.len());
-            other[at] = other[random.below(codes.len())] ^ 1 | 2;
+            let (at, from) = (random.below(codes.len()), random.below(codes.len()));
+            other[at] = random.pick(&[0, codes[from] ^ 1 | 2]);
         }
         let label = |b: usize, codes: &[u32]| {
             let extents = cuts.grid(b).extents.map(|n| n as u16);
@@ -94,19 +94,19 @@ impl Comparison {
     /// The codes of the uncut volume, where the maps agree.
     fn uncut(&self, case: &Case) -> Option<Vec<u32>> {
         let [nx, ny, nz] = case.cuts.extents;
-        let mut codes = vec![0; nx * ny * nz];
+        let mut codes = vec![None; nx * ny * nz];
         for (b, map) in case.maps.iter().enumerate() {
             let grid = case.cuts.grid(b);
             for p in (0..grid.voxels()).map(|v| grid.voxel(v)) {
                 let [x, y, z] = case.cuts.outside(b, p).map(|c| c / 2);
                 let code = &mut codes[x + y * nx + z * nx * ny];
-                if *code != 0 && *code != map[p] {
+                if code.is_some_and(|found| found != map[p]) {
                     return None;
                 }
-                *code = map[p];
+                *code = Some(map[p]);
             }
         }
-        Some(codes)
+        codes.into_iter().collect()
     }
 
     /// A map for a block: mostly its own, sometimes shorter, longer or with a number changed.

@@ -1,0 +1,2 @@
+-- The theorem of the crate.
+pub mod NoSeven

@@ -1,0 +1,60 @@
+-- "Refusal 7 is no longer given, and this is to be shown" (document 02, item 4): no list of cases has it, so no public entry and no text is answered with it.
+-- Assumes nothing.
+use mathlib.Core.Path.{_≡_, refl, sym, _∙_, subst}
+use mathlib.Core.Logic.{_≢_}
+use mathlib.Core.Bool.{false, cond, true≢false}
+use mathlib.Core.List.{List·Memᴰ}
+use Prim.Native.Nat.{ℕ}
+use native.Mathlib.Omega.{arith}
+use lib.Dec.{eqb}
+use borrow.Author.Tests.{eqb-true}
+use Rattle.lists.specs.Lists.{isIn}
+use Rattle.lists.proofs.Cases.{by-test}
+use Rattle.lists.proofs.Tests.{is-in}
+use Rattle.refusals.specs.Refusals.{blank-voxel, number, givenRefusal, listedNumbers}
+use Rattle.refusals.proofs.RefusalLaws.{given-listed}
+use Rattle.labeller.specs.Labelling as labeller
+use Rattle.maxima.specs.declared.Most.{Most}
+use Rattle.maxima.specs.Maxima as maxima
+use Rattle.writer.specs.Writing as writer
+use Rattle.reader.specs.Loaded as reader
+use Rattle.joiner.specs.Declines as joiner
+use Rattle.strain_calls.specs.Declines.{openingDeclines, openingRefusal, strainDeclines, strainRefusal}
+use Rattle.text.specs.Request.{declinesText, textRefusal}
+use Rattle.theory_refusals.specs.PublicCalls.{PublicCall, label, most-components, write-record, read-record, opening, call, about-readings, program, casesOf, Answers}
+
+-- 7 is on no list.
+pub seven-unlisted : (a : PublicCall) → isIn (listedNumbers (casesOf a)) (number blank-voxel) ≡ false
+unfolding isIn listedNumbers number casesOf labeller.declines maxima.declines writer.declines reader.declines openingDeclines joiner.declines strainDeclines declinesText
+seven-unlisted (label e codes m w) = refl
+seven-unlisted (most-components e) = refl
+seven-unlisted (write-record e o m t) = refl
+seven-unlisted (read-record r t) = refl
+seven-unlisted (opening o lent w) = refl
+seven-unlisted (call s c) = refl
+seven-unlisted (about-readings s w c) = refl
+seven-unlisted (program t) = refl
+
+-- accepted or refused, an answer has the number of the refusal
+refusal-kept : {A : Type 0} (refusal : A → ℕ) (n : ℕ) (accepted refused : A) → refusal accepted ≡ 0 → refusal refused ≡ n → refusal (cond (eqb n 0) accepted refused) ≡ n
+refusal-kept refusal n accepted refused a r = by-test (eqb n 0) (λ t. rw t (a ∙ sym (eqb-true n 0 t))) (λ t. rw t r)
+
+-- What is answered is what the list of cases gives.
+pub answers-cases : (a : PublicCall) (n : ℕ) → Answers a n → n ≡ givenRefusal (casesOf a)
+unfolding casesOf labeller.labelling labeller.accepted labeller.refused labeller.refusalOf maxima.mostComponents maxima.accepted maxima.refused maxima.refusalOf writer.writing writer.accepted writer.refused writer.refusalOf reader.reading reader.accepted reader.refused reader.refusalOf openingRefusal joiner.refusal strainRefusal textRefusal
+answers-cases (label e codes m w) n i = i ∙ refusal-kept (λ (o : labeller.Outcome). o .answer .refusal) _ _ _ refl refl
+answers-cases (most-components e) n i = i ∙ refusal-kept (λ (o : Most). o .refusal) _ _ _ refl refl
+answers-cases (write-record e o m t) n i = i ∙ refusal-kept (λ (a : writer.Outcome). a .answer .refusal) _ _ _ refl refl
+answers-cases (read-record r t) n i = i ∙ refusal-kept (λ (a : reader.Outcome). a .answer .refusal) _ _ _ refl refl
+answers-cases (opening o lent w) n (s, v, p) = p .told
+answers-cases (call s c) n (a, t, p, i) = i ∙ p .told
+answers-cases (about-readings s w c) n (a, v, p, i) = i ∙ p .told
+answers-cases (program t) n i = i
+
+-- No public entry answers 7, whatever it is handed, and the program's line shows it for no text.
+pub no-seven : (a : PublicCall) (n : ℕ) → Answers a n → n ≢ 7
+unfolding number
+no-seven a n p s =
+    let g : givenRefusal (casesOf a) ≡ 7 = sym (answers-cases a n p) ∙ s in
+    let m : List·Memᴰ 7 (listedNumbers (casesOf a)) = subst (λ (k : ℕ). List·Memᴰ k (listedNumbers (casesOf a))) g (given-listed (casesOf a) (omega arith)) in
+    true≢false (sym (is-in (listedNumbers (casesOf a)) m) ∙ seven-unlisted a)

@@ -1,0 +1,2 @@
+-- What the service may be asked, its cases, and its answers.
+pub mod PublicCalls

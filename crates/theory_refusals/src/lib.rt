@@ -1,0 +1,1 @@
+// Theorems without code: what the service never answers.
