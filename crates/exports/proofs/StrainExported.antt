@@ -58,7 +58,7 @@ long-exported-run none N = LongRun.none
 long-exported-run (next C L) N = let S = exported-step C N in LongRun.next (S .0) (long-exported-run L (S .1))
 long-exported-run (nextAdded C L) N = LongRun.nextAdded (exported-strain C N) (long-exported-run L N)
 
--- Totals that are read in such a list are totals that are read: `sums-exact`, `totals-exact`, `totals-whole`, `order-free` and `cutting-free` (theory_totals) hold of them.
+-- Totals that are read in such a list are totals that are read: `sums-exact`, `totals-exact`, `totals-whole`, `outside-free`, `order-free` and `cutting-free` (theory_totals) hold of them.
 pub exported-read : (o : Told) (lent left : Tables) (w v : TotalTables) (ns ns′ : List ℕ) (own : ℕ → List ℕ) (es : List StrainEvent) (values : ℕ → List Float) (kinds : ℕ → List ℕ) (n : ℕ) (T : Totals) (u : TotalTables)
     → ExportedOpening ns ns′ o lent left w v 0
     → ((b : ℕ) → b < blocks (o .cutting) → Labelling (blockExtents (o .cutting) b) (own b))

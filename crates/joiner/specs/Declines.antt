@@ -91,7 +91,7 @@ lookStands s b m p =
     cond (eqb (order (blockExtents (s .job .told .cutting) b) p) 2) (handedStands s b Face (getD m p 0))
     (cond (eqb (order (blockExtents (s .job .told .cutting) b) p) 1) (handedStands s b Curve (getD m p 0)) true)
 
--- The maps and entries that a call reads are no stray ones.
+-- The maps and entries that a call reads are no stray ones. An enrolment follows no entry, and any map may be enrolled.
 abbrev pub standsFor : State → Call → Bool
 standsFor s (enrol b m) = true
 standsFor s (join b c m n) =

@@ -1,4 +1,5 @@
 -- What the service declines (document 01, and 12 by item 1 of document 02): the refusals by name and number. A public entry lists its own cases; which of them is given, one table decides.
+-- 7 keeps its number, and no list has it since item 4 (`no-seven`, theory_refusals/proofs/NoSeven).
 -- Assumes nothing.
 use mathlib.Core.Bool.{Bool, false, cond}
 use mathlib.Core.List.{List, [], _∷_, map}

@@ -31,7 +31,7 @@ long-run none = LongRun.none
 long-run (next C L) = LongRun.next (called-step C) (long-run L)
 long-run (nextAdded C L) = LongRun.nextAdded (called-strain C) (long-run L)
 
--- Totals that are read in such a list are totals that are read: `sums-exact`, `totals-exact`, `totals-whole`, `order-free` and `cutting-free` (theory_totals) hold of them.
+-- Totals that are read in such a list are totals that are read: `sums-exact`, `totals-exact`, `totals-whole`, `outside-free`, `order-free` and `cutting-free` (theory_totals) hold of them.
 pub called-read : (o : Told) (lent : Tables) (w v : TotalTables) (h : Held) (own : ℕ → List ℕ) (es : List StrainEvent) (values : ℕ → List Float) (kinds : ℕ → List ℕ) (n : ℕ) (T : Totals) (u : TotalTables)
     → OpenedBy o lent w 0 h v
     → ((b : ℕ) → b < blocks (o .cutting) → Labelling (blockExtents (o .cutting) b) (own b))
