@@ -10,8 +10,8 @@ use std::fmt::Display;
 const VOLUMES: (usize, usize) = (8, 12);
 const JOBS: (usize, usize) = (3, 12);
 
-/// The orders by the names of their components.
-const ORDERS: [(&str, usize); 3] = [("faces", 2), ("curves", 1), ("points", 0)];
+/// The orders of faces, curves and points.
+const ORDERS: [usize; 3] = [2, 1, 0];
 
 const COMMAND: &str = "cargo run --release --offline --quiet --manifest-path reference/Cargo.toml --bin samples";
 
@@ -20,9 +20,8 @@ const HEAD: &str = "\
 use mathlib.Core.List.{List, [], _∷_}
 use Rattle.closure.specs.Joined.{edge}
 use Rattle.cells.specs.Box.{triple}
-use Rattle.joiner.specs.Job.{Closed}
 use Rattle.theory_model.specs.Volumes.{told}
-use Rattle.theory_samples.specs.Answers.{Sample, Job}
+use Rattle.theory_samples.specs.Answers.{components, Sample, sample, block, kindContents, Job, job}
 ";
 
 /// A list as the theory writes it.
@@ -34,22 +33,28 @@ fn triple([x, y, z]: Extents) -> String {
     format!("triple {x} {y} {z}")
 }
 
-/// How many components of an order there are, their first cells, and `rows`.
-fn components(labelling: &Labelling, order: usize, rows: String) -> String {
+/// A list as an argument.
+fn argument<T: Display>(entries: impl IntoIterator<Item = T>) -> String {
+    let text = list(entries);
+    if text == "[]" {
+        text
+    } else {
+        format!("({text})")
+    }
+}
+
+/// How many components of an order there are, their first cells, and `rows`, as the arguments of `what`.
+fn components(what: &str, labelling: &Labelling, order: usize, rows: String) -> String {
     let found = &labelling.components[order];
-    format!("record {{ many = {}; firsts = {}; rows = {rows} }}", found.len(), list(found.iter().map(|c| c.first)))
+    format!("    ({what} {} {} {rows})", found.len(), argument(found.iter().map(|c| c.first)))
 }
 
 /// A volume with its map and its components, whose rows have six places.
 fn sample(extents: Extents, codes: &[u32]) -> String {
     let labelling = number(extents, codes);
-    let mut text = format!("    record {{\n      extents = {};\n      codes = {};\n      listed = record {{\n", triple(extents), list(codes));
-    text += &format!("        numbers = {};\n", list(&labelling.map));
-    for (name, order) in ORDERS {
-        let rows = list(labelling.components[order].iter().map(|c| format!("({})", list(c.row))));
-        text += &format!("        {name} = {};\n", components(&labelling, order, rows));
-    }
-    text + "      };\n    } ∷\n"
+    let rows = |order: usize| argument(labelling.components[order].iter().map(|c| argument(c.row)));
+    let kinds = ORDERS.map(|order| components("components", &labelling, order, rows(order))).join("\n");
+    format!("    sample ({}) {}\n    {}\n{kinds} ∷\n", triple(extents), argument(codes), argument(&labelling.map))
 }
 
 /// A block: extents, codes, map, and the positions of its cells in the volume.
@@ -57,10 +62,7 @@ fn block(cutting: &Cutting, codes: &[u32], b: usize) -> String {
     let (grid, own) = (cutting.grid(b), cutting.codes(b, codes));
     let volume = Grid::new(cutting.extents);
     let positions = (0..grid.cells()).map(|p| volume.position(cutting.outside(b, p)));
-    let mut text = format!("            record {{\n              extents = {};\n              codes = {};\n", triple(grid.extents), list(&own));
-    text += &format!("              numbers = {};\n", list(number(grid.extents, &own).map));
-    text += &format!("              positions = {};\n            }} ∷\n", list(positions));
-    text
+    format!("block ({}) {} {} {}", triple(grid.extents), argument(&own), argument(number(grid.extents, &own).map), argument(positions))
 }
 
 /// As many faces and curves as are enrolled, and as many points as are found.
@@ -72,22 +74,17 @@ fn entries(cutting: &Cutting, codes: &[u32]) -> [u32; 3] {
 
 /// A cut volume: its blocks and seams, and what the closed tables hold, whose rows have two, four or six places.
 fn job(cutting: &Cutting, codes: &[u32]) -> String {
-    let mut text = "    record {\n      cut = record {\n        blocks =\n".to_string();
-    (0..cutting.blocks()).for_each(|b| text += &block(cutting, codes, b));
+    let blocks: String = (0..cutting.blocks()).map(|b| block(cutting, codes, b) + " ∷\n    ").collect();
     let mut seams = cutting.seams();
     seams.sort_unstable();
-    text += &format!("            [];\n        seams = {};\n      }};\n", list(seams.iter().map(|(b, c)| format!("edge {b} {c}"))));
+    let seams = argument(seams.iter().map(|(b, c)| format!("edge {b} {c}")));
     let labelling = number(cutting.extents, codes);
     let [faces, curves, points] = entries(cutting, codes);
     let lists = [0, 1, 2].map(|a: usize| list(&cutting.cuts[a]));
     let stated = format!("record {{ extents = {}; cx = {}; cy = {}; cz = {} }}", triple(cutting.extents), lists[0], lists[1], lists[2]);
-    text += &format!("      joined = record {{\n        told = told ({stated}) {faces} {curves} {points};\n");
-    text += &format!("        codes = {};\n        listed = record {{\n          stage = Closed;\n", list(codes));
-    for (name, order) in ORDERS {
-        let rows = list(labelling.components[order].iter().flat_map(|c| c.row.into_iter().take(width(order))));
-        text += &format!("          {name} = {};\n", components(&labelling, order, rows));
-    }
-    text + "        };\n      };\n    } ∷\n"
+    let rows = |order: usize| argument(labelling.components[order].iter().flat_map(|c| c.row.into_iter().take(width(order))));
+    let kinds = ORDERS.map(|order| components("kindContents", &labelling, order, rows(order))).join("\n");
+    format!("    job\n    ({blocks}[])\n    {seams}\n    (told ({stated}) {faces} {curves} {points})\n    {}\n{kinds} ∷\n", argument(codes))
 }
 
 /// Extents of 1 to 3 voxels, with at most so many voxels in all.

@@ -9,8 +9,9 @@ use Rattle.cells.specs.Grid.{cells}
 use Rattle.labels.specs.Number.{labels}
 use Rattle.labels.specs.Components.{largest, firstCell, componentRow}
 use Rattle.cutting.specs.Cutting.{Cutting, blocks, blockExtents, blockCodes, embed}
+use Rattle.joiner.specs.Job.{Closed, Told}
 use Rattle.joiner.specs.Stages.{seams}
-use Rattle.theory_model.specs.Scripts.{Outcome, mapOf, joinedUp}
+use Rattle.theory_model.specs.Scripts.{Contents, Outcome, mapOf, joinedUp}
 use Rattle.theory_model.specs.Volumes.{Example}
 
 -- How many components of an order there are, the first cell of each and its row.
@@ -18,6 +19,10 @@ pub record Components : Type 0 where
   pub many : ℕ
   pub firsts : List ℕ
   pub rows : List (List ℕ)
+
+-- .. by its fields.
+abbrev pub components : ℕ → List ℕ → List (List ℕ) → Components
+components n firsts rows = record { many = n; firsts = firsts; rows = rows }
 
 -- The components of order j of a map.
 unfoldable pub componentsOf : Triple → List ℕ → ℕ → Components
@@ -44,6 +49,10 @@ pub record Sample : Type 0 where
   pub codes : List ℕ
   pub listed : Numbered
 
+-- .. by its extents, codes, map, faces, curves and points.
+abbrev pub sample : Triple → List ℕ → List ℕ → Components → Components → Components → Sample
+sample e codes m faces curves points = record { extents = e; codes = codes; listed = record { numbers = m; faces = faces; curves = curves; points = points } }
+
 unfoldable pub answer : Sample → Numbered
 answer v = numberedOf (v .extents) (labels (v .extents) (v .codes))
 
@@ -53,6 +62,10 @@ pub record Block : Type 0 where
   pub codes : List ℕ
   pub numbers : List ℕ
   pub positions : List ℕ
+
+-- .. by its fields.
+abbrev pub block : Triple → List ℕ → List ℕ → List ℕ → Block
+block e codes m positions = record { extents = e; codes = codes; numbers = m; positions = positions }
 
 unfoldable pub blockOf : Cutting → List ℕ → ℕ → Block
 blockOf k codes b =
@@ -75,6 +88,18 @@ cutOf k codes = record { blocks = map (blockOf k codes) (consecutive 0 (blocks k
 pub record Job : Type 0 where
   pub cut : Cut
   pub joined : Example
+
+-- What a closed job has of a kind: how many, their first positions, their rows one after the other.
+abbrev pub kindContents : ℕ → List ℕ → List ℕ → Contents
+kindContents n firsts rows = record { many = n; firsts = firsts; rows = rows }
+
+-- Such a volume by its blocks and seams, what the opening is told, its codes, and the faces, curves and points of the closed job.
+abbrev pub job : List Block → List Edge → Told → List ℕ → Contents → Contents → Contents → Job
+job blocks seams told codes faces curves points =
+    record {
+      cut = record { blocks = blocks; seams = seams };
+      joined = record { told = told; codes = codes; listed = record { stage = Closed; faces = faces; curves = curves; points = points } };
+    }
 
 unfoldable pub cutAnswer : Job → Cut
 cutAnswer v = cutOf (v .joined .told .cutting) (v .joined .codes)
