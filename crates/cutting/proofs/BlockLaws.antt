@@ -21,7 +21,7 @@ use Rattle.cells.proofs.GridLaws.{Upper, upper-neighbour, side-on, inside, leng
 use Rattle.lists.proofs.Lists.{getD-tabulate, map-same}
 use Rattle.labels.proofs.ComponentLaws.{Belongs, belongs-at}
 use Rattle.cutting.proofs.RenameLaws.{Tells, row-renamed, occupied-renamed}
-use Rattle.labels.proofs.LabelLaws.{labels-numbering, joined-row, numbered-active}
+use Rattle.labels.proofs.LabelLaws.{labels-numbering, shared-row, numbered-active}
 use Rattle.cutting.proofs.CutLaws.{shiftInto, shift-on, shift-inside, embed-inside, embed-order, embed-up, InBlock, blocks-cover}
 use Rattle.cutting.specs.Nodes.{uncutMap, part}
 
@@ -198,7 +198,7 @@ module _ (k : Cutting) (good : goodCut k ≡ true) (codes : List ℕ) (b : ℕ) 
         let act-p : active (k .extents) (uncutMap k codes) (embed k b p) ≡ true = numbered-active (k .extents) codes (embed k b p) ip (omega arith) (omega arith) in
         let act-q : active (k .extents) (uncutMap k codes) (embed k b q) ≡ true = numbered-active (k .extents) codes (embed k b q) iq (omega arith) (omega arith) in
         let r : row (k .extents) (uncutMap k codes) (embed k b p) ≡ row (k .extents) (uncutMap k codes) (embed k b q) =
-        joined-row (k .extents) (uncutMap k codes) (labels-numbering (k .extents) codes .shared (embed k b p) (embed k b q) ip iq (op ∙ sym oq) act-p act-q .0 s) in
+        shared-row (k .extents) codes (embed k b p) (embed k b q) ip iq (op ∙ sym oq) act-p act-q s in
         let bp : active (blockExtents k b) (part k codes b) p ≡ true = c .act p (fp .0) (fp .1) ∙ act-p in
         let bq : active (blockExtents k b) (part k codes b) q ≡ true = c .act q (fq .0) (fq .1) ∙ act-q in
         labels-numbering (blockExtents k b) (blockCodes k b codes) .shared p q (fp .0) (fq .0) (fp .1 ∙ sym (fq .1)) bp bq .1

@@ -12,7 +12,8 @@ use Rattle.cells.specs.Row.{active}
 use Rattle.labels.specs.Components.{firstCell}
 use Rattle.cutting.specs.Cutting.{Cutting, goodCut, blockExtents, blockCodes, embed}
 use Rattle.cutting.specs.Nodes.{uncutMap, part, Sees, Tied}
-use Rattle.labels.proofs.LabelLaws.{labels-numbering, numbered-active}
+use Rattle.labels.proofs.LabelLaws.{labels-numbering}
+use Rattle.labels.proofs.CountLaws.{member-active}
 use Rattle.labels.proofs.ComponentLaws.{Belongs, least-at, belongs-at}
 use Rattle.cutting.proofs.CutLaws.{InBlock, blocks-cover, embed-order, embed-le}
 use Rattle.cutting.proofs.BlockLaws.{carried}
@@ -35,8 +36,7 @@ module _ (k : Cutting) (good : goodCut k ≡ true) (codes : List ℕ) (j : ℕ) 
         listed = s .listed;
         within = f .within;
         level = f .level;
-        act = numbered-active (blockExtents k b) (blockCodes k b codes) (firstCell (blockExtents k b) (part k codes b) j n) (f .within) (omega (arith, f .level))
-            (omega (arith, f .has, s .has, labels-numbering (blockExtents k b) (blockCodes k b codes) .positive p (s .within) (s .act)));
+        act = member-active (blockExtents k b) (blockCodes k b codes) (omega arith) (omega (arith, s .has, labels-numbering (blockExtents k b) (blockCodes k b codes) .positive p (s .within) (s .act))) f;
         has = f .has;
       }
 
@@ -84,7 +84,7 @@ module _ (k : Cutting) (good : goodCut k ≡ true) (codes : List ℕ) (j : ℕ) 
       positive = labels-numbering (k .extents) codes .positive (embed k b p) (sees-in k good codes j lo hi s) (sees-active k good codes j lo hi s)
 
       act : active (k .extents) (uncutMap k codes) F ≡ true
-      act = numbered-active (k .extents) codes F (f .within) (omega (arith, f .level)) (omega (arith, f .has, positive))
+      act = member-active (k .extents) codes (omega arith) positive f
 
       level : order (blockExtents k d) q ≡ j
       level = sym (embed-order k good d (w .listed) q (w .has .within)) ∙ ap (order (k .extents)) (w .has .is) ∙ f .level

@@ -23,7 +23,7 @@ use Rattle.joiner.specs.Stages.{seams}
 use Rattle.lists.proofs.Cases.{by-test}
 use Rattle.cells.proofs.GridLaws.{Upper, length-up, upper-neighbour}
 use Rattle.labels.proofs.ComponentLaws.{Belongs, belongs-at, of-order-in, of-order-out}
-use Rattle.labels.proofs.CountLaws.{Somewhere, every-number, largest-bound}
+use Rattle.labels.proofs.CountLaws.{Somewhere, every-number, largest-bound, member-active}
 use Rattle.labels.proofs.LabelLaws.{labels-numbering, numbered-active}
 use Rattle.cutting.proofs.BlockLaws.{carried, row-through, zero-down, zero-up}
 use Rattle.cutting.proofs.CutLaws.{embed-order}
@@ -85,7 +85,7 @@ module _ (k : Cutting) (good : goodCut k ≡ true) (codes : List ℕ) where
         listed = hb;
         within = f .within;
         level = f .level;
-        act = numbered-active e (blockCodes k b codes) (firstCell e (part k codes b) (orderOf κ) m) (f .within) (omega (arith, order-small κ, f .level)) (omega (arith, f .has));
+        act = member-active e (blockCodes k b codes) (omega (arith, order-small κ)) (omega arith) f;
         has = f .has;
       }
 

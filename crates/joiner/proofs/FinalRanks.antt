@@ -17,8 +17,8 @@ use Rattle.cutting.specs.Nodes.{Sees, part, uncutMap}
 use Rattle.joiner.specs.Outcomes.{classOf}
 use Rattle.joiner.specs.Job.{Curve, Face, Kind, Point, Tables, firstAt, node, orderOf}
 use Rattle.labels.proofs.ComponentLaws.{Belongs, belongs-at, least-at}
-use Rattle.labels.proofs.CountLaws.{Somewhere, every-number, first-cells-ascend, largest-bound}
-use Rattle.labels.proofs.LabelLaws.{labels-numbering, numbered-active}
+use Rattle.labels.proofs.CountLaws.{Somewhere, every-number, first-cells-ascend, largest-bound, member-active}
+use Rattle.labels.proofs.LabelLaws.{labels-numbering}
 use Rattle.cutting.proofs.BlockLaws.{carried}
 use Rattle.cutting.proofs.CutLaws.{InBlock, blocks-cover, embed-le, embed-order}
 use Rattle.cutting.proofs.NodeLaws.{sees-active, sees-in, sees-order}
@@ -91,7 +91,7 @@ module _ (k : Cutting) (good : goodCut k ≡ true) (codes : List ℕ) (t : Table
       level = sym (embed-order k good b (w .listed) q (w .has .within)) ∙ ap (order (k .extents)) (w .has .is) ∙ f .level
 
       act : active (k .extents) (uncutMap k codes) (rootAt N) ≡ true
-      act = numbered-active (k .extents) codes (rootAt N) (f .within) (omega (arith, f .level, order-small κ)) (omega (arith, f .has))
+      act = member-active (k .extents) codes (omega (arith, order-small κ)) (omega arith) f
 
       s : Sees k codes (orderOf κ) b o q
       s = record { listed = w .listed; within = w .has .within; level = level; act = carried k good codes (orderOf κ) lo (order-small κ) b (w .listed) .act q (w .has .within) level ∙ ap (active (k .extents) (uncutMap k codes)) (w .has .is) ∙ act; has = refl }

@@ -23,8 +23,8 @@ use Rattle.lists.proofs.Lists.{Ascends, ascends-at, ascends-consecutive, ascend
 use Rattle.lists.proofs.Overlay.{overlay-at, overlay-before, rows-at, rows-before}
 use Rattle.lists.proofs.Table.{every}
 use Rattle.labels.proofs.ComponentLaws.{Belongs, belongs-at, least-at, of-order-in, of-order-out}
-use Rattle.labels.proofs.CountLaws.{Somewhere, every-number, first-cells-ascend, largest-bound}
-use Rattle.labels.proofs.LabelLaws.{labels-numbering, numbered-active, point-alone}
+use Rattle.labels.proofs.CountLaws.{Somewhere, every-number, first-cells-ascend, largest-bound, member-active}
+use Rattle.labels.proofs.LabelLaws.{labels-numbering, point-alone}
 use Rattle.cutting.proofs.CutLaws.{InBlock, blocks-cover, embed-inside, embed-less, embed-order}
 use Rattle.cutting.proofs.SeamLaws.{point-block}
 use Rattle.joiner.proofs.EnrolKeeps.{blocks-most}
@@ -225,7 +225,7 @@ module _ (k : Cutting) (good : goodCut k ≡ true) (codes : List ℕ) where
         record {
           within = w .has .within;
           level = sym (embed-order k good (w .b) (w .listed) (w .has .p) (w .has .within)) ∙ ap (order (k .extents)) (w .has .is) ∙ f .level;
-          act = ap (active (k .extents) (uncutMap k codes)) (w .has .is) ∙ numbered-active (k .extents) codes q (f .within) (omega (arith, f .level)) (omega (arith, f .has));
+          act = ap (active (k .extents) (uncutMap k codes)) (w .has .is) ∙ member-active (k .extents) codes (omega arith) h0 f;
         } in
         let i = P .into (w .b) (w .has .p) (w .listed) (every (w .b) (w .listed)) (cell-in (w .b) (w .has .p) c) in
         let e : firstAt t Point (i .0) ≡ q = i .2 ∙ w .has .is in

@@ -29,8 +29,8 @@ use Rattle.lists.proofs.Overlay.{front-at, row-place, row-split}
 use Rattle.cells.proofs.GridLaws.{order-most}
 use Rattle.cells.proofs.RowLaws.{getD-pad}
 use Rattle.labels.proofs.ComponentLaws.{Belongs, belongs-at}
-use Rattle.labels.proofs.CountLaws.{every-number, first-cells-ascend, largest-bound}
-use Rattle.labels.proofs.LabelLaws.{labels-numbering, numbered-active, point-alone}
+use Rattle.labels.proofs.CountLaws.{every-number, first-cells-ascend, largest-bound, member-active}
+use Rattle.labels.proofs.LabelLaws.{labels-numbering, point-alone}
 use Rattle.cutting.proofs.BlockLaws.{voxel-same}
 use Rattle.cutting.proofs.CutLaws.{embed-inside, embed-order}
 use Rattle.joiner.proofs.Codes.{cell-in-block}
@@ -142,7 +142,7 @@ module _ (e : Triple) (codes xs : List ℕ) (firsts-are : (i : ℕ) → i < larg
           let hN : N ≤ largest e (labels e codes) 0 = subst (λ (j : ℕ). getD (labels e codes) q 0 ≤ largest e (labels e codes) j) o (largest-bound e (labels e codes) q hq) in
           let b : Belongs e (labels e codes) 0 N (firstCell e (labels e codes) 0 N) = belongs-at e (labels e codes) 0 N q hq o refl in
           let f : ℕ = firstCell e (labels e codes) 0 N in
-          let c : f ≡ q = point-alone e (labels e codes) (b .level) (uncut-numbering .shared f q (b .within) hq (b .level ∙ sym o) (numbered-active e codes f (b .within) (omega (arith, b .level)) (omega (arith, b .has, h0))) a .0 (b .has)) in
+          let c : f ≡ q = point-alone e (labels e codes) (b .level) (uncut-numbering .shared f q (b .within) hq (b .level ∙ sym o) (member-active e codes (omega arith) h0 b) a .0 (b .has)) in
           let s : suc (N - 1) ≡ N = omega arith in
           number-found xs (largest e (labels e codes) 0) q rises (N - 1) (omega arith) (firsts-are (N - 1) (omega arith) ∙ ap (firstCell e (labels e codes) 0) s ∙ c) ∙ s
 

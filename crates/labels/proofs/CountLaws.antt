@@ -18,7 +18,7 @@ use Rattle.closure.specs.Numbered.{countBelow, leader}
 use Rattle.closure.proofs.Numbers.{label-bound, label-last}
 use Rattle.labels.specs.Number.{edges, activeOf, number, numbered, mapDown, labels}
 use Rattle.labels.proofs.NumberLaws.{rep-leaders}
-use Rattle.labels.proofs.LabelLaws.{Agree, numbered-own, final-agree, labels-numbering, joined-row, numbered-active}
+use Rattle.labels.proofs.LabelLaws.{Agree, numbered-own, final-agree, shared-row, numbered-active}
 use Rattle.labels.specs.Numbering.{Numbering}
 use Rattle.labels.specs.Components.{ofOrder, largest, component, firstCell, rowAtFirst, componentRow}
 use Rattle.labels.proofs.ComponentLaws.{of-order-in, of-order-out, Belongs, least-at, belongs-at, component-out}
@@ -128,14 +128,12 @@ count-down e codes d h =
 
 -- ---- the cells of a component
 
-module _ (e : Triple) (codes : List ℕ) (j : ℕ) (hj : j < 3) (n : ℕ) (hn : 0 < n) where
-  pub member-active : (t : ℕ) → Belongs e (labels e codes) j n t → active e (labels e codes) t ≡ true
-  member-active t c = numbered-active e codes t (c .within) (omega (arith, c .level)) (omega (arith, c .has))
+module _ (e : Triple) (codes : List ℕ) {j n : ℕ} (hj : j < 3) (hn : 0 < n) where
+  pub member-active : {t : ℕ} → Belongs e (labels e codes) j n t → active e (labels e codes) t ≡ true
+  member-active {t} c = numbered-active e codes t (c .within) (omega (arith, c .level)) (omega (arith, c .has))
 
   members-alike : (s t : ℕ) → Belongs e (labels e codes) j n s → Belongs e (labels e codes) j n t → row e (labels e codes) s ≡ row e (labels e codes) t
-  members-alike s t c d =
-      joined-row e (labels e codes)
-      (labels-numbering e codes .shared s t (c .within) (d .within) (c .level ∙ sym (d .level)) (member-active s c) (member-active t d) .0 (c .has ∙ sym (d .has)))
+  members-alike s t c d = shared-row e codes s t (c .within) (d .within) (c .level ∙ sym (d .level)) (member-active c) (member-active d) (c .has ∙ sym (d .has))
 
   -- Each has the row of the component.
   pub component-row : (t : ℕ) → List·Memᴰ t (component e (labels e codes) j n) → row e (labels e codes) t ≡ componentRow e (labels e codes) j n

@@ -226,9 +226,14 @@ numbering-labels e codes m = (
 
 -- ---- what holds of every numbering
 
-pub joined-row : (e : Triple) (m : List ℕ) {p q : ℕ} → Joined e m p q → row e m p ≡ row e m q
+joined-row : (e : Triple) (m : List ℕ) {p q : ℕ} → Joined e m p q → row e m p ≡ row e m q
 joined-row e m here = refl
 joined-row e m (step r t s l) = s ∙ joined-row e m l
+
+-- Active cells of one order and one number have one row.
+pub shared-row : (e : Triple) (codes : List ℕ) (p q : ℕ) → p < cells e → q < cells e → order e p ≡ order e q → active e (labels e codes) p ≡ true → active e (labels e codes) q ≡ true
+    → getD (labels e codes) p 0 ≡ getD (labels e codes) q 0 → row e (labels e codes) p ≡ row e (labels e codes) q
+shared-row e codes p q h k o t u s = joined-row e (labels e codes) (labels-numbering e codes .shared p q h k o t u .0 s)
 
 pub numbered-active : (e : Triple) (codes : List ℕ) (p : ℕ) → p < cells e → order e p < 3 → 0 < getD (labels e codes) p 0 → active e (labels e codes) p ≡ true
 numbered-active e codes p h l g = by-test (active e (labels e codes) p) (λ t. t) (λ t. absurd (omega (arith, labels-numbering e codes .inactive p h l t)))

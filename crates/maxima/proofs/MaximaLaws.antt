@@ -25,7 +25,7 @@ use Rattle.labels.specs.Components.{largest}
 use Rattle.labels.specs.OrderCounts.{cellsOfOrder}
 use Rattle.labels.specs.Number.{edges, activeOf, number as Number·number, mapDown, labels}
 use Rattle.labels.proofs.NumberLaws.{rep-leaders}
-use Rattle.labels.proofs.LabelLaws.{labels-numbering, joined-row, label-at, row-over}
+use Rattle.labels.proofs.LabelLaws.{labels-numbering, shared-row, label-at, row-over}
 use Rattle.labels.proofs.CountLaws.{largest-leaders, count-down}
 use Rattle.labels.proofs.OrderCounts.{count-cells}
 use Rattle.maxima.specs.declared.Most.{Most}
@@ -70,7 +70,7 @@ module _ (e : Triple) (codes : List ℕ) where
       record {
         apart = λ p q h k o l s.
             row-apart e (labels e codes) j lj D p q h k o l
-            (joined-row e (labels e codes) (labels-numbering e codes .shared p q h k (o ∙ sym l) (act p h o) (act q k l) .0 s));
+            (shared-row e codes p q h k (o ∙ sym l) (act p h o) (act q k l) s);
       }
 
   different-down : (k j : ℕ) → k + j ≡ 3 → DifferentNumbers e (labels e codes) 3 → DifferentNumbers e (labels e codes) j

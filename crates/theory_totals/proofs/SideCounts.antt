@@ -94,7 +94,7 @@ module _ (e : Triple) (codes : List ℕ) (f : ℕ → ℕ → Reading) (n : ℕ)
 
   first-entry : (t : ℕ) → Belongs e m 2 n t → getD (row e m t) 0 0 ≢ 0
   unfolding active occupied
-  first-entry t c z = true≢false (sym (member-active e codes 2 (omega arith) n hn t c) ∙ ap not (eq-eqb (getD (row e m t) 0 0) 0 z))
+  first-entry t c z = true≢false (sym (member-active e codes (omega arith) hn c) ∙ ap not (eq-eqb (getD (row e m t) 0 0) 0 z))
 
   -- "The outside is the higher side of a face": the lower side has one reading for each cell ..
   pub lower-whole : length (sideReadings e m f n 0) ≡ length (component e m 2 n)
@@ -104,9 +104,9 @@ module _ (e : Triple) (codes : List ℕ) (f : ℕ → ℕ → Reading) (n : ℕ)
   -- .. the higher side too, where it is not the outside ..
   pub higher-whole : (BordersOutside e m n → ⊥) → length (sideReadings e m f n 1) ≡ length (component e m 2 n)
   unfolding sideReadings
-  higher-whole d = cells-one e m f 1 (omega arith) (component e m 2 n) (λ t i z. d (ap (λ (r : List ℕ). getD r 1 0) (sym (component-row e codes 2 (omega arith) n hn t i)) ∙ z))
+  higher-whole d = cells-one e m f 1 (omega arith) (component e m 2 n) (λ t i z. d (ap (λ (r : List ℕ). getD r 1 0) (sym (component-row e codes (omega arith) hn t i)) ∙ z))
 
   -- .. and the outside has none.
   pub higher-none : BordersOutside e m n → sideReadings e m f n 1 ≡ []
   unfolding sideReadings
-  higher-none z = cells-none e m f 1 (omega arith) (component e m 2 n) (λ t i. ap (λ (r : List ℕ). getD r 1 0) (component-row e codes 2 (omega arith) n hn t i) ∙ z)
+  higher-none z = cells-none e m f 1 (omega arith) (component e m 2 n) (λ t i. ap (λ (r : List ℕ). getD r 1 0) (component-row e codes (omega arith) hn t i) ∙ z)

@@ -101,7 +101,7 @@ coreCut = record { extents = triple 4 3 3; cx = 0 ∷ 2 ∷ 3 ∷ []; cy = 0 ∷
 unfoldable pub coreCodes : List ℕ
 coreCodes = zeros 17 ++ 5 ∷ 7 ∷ zeros 17
 
--- The table, in the order of document 01; then Figure 5b and the counts given for it; then volumes with space, the first two those that item 4 tells of.
+-- The table, in the order of document 01; then Figure 5b and the counts given for it; then volumes with space: 5 0, as item 4 has it, 1 0 / 0 2, zeros only, a hole, a core.
 unfoldable pub volumes : List Listed
 volumes =
     ask (map-of (triple 1 1 1) (9 ∷ [])) (9 ∷ []) ∷
