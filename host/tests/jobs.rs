@@ -127,6 +127,7 @@ fn bits(t: Totals) -> [(u64, [u64; 3]); 2] {
 #[test]
 fn totals_under_ten_cuttings() {
     let mut random = Random::new(18);
+    let mut outside = 0;
     for _ in 0..24 {
         let extents = [0; 3].map(|_| 2 + random.below(7));
         let codes = volume(&mut random, extents);
@@ -152,11 +153,13 @@ fn totals_under_ten_cuttings() {
                     // a reading for each cell, and none of the outside
                     assert_eq!(counts.iter().sum::<u64>(), if *code == 0 { 0 } else { cells });
                     assert!(*code != 0 || *sum == 0);
+                    outside += u32::from(*code == 0);
                 }
             }
             assert_eq!(seen.get_or_insert(totals.clone()), &totals, "round {round}");
         }
     }
+    assert!(outside > 50, "{outside}");
 }
 
 #[test]

@@ -1,6 +1,6 @@
 -- "Refusal 7 is no longer given, and this is to be shown" (document 02, item 4): no list of cases has it, so no public entry and no text is answered with it.
 -- Assumes nothing.
-use mathlib.Core.Path.{_≡_, refl, sym, _∙_, subst}
+use mathlib.Core.Path.{_≡_, refl, sym, ap, _∙_, subst}
 use mathlib.Core.Logic.{_≢_}
 use mathlib.Core.Bool.{false, cond, true≢false}
 use mathlib.Core.List.{List·Memᴰ}
@@ -13,14 +13,19 @@ use Rattle.lists.proofs.Cases.{by-test}
 use Rattle.lists.proofs.Tests.{is-in}
 use Rattle.refusals.specs.Refusals.{blank-voxel, number, givenRefusal, listedNumbers}
 use Rattle.refusals.proofs.RefusalLaws.{given-listed}
+use Rattle.cells.specs.Box.{Triple}
 use Rattle.labeller.specs.Labelling as labeller
+use Rattle.labeller.proofs.OneBlock.{label-refusal}
 use Rattle.maxima.specs.declared.Most.{Most}
 use Rattle.maxima.specs.Maxima as maxima
 use Rattle.writer.specs.Writing as writer
 use Rattle.reader.specs.Loaded as reader
 use Rattle.joiner.specs.Declines as joiner
 use Rattle.strain_calls.specs.Declines.{openingDeclines, openingRefusal, strainDeclines, strainRefusal}
-use Rattle.text.specs.Request.{declinesText, textRefusal}
+use Rattle.text.specs.Request.{declinesText, textRefusal, askedExtents}
+use Rattle.parser.specs.declared.Task.{Task}
+use Rattle.parser.specs.Asked.{taskOf}
+use Rattle.parser.proofs.TextLaws.{text-read}
 use Rattle.theory_refusals.specs.PublicCalls.{PublicCall, label, most-components, write-record, read-record, opening, call, about-readings, program, casesOf, Answers}
 
 -- 7 is on no list.
@@ -39,17 +44,26 @@ seven-unlisted (program t) = refl
 refusal-kept : {A : Type 0} (refusal : A → ℕ) (n : ℕ) (accepted refused : A) → refusal accepted ≡ 0 → refusal refused ≡ n → refusal (cond (eqb n 0) accepted refused) ≡ n
 refusal-kept refusal n accepted refused a r = by-test (eqb n 0) (λ t. rw t (a ∙ sym (eqb-true n 0 t))) (λ t. rw t r)
 
+-- the number of the line `refused`, 0 for a listing
+abbrev shown : Task → ℕ
+shown (Task.PrintRefused n) = n
+shown (Task.ListVolume x y z) = 0
+
+task-shown : (n : ℕ) (e : Triple) → shown (taskOf n e) ≡ n
+unfolding taskOf
+task-shown n e = refusal-kept shown n _ _ refl refl
+
 -- What is answered is what the list of cases gives.
 pub answers-cases : (a : PublicCall) (n : ℕ) → Answers a n → n ≡ givenRefusal (casesOf a)
-unfolding casesOf labeller.labelling labeller.accepted labeller.refused labeller.refusalOf maxima.mostComponents maxima.accepted maxima.refused maxima.refusalOf writer.writing writer.accepted writer.refused writer.refusalOf reader.reading reader.accepted reader.refused reader.refusalOf openingRefusal joiner.refusal strainRefusal textRefusal
-answers-cases (label e codes m w) n i = i ∙ refusal-kept (λ (o : labeller.Outcome). o .answer .refusal) _ _ _ refl refl
-answers-cases (most-components e) n i = i ∙ refusal-kept (λ (o : Most). o .refusal) _ _ _ refl refl
-answers-cases (write-record e o m t) n i = i ∙ refusal-kept (λ (a : writer.Outcome). a .answer .refusal) _ _ _ refl refl
-answers-cases (read-record r t) n i = i ∙ refusal-kept (λ (a : reader.Outcome). a .answer .refusal) _ _ _ refl refl
+unfolding casesOf labeller.refusalOf maxima.mostComponents maxima.accepted maxima.refused maxima.refusalOf writer.writing writer.accepted writer.refused writer.refusalOf reader.reading reader.accepted reader.refused reader.refusalOf openingRefusal joiner.refusal strainRefusal textRefusal
+answers-cases (label e codes m w) n (r, m′, w′, p, i) = i ∙ label-refusal e codes m w r m′ w′ p
+answers-cases (most-components e) n (r, p, i) = i ∙ ap (λ (a : Most). a .refusal) p ∙ refusal-kept (λ (a : Most). a .refusal) _ _ _ refl refl
+answers-cases (write-record e o m t) n (r, t′, p, i) = i ∙ ap (λ (a : writer.Outcome). a .answer .refusal) p ∙ refusal-kept (λ (a : writer.Outcome). a .answer .refusal) _ _ _ refl refl
+answers-cases (read-record b t) n (r, t′, p, i) = i ∙ ap (λ (a : reader.Outcome). a .answer .refusal) p ∙ refusal-kept (λ (a : reader.Outcome). a .answer .refusal) _ _ _ refl refl
 answers-cases (opening o lent w) n (s, v, p) = p .told
 answers-cases (call s c) n (a, t, p, i) = i ∙ p .told
 answers-cases (about-readings s w c) n (a, v, p, i) = i ∙ p .told
-answers-cases (program t) n i = i
+answers-cases (program t) n (d, room, p) = ap shown (sym p ∙ text-read d t room .task) ∙ task-shown (textRefusal t) (askedExtents t)
 
 -- No public entry answers 7, whatever it is handed, and the program's line shows it for no text.
 pub no-seven : (a : PublicCall) (n : ℕ) → Answers a n → n ≢ 7

@@ -6,9 +6,13 @@ use Prim.Native.Nat.{ℕ}
 use lib.ListN.{length}
 use Rattle.refusals.specs.Refusals.{Case}
 use Rattle.cells.specs.Box.{Triple}
+use Rattle.labeller.specs.declared.Labelled.{Labelled}
 use Rattle.labeller.specs.Labelling as labeller
+use Rattle.maxima.specs.declared.Most.{Most}
 use Rattle.maxima.specs.Maxima as maxima
+use Rattle.writer.specs.declared.Written.{Written}
 use Rattle.writer.specs.Writing as writer
+use Rattle.reader.specs.declared.Head.{Head}
 use Rattle.reader.specs.Loaded as reader
 use Rattle.joiner.specs.Job.{Told, Tables, State}
 use Rattle.joiner.specs.Calls.{Call, Answer}
@@ -19,7 +23,10 @@ use Rattle.strain_calls.specs.Calls.{StrainCall, StrainAnswer}
 use Rattle.strain_calls.specs.Declines.{openingDeclines, strainDeclines}
 use Rattle.strain_calls.specs.Outcomes.{TotalsOpening, StrainStep}
 use Rattle.text.specs.Words.{wordsOf}
-use Rattle.text.specs.Request.{declinesText, textRefusal}
+use Rattle.text.specs.Request.{declinesText}
+use Rattle.parser.specs.declared.Task.{Task}
+use Rattle.parser.specs.Scanning.{state, begun, after}
+use Rattle.parser.specs.Asked.{finished}
 
 pub data PublicCall : Type 0 where
   -- extents, codes, map and working tray
@@ -49,13 +56,14 @@ casesOf (call s c) = joiner.declines s c
 casesOf (about-readings s w c) = strainDeclines s w c
 casesOf (program t) = declinesText (wordsOf t)
 
--- n is the number with which it is answered, 0 for no refusal: what its contract says, and of the program what its line shows.
+-- n is the number with which it is answered, 0 for no refusal: what is left and answered is as the `ensures` of the public entry says, and n is its refusal.
+-- Of the program, once it has read the text to its end, the number of the line `refused` that it is to print.
 abbrev pub Answers : PublicCall → ℕ → Type 0
-Answers (label e codes m w) n = n ≡ labeller.labelling e codes m w .answer .refusal
-Answers (most-components e) n = n ≡ maxima.mostComponents e .refusal
-Answers (write-record e o m t) n = n ≡ writer.writing e o m t .answer .refusal
-Answers (read-record r t) n = n ≡ reader.reading r t .answer .refusal
+Answers (label e codes m w) n = (r : Labelled) × (m′ : List ℕ) × (w′ : List ℕ) × (labeller.outcome r m′ w′ ≡ labeller.labelling e codes m w) × (n ≡ r .refusal)
+Answers (most-components e) n = (r : Most) × (r ≡ maxima.mostComponents e) × (n ≡ r .refusal)
+Answers (write-record e o m t) n = (r : Written) × (t′ : List ℕ) × (writer.outcome r t′ ≡ writer.writing e o m t) × (n ≡ r .refusal)
+Answers (read-record b t) n = (r : Head) × (t′ : List ℕ) × (reader.outcome r t′ ≡ reader.reading b t) × (n ≡ r .refusal)
 Answers (opening o lent w) n = (s : State) × (v : TotalTables) × TotalsOpening o lent w n s v
 Answers (call s c) n = (a : Answer) × (t : State) × CallStep s c a t × (n ≡ a .refusal)
 Answers (about-readings s w c) n = (a : StrainAnswer) × (v : TotalTables) × StrainStep s w c a v × (n ≡ a .refusal)
-Answers (program t) n = n ≡ textRefusal t
+Answers (program t) n = (d : List ℕ) × (length d ≡ 512) × (finished (after (state begun d) t) .task ≡ Task.PrintRefused n)

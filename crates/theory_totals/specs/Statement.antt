@@ -173,7 +173,7 @@ CuttingFree =
     (o : Told) (codes : List ℕ) (reading : ℕ → Reading) (own : ℕ → List ℕ) (values : ℕ → List Float) (kinds : ℕ → List ℕ) (n : ℕ) (T : Totals)
     → length codes ≡ volume (o .cutting .extents)
     → ((b : ℕ) → b < blocks (o .cutting) → own b ≡ labels (blockExtents (o .cutting) b) (blockCodes (o .cutting) b codes))
-    → ((b v : ℕ) → b < blocks (o .cutting) → v < volume (blockExtents (o .cutting) b)
+    → ((b v : ℕ) → b < blocks (o .cutting) → v < volume (blockExtents (o .cutting) b) → getD (own b) (voxelCell (blockExtents (o .cutting) b) v) 0 ≢ 0
     → readingAt (values b) (kinds b) v ≡ reading (voxel (o .cutting .extents) (embed (o .cutting) b (voxelCell (blockExtents (o .cutting) b) v))))
     → TotalRead o own values kinds n T
     → T ≡ faceTotals (o .cutting .extents) (labels (o .cutting .extents) codes) (λ t q. reading (voxel (o .cutting .extents) q)) n

@@ -137,6 +137,8 @@ volumes =
     ask (map-of (triple 2 1 1) (5 ∷ 0 ∷ [])) (5 ∷ 1 ∷ 0 ∷ []) ∷
     ask (row-of (triple 2 1 1) (5 ∷ 0 ∷ []) 2 1) (5 ∷ 0 ∷ 0 ∷ 0 ∷ 0 ∷ 0 ∷ []) ∷
     ask (map-of (triple 2 2 1) (1 ∷ 0 ∷ 0 ∷ 2 ∷ [])) (1 ∷ 1 ∷ 0 ∷ 1 ∷ 0 ∷ 2 ∷ 0 ∷ 2 ∷ 2 ∷ []) ∷
+    ask (counts (triple 2 2 1) (1 ∷ 0 ∷ 0 ∷ 2 ∷ [])) (2 ∷ 0 ∷ 0 ∷ []) ∷
+    ask (row-of (triple 2 2 1) (1 ∷ 0 ∷ 0 ∷ 2 ∷ []) 2 1) (1 ∷ 0 ∷ 0 ∷ 0 ∷ 0 ∷ 0 ∷ []) ∷
     ask (row-of (triple 2 2 1) (1 ∷ 0 ∷ 0 ∷ 2 ∷ []) 2 2) (2 ∷ 0 ∷ 0 ∷ 0 ∷ 0 ∷ 0 ∷ []) ∷
     ask (refusal-of (line .extents) zeroCodes) (0 ∷ []) ∷
     ask (map-of (line .extents) zeroCodes) (0 ∷ 0 ∷ 0 ∷ 0 ∷ 0 ∷ []) ∷
