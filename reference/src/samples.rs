@@ -10,9 +10,6 @@ use std::fmt::Display;
 const VOLUMES: (usize, usize) = (8, 12);
 const JOBS: (usize, usize) = (3, 12);
 
-/// The orders of faces, curves and points.
-const ORDERS: [usize; 3] = [2, 1, 0];
-
 const COMMAND: &str = "cargo run --release --offline --quiet --manifest-path reference/Cargo.toml --bin samples";
 
 const HEAD: &str = "\
@@ -43,18 +40,21 @@ fn argument<T: Display>(entries: impl IntoIterator<Item = T>) -> String {
     }
 }
 
-/// How many components of an order there are, their first cells, and `rows`, as the arguments of `what`.
-fn components(what: &str, labelling: &Labelling, order: usize, rows: String) -> String {
-    let found = &labelling.components[order];
-    format!("    ({what} {} {} {rows})", found.len(), argument(found.iter().map(|c| c.first)))
+/// The faces in a line, then the curves and the points: how many, their first cells, and `rows`, as the arguments of `what`.
+fn components(what: &str, labelling: &Labelling, rows: impl Fn(usize) -> String) -> String {
+    let [faces, curves, points] = [2, 1, 0].map(|order| {
+        let found = &labelling.components[order];
+        format!("({what} {} {} {})", found.len(), argument(found.iter().map(|c| c.first)), rows(order))
+    });
+    format!("    {faces}\n    {curves} {points} ∷\n")
 }
 
 /// A volume with its map and its components, whose rows have six places.
 fn sample(extents: Extents, codes: &[u32]) -> String {
     let labelling = number(extents, codes);
     let rows = |order: usize| argument(labelling.components[order].iter().map(|c| argument(c.row)));
-    let kinds = ORDERS.map(|order| components("components", &labelling, order, rows(order))).join("\n");
-    format!("    sample ({}) {}\n    {}\n{kinds} ∷\n", triple(extents), argument(codes), argument(&labelling.map))
+    let kinds = components("components", &labelling, rows);
+    format!("    sample ({}) {} {}\n{kinds}", triple(extents), argument(codes), argument(&labelling.map))
 }
 
 /// A block: extents, codes, map, and the positions of its cells in the volume.
@@ -83,8 +83,8 @@ fn job(cutting: &Cutting, codes: &[u32]) -> String {
     let lists = [0, 1, 2].map(|a: usize| list(&cutting.cuts[a]));
     let stated = format!("record {{ extents = {}; cx = {}; cy = {}; cz = {} }}", triple(cutting.extents), lists[0], lists[1], lists[2]);
     let rows = |order: usize| argument(labelling.components[order].iter().flat_map(|c| c.row.into_iter().take(width(order))));
-    let kinds = ORDERS.map(|order| components("kindContents", &labelling, order, rows(order))).join("\n");
-    format!("    job\n    ({blocks}[])\n    {seams}\n    (told ({stated}) {faces} {curves} {points})\n    {}\n{kinds} ∷\n", argument(codes))
+    let kinds = components("kindContents", &labelling, rows);
+    format!("    job ({blocks}[])\n    {seams} (told ({stated}) {faces} {curves} {points}) {}\n{kinds}", argument(codes))
 }
 
 /// Extents of 1 to 3 voxels, with at most so many voxels in all.

@@ -1,16 +1,16 @@
 -- Statement 2, first half: what `label` leaves, in the words of the relation. The premise of each theorem is the promise of `label` itself.
 -- Assumes nothing.
-use mathlib.Core.Path.{_≡_, sym, ap, _∙_, subst}
+use mathlib.Core.Path.{_≡_, refl, sym, ap, _∙_, subst}
 use mathlib.Core.Logic.{_≢_, _↔_}
 use mathlib.Core.Bool.{true}
 use mathlib.Core.List.{List}
 use Prim.Native.Nat.{ℕ, _<_, _≤_}
 use native.Mathlib.Omega.{arith}
-use lib.Dec.{eqb}
 use lib.ListN.{length, getD}
 use Rattle.lists.specs.Lists.{zeros}
-use borrow.Author.Tests.{eqb-true, eq-eqb, ne-eqb}
+use borrow.Author.Tests.{eq-eqb, ne-eqb}
 use Rattle.lists.proofs.Cases.{by-test}
+use Rattle.refusals.proofs.RefusalLaws.{outcome-refusal}
 use Rattle.cells.specs.Box.{Triple}
 use Rattle.cells.specs.Grid.{cells, order}
 use Rattle.cells.specs.Row.{active}
@@ -26,10 +26,7 @@ module _ (e : Triple) (codes m w : List ℕ) (r : Labelled) (m′ w′ : List �
   -- The refusal given is the one that the table decides.
   pub label-refusal : r .refusal ≡ refusalOf e (length codes) (length m) (length w)
   unfolding labelling accepted refused
-  label-refusal =
-      by-test (eqb (refusalOf e (length codes) (length m) (length w)) 0)
-      (λ t. let a : labelling e codes m w ≡ accepted e codes = rw t in ap (λ (o : Outcome). o .answer .refusal) (promise ∙ a) ∙ sym (eqb-true _ _ t))
-      (λ t. let a : labelling e codes m w ≡ refused (refusalOf e (length codes) (length m) (length w)) m w = rw t in ap (λ (o : Outcome). o .answer .refusal) (promise ∙ a))
+  label-refusal = outcome-refusal (λ (o : Outcome). o .answer .refusal) (refusalOf e (length codes) (length m) (length w)) refl refl promise
 
   -- Refused: nothing is changed, and the counts are 0.
   pub label-refused : r .refusal ≢ 0 → outcome r m′ w′ ≡ refused (r .refusal) m w

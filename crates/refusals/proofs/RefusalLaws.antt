@@ -2,7 +2,7 @@
 -- Assumes nothing.
 use mathlib.Core.Path.{_≡_, refl, sym, ap, _∙_}
 use mathlib.Core.Logic.{_⊎_, inl, inr, _↔_}
-use mathlib.Core.Bool.{Bool, true, false, true≢false}
+use mathlib.Core.Bool.{Bool, true, false, cond, true≢false}
 use mathlib.Core.List.{List, [], _∷_, _++_, map, List·Memᴰ, List·Memᴰ·head as here, List·Memᴰ·tail as later, List·Memᴰ·not-nil, List·Memᴰ·cases-cons, Memᴰ·map}
 use Prim.Native.Nat.{ℕ, suc, _<_, _≤_}
 use native.Mathlib.Omega.{arith}
@@ -132,3 +132,8 @@ pub given-listed : (cs : List Case) → 0 < givenRefusal cs → List·Memᴰ (gi
 given-listed cs h =
     let g = given-case (standsIn cs) h in
     rw (g .is) (stands-listed cs (g .refusal) (g .case))
+
+-- An outcome that is told by whether n is 0, as accepted or as refused with n, has the refusal n.
+pub outcome-refusal : {A : Type 0} (refusal : A → ℕ) (n : ℕ) {accepted refused outcome : A} → refusal accepted ≡ 0 → refusal refused ≡ n → outcome ≡ cond (eqb n 0) accepted refused
+    → refusal outcome ≡ n
+outcome-refusal refusal n a r p = ap refusal p ∙ by-test (eqb n 0) (λ t. rw t (a ∙ sym (eqb-true n 0 t))) (λ t. rw t r)

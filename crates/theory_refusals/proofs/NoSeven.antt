@@ -2,17 +2,14 @@
 -- Assumes nothing.
 use mathlib.Core.Path.{_≡_, refl, sym, ap, _∙_, subst}
 use mathlib.Core.Logic.{_≢_}
-use mathlib.Core.Bool.{false, cond, true≢false}
+use mathlib.Core.Bool.{false, true≢false}
 use mathlib.Core.List.{List·Memᴰ}
 use Prim.Native.Nat.{ℕ}
 use native.Mathlib.Omega.{arith}
-use lib.Dec.{eqb}
-use borrow.Author.Tests.{eqb-true}
 use Rattle.lists.specs.Lists.{isIn}
-use Rattle.lists.proofs.Cases.{by-test}
 use Rattle.lists.proofs.Tests.{is-in}
 use Rattle.refusals.specs.Refusals.{blank-voxel, number, givenRefusal, listedNumbers}
-use Rattle.refusals.proofs.RefusalLaws.{given-listed}
+use Rattle.refusals.proofs.RefusalLaws.{given-listed, outcome-refusal}
 use Rattle.cells.specs.Box.{Triple}
 use Rattle.labeller.specs.Labelling as labeller
 use Rattle.labeller.proofs.OneBlock.{label-refusal}
@@ -40,10 +37,6 @@ seven-unlisted (call s c) = refl
 seven-unlisted (about-readings s w c) = refl
 seven-unlisted (program t) = refl
 
--- accepted or refused, an answer has the number of the refusal
-refusal-kept : {A : Type 0} (refusal : A → ℕ) (n : ℕ) (accepted refused : A) → refusal accepted ≡ 0 → refusal refused ≡ n → refusal (cond (eqb n 0) accepted refused) ≡ n
-refusal-kept refusal n accepted refused a r = by-test (eqb n 0) (λ t. rw t (a ∙ sym (eqb-true n 0 t))) (λ t. rw t r)
-
 -- the number of the line `refused`, 0 for a listing
 abbrev shown : Task → ℕ
 shown (Task.PrintRefused n) = n
@@ -51,15 +44,15 @@ shown (Task.ListVolume x y z) = 0
 
 task-shown : (n : ℕ) (e : Triple) → shown (taskOf n e) ≡ n
 unfolding taskOf
-task-shown n e = refusal-kept shown n _ _ refl refl
+task-shown n e = outcome-refusal shown n refl refl refl
 
 -- What is answered is what the list of cases gives.
 pub answers-cases : (a : PublicCall) (n : ℕ) → Answers a n → n ≡ givenRefusal (casesOf a)
 unfolding casesOf labeller.refusalOf maxima.mostComponents maxima.accepted maxima.refused maxima.refusalOf writer.writing writer.accepted writer.refused writer.refusalOf reader.reading reader.accepted reader.refused reader.refusalOf openingRefusal joiner.refusal strainRefusal textRefusal
 answers-cases (label e codes m w) n (r, m′, w′, p, i) = i ∙ label-refusal e codes m w r m′ w′ p
-answers-cases (most-components e) n (r, p, i) = i ∙ ap (λ (a : Most). a .refusal) p ∙ refusal-kept (λ (a : Most). a .refusal) _ _ _ refl refl
-answers-cases (write-record e o m t) n (r, t′, p, i) = i ∙ ap (λ (a : writer.Outcome). a .answer .refusal) p ∙ refusal-kept (λ (a : writer.Outcome). a .answer .refusal) _ _ _ refl refl
-answers-cases (read-record b t) n (r, t′, p, i) = i ∙ ap (λ (a : reader.Outcome). a .answer .refusal) p ∙ refusal-kept (λ (a : reader.Outcome). a .answer .refusal) _ _ _ refl refl
+answers-cases (most-components e) n (r, p, i) = i ∙ outcome-refusal (λ (a : Most). a .refusal) _ refl refl p
+answers-cases (write-record e o m t) n (r, t′, p, i) = i ∙ outcome-refusal (λ (a : writer.Outcome). a .answer .refusal) _ refl refl p
+answers-cases (read-record b t) n (r, t′, p, i) = i ∙ outcome-refusal (λ (a : reader.Outcome). a .answer .refusal) _ refl refl p
 answers-cases (opening o lent w) n (s, v, p) = p .told
 answers-cases (call s c) n (a, t, p, i) = i ∙ p .told
 answers-cases (about-readings s w c) n (a, v, p, i) = i ∙ p .told

@@ -9,9 +9,9 @@ use lib.Dec.{eqb, leb, ltb}
 use lib.ListN.{length, take, drop}
 use lib.Seq.{take-at}
 use borrow.Author.Tests.{eqb-true, eq-eqb, le-leb, le-ltb, leb-true, ltb-false, not-false}
-use Rattle.lists.proofs.Cases.{by-test, neither}
+use Rattle.lists.proofs.Cases.{neither}
 use Rattle.refusals.specs.Refusals.{off-size, wrong-tray, bad-record, number, table, first, givenBy, standsIn}
-use Rattle.refusals.proofs.RefusalLaws.{given-none}
+use Rattle.refusals.proofs.RefusalLaws.{outcome-refusal, given-none}
 use Rattle.cells.specs.Box.{Triple, Axis, coord}
 use Rattle.cells.specs.Extents.{offPlace}
 use Rattle.cells.specs.Grid.{cells}
@@ -56,12 +56,8 @@ module _ (e o : Triple) (m t : List ℕ) where
 
   -- A promise with refusal 0 is that of an accepted call.
   no-refusal : (a : Written) (t′ : List ℕ) → w.outcome a t′ ≡ w.writing e o m t → a .refusal ≡ 0 → w.refusalOf e o m (length t) ≡ 0
-  unfolding w.writing w.refused
-  no-refusal a t′ promise fine =
-      by-test (eqb (w.refusalOf e o m (length t)) 0) (λ u. eqb-true _ _ u)
-      (λ u.
-      let k : w.writing e o m t ≡ w.refused (w.refusalOf e o m (length t)) t = rw u in
-      sym (ap (λ (x : w.Outcome). x .answer .refusal) (promise ∙ k)) ∙ fine)
+  unfolding w.writing w.accepted w.refused
+  no-refusal a t′ promise fine = sym (outcome-refusal (λ (x : w.Outcome). x .answer .refusal) (w.refusalOf e o m (length t)) refl refl promise) ∙ fine
 
 -- ---- the reader
 
@@ -95,12 +91,8 @@ module _ (b t : List ℕ) where
   accepted-reading z = rw (eq-eqb (r.refusalOf b (length t)) 0 z)
 
   no-decline : (a : Head) (t′ : List ℕ) → r.outcome a t′ ≡ r.reading b t → a .refusal ≡ 0 → r.refusalOf b (length t) ≡ 0
-  unfolding r.reading r.refused
-  no-decline a t′ promise fine =
-      by-test (eqb (r.refusalOf b (length t)) 0) (λ u. eqb-true _ _ u)
-      (λ u.
-      let k : r.reading b t ≡ r.refused (r.refusalOf b (length t)) t = rw u in
-      sym (ap (λ (x : r.Outcome). x .answer .refusal) (promise ∙ k)) ∙ fine)
+  unfolding r.reading r.accepted r.refused
+  no-decline a t′ promise fine = sym (outcome-refusal (λ (x : r.Outcome). x .answer .refusal) (r.refusalOf b (length t)) refl refl promise) ∙ fine
 
 -- ---- the theorems
 

@@ -166,8 +166,8 @@ OrderFree =
     → TotalRead o own values kinds n T′
     → T ≡ T′
 
--- Cutting leaves no trace in the totals: where the blocks are those of one volume with these codes, and each voxel's reading is `reading` of its number in the volume in every block that has
--- it, the totals are those of the uncut volume, whatever the cutting and the order of blocks.
+-- Cutting leaves no trace in the totals: where the blocks are those of one volume with these codes, and the reading of each voxel that is not outside is `reading` of its number in the
+-- volume in every block that has it, the totals are those of the uncut volume, whatever the cutting and the order of blocks.
 abbrev pub CuttingFree : Type 0
 CuttingFree =
     (o : Told) (codes : List ℕ) (reading : ℕ → Reading) (own : ℕ → List ℕ) (values : ℕ → List Float) (kinds : ℕ → List ℕ) (n : ℕ) (T : Totals)
