@@ -1,10 +1,10 @@
--- Consecutive numbers, tables of a function's values, the entries that pass a test, and zeros.
+-- Consecutive numbers, tables of a function's values, the entries that pass a test, zeros, and what is written over a list.
 -- Assumes nothing.
 use mathlib.Core.Bool.{Bool, true, false, cond, not, _&&_, _||_}
-use mathlib.Core.List.{List, [], _∷_, map}
+use mathlib.Core.List.{List, [], _∷_, _++_, map}
 use Prim.Native.Nat.{ℕ, zero, suc, _+_}
 use lib.Dec.{eqb}
-use lib.ListN.{replicate, set}
+use lib.ListN.{length, replicate, set, take, drop}
 
 -- n numbers from i on.
 unfoldable pub consecutive : ℕ → ℕ → List ℕ
@@ -45,3 +45,7 @@ isIn xs x = someOf (λ y. eqb y x) xs
 unfoldable pub overlay : List ℕ → ℕ → (ℕ → ℕ) → ℕ → List ℕ
 overlay xs from f zero = xs
 overlay xs from f (suc n) = set (overlay xs from f n) (from + n) (f n)
+
+-- A list bs laid over xs from place p on; the other entries stay.
+unfoldable pub laid : ℕ → List ℕ → List ℕ → List ℕ
+laid p bs xs = take p xs ++ bs ++ drop (p + length bs) xs

@@ -10,7 +10,8 @@ use lib.Seq.{take-suc}
 use Rattle.lists.specs.Lists.{consecutive}
 use Rattle.lists.proofs.Lists.{consecutive-split}
 use Rattle.cells.specs.Box.{Triple}
-use Rattle.text.specs.Listing.{decimal, spaced, line, linesFor}
+use Rattle.decimals.specs.Decimals.{decimal}
+use Rattle.text.specs.Listing.{spaced, line, linesFor}
 
 -- ---- numbers
 

@@ -1,8 +1,8 @@
 -- Numbers as bytes and as bits, the lowest first ("all fields are little-endian", "lowest bit first in each byte").
 -- Assumes nothing.
-use mathlib.Core.List.{List, [], _∷_, _++_}
+use mathlib.Core.List.{List, [], _∷_}
 use Prim.Native.Nat.{ℕ, zero, suc, _+_, _*_, _/_, _%_}
-use lib.ListN.{length, take, drop}
+use lib.ListN.{take, drop}
 
 -- x in n bytes.
 unfoldable pub bytes : ℕ → ℕ → List ℕ
@@ -22,7 +22,3 @@ fieldAt r p n = value (take n (drop p r))
 unfoldable pub packed : List ℕ → ℕ
 packed [] = 0
 packed (b ∷ bs) = b + 2 * packed bs
-
--- Bytes bs laid over a tray from place p on; the others stay.
-unfoldable pub laid : ℕ → List ℕ → List ℕ → List ℕ
-laid p bs t = take p t ++ bs ++ drop (p + length bs) t

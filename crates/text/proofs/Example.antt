@@ -4,6 +4,7 @@ use mathlib.Core.Path.{_≡_, refl}
 use mathlib.Core.List.{List, [], _∷_, _++_}
 use Prim.Native.Nat.{ℕ}
 use Rattle.lists.specs.Lists.{consecutive, tabulate}
+use Rattle.decimals.specs.Decimals.{decimalIn, decimal}
 use Rattle.closure.specs.Joined.{mergeIds, joinClasses, joins, rep}
 use Rattle.closure.specs.Numbered.{countBelow, leader, numberBy, label}
 use Rattle.refusals.specs.Refusals.{number as refusal-number, table, first, givenBy, standsIn}
@@ -15,7 +16,7 @@ use Rattle.labels.specs.Number.{pairs, alike, edgesAt, orderBelow, edges, activ
 use Rattle.labels.specs.Components.{ofOrder, largest, component, firstCell, rowAtFirst, componentRow}
 use Rattle.text.specs.Words.{gap, digit, ended, wordsFrom, wordsOf, allDigits, valueFrom, spelled, isNumber}
 use Rattle.text.specs.Request.{numbers, word, readable, extentsIn, codesIn, formed, declinesText, textRefusal, askedExtents, askedCodes}
-use Rattle.text.specs.Listing.{decimalIn, decimal, spaced, letter, width, coordinates, line, linesFor, linesOf, heading, listing, refusedLine, printed}
+use Rattle.text.specs.Listing.{spaced, letter, width, coordinates, line, linesFor, linesOf, heading, listing, refusedLine, printed}
 
 -- `2 2 1 1 1 2 3` and a line end.
 unfoldable pub example : List ℕ

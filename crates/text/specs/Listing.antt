@@ -2,24 +2,16 @@
 -- Assumes nothing.
 use mathlib.Core.Bool.{cond}
 use mathlib.Core.List.{List, [], _∷_, _++_}
-use Prim.Native.Nat.{ℕ, zero, suc, _+_, _-_, _*_, _/_, _%_}
-use lib.Dec.{eqb, ltb}
+use Prim.Native.Nat.{ℕ, _-_, _*_}
+use lib.Dec.{eqb}
 use lib.ListN.{getD, take}
 use Rattle.lists.specs.Lists.{consecutive}
+use Rattle.decimals.specs.Decimals.{decimal}
 use Rattle.cells.specs.Box.{Triple, place}
 use Rattle.cells.specs.Grid.{sides}
 use Rattle.labels.specs.Number.{labels}
 use Rattle.labels.specs.Components.{largest, firstCell, componentRow}
 use Rattle.text.specs.Request.{textRefusal, askedExtents, askedCodes}
-
--- The decimal digits of n, in at most f places.
-unfoldable pub decimalIn : ℕ → ℕ → List ℕ
-decimalIn zero n = []
-decimalIn (suc f) n = cond (ltb n 10) ((48 + n) ∷ []) (decimalIn f (n / 10) ++ ((48 + n % 10) ∷ []))
-
--- A number of 32 bits has at most ten digits.
-unfoldable pub decimal : ℕ → List ℕ
-decimal n = decimalIn 10 n
 
 -- Numbers, each after a space.
 unfoldable pub spaced : List ℕ → List ℕ

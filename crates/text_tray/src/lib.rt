@@ -2,7 +2,8 @@
 ghost use mathlib.Core.Path.{_≡_};
 ghost use mathlib.Core.List.{[], _∷_, _++_};
 ghost use Prim.Native.Nat.{_+_, _<_};
-ghost use Rattle.text.specs.Listing.{decimal, spaced};
+ghost use Rattle.decimals.specs.Decimals.{decimal};
+ghost use Rattle.text.specs.Listing.{spaced};
 ghost use Rattle.text_tray.specs.Sunk.{state, sunk};
 
 const SPACE: u8 = 32;

@@ -11,9 +11,10 @@ use lib.Dec.{eqb, ltb}
 use lib.ListN.{length, getD, take, drop, set, drop-of-length-le, length-append, length-drop}
 use lib.Seq.{drop-cons, take-all}
 use borrow.Author.Tests.{eqb-true, eq-eqb, ne-eqb, ltb-false, lt-ltb, le-ltb, not-false}
-use Rattle.lists.specs.Lists.{consecutive, tabulate}
+use Rattle.lists.specs.Lists.{consecutive, tabulate, laid}
 use Rattle.lists.proofs.Cases.{by-test, neither}
 use Rattle.lists.proofs.Lists.{length-tabulate, tabulate-snoc, drop-down}
+use Rattle.lists.proofs.Laid.{length-laid, laid-append, laid-none, laid-more, laid-front}
 use Rattle.cells.specs.Box.{Triple}
 use Rattle.cells.specs.Extents.{offPlace}
 use Rattle.cells.specs.Grid.{cells}
@@ -21,9 +22,9 @@ use Rattle.cells.proofs.ExtentLaws.{cells-high}
 use Rattle.extents.proofs.SizeLaws.{sized-at}
 use Rattle.refusals.specs.Refusals.{off-size, wrong-tray, number, table, first, givenBy, listedNumbers, standsIn}
 use Rattle.refusals.proofs.RefusalLaws.{given-none}
-use Rattle.records.specs.Fields.{packed, laid}
+use Rattle.records.specs.Fields.{packed}
 use Rattle.records.specs.Record.{headBytes, bit, mapByte, bitmapLength, bitmap, listed, encodeRecord}
-use Rattle.records.proofs.LaidLaws.{length-laid, laid-append, laid-none, laid-more, laid-front, laid-encode, listed-next, length-next, encode-length}
+use Rattle.records.proofs.LaidLaws.{laid-encode, listed-next, length-next, encode-length}
 use Rattle.writer.specs.Inner.{byteOf, Ready}
 use Rattle.writer.specs.Writing.{declines, refusalOf, outcome, accepted, refused, writing}
 

@@ -2,8 +2,8 @@
 use Prim.Native.Nat.{ℕ, _<_}
 use native.Mathlib.Omega.{arith}
 use borrow.Author.Needs.{needs}
+use Rattle.decimals.proofs.DecimalLaws.{decimal-low, decimal-high}
 use Rattle.text_tray.proofs.SinkLaws.{sunk-then}
-use Rattle.text_tray.proofs.NumberLaws.{decimal-low, decimal-high}
 use Rattle.text_tray.proofs.put_digit.Reads as put-digit-reads
 use borrow.Fn.Kinds.{In}
 use borrow.Fn.PlainCycle.{Measures, is, falls, and}

@@ -3,7 +3,7 @@ use native.Mathlib.Omega.{arith}
 use lib.ListN.{length-set}
 use borrow.Author.Needs.{needs}
 use Rattle.records.specs.Fields.{bytes}
-use Rattle.records.proofs.LaidLaws.{laid-four}
+use Rattle.lists.proofs.Laid.{laid-four}
 use Rattle.writer.proofs.put_four.Statement.{statement}
 use Rattle.writer.proofs.put_four.Tie as tie
 

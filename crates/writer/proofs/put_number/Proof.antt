@@ -5,8 +5,9 @@ use mathlib.Core.List.{List}
 use native.Mathlib.Omega.{arith}
 use lib.ListN.{length}
 use borrow.Author.Needs.{needs}
-use Rattle.records.specs.Fields.{laid}
-use Rattle.records.proofs.LaidLaws.{laid-none, listed-zero, listed-one}
+use Rattle.lists.specs.Lists.{laid}
+use Rattle.lists.proofs.Laid.{laid-none}
+use Rattle.records.proofs.LaidLaws.{listed-zero, listed-one}
 use Rattle.records.proofs.FieldLaws.{length-bytes}
 use Rattle.writer.proofs.put_number.Statement.{statement}
 use Rattle.writer.proofs.put_number.Tie as tie

@@ -3,7 +3,7 @@ use native.Mathlib.Omega.{arith}
 use lib.ListN.{length-set}
 use borrow.Author.Needs.{needs}
 use Rattle.records.specs.Fields.{bytes}
-use Rattle.records.proofs.LaidLaws.{laid-two}
+use Rattle.lists.proofs.Laid.{laid-two}
 use Rattle.writer.proofs.put_two.Statement.{statement}
 use Rattle.writer.proofs.put_two.Tie as tie
 

@@ -4,8 +4,7 @@ use mathlib.Core.Path.{_≡_, refl, _∙_}
 use native.Mathlib.Omega.{arith}
 use lib.ListN.{length, length-set}
 use borrow.Author.Needs.{needs}
-use Rattle.lists.specs.Lists.{tabulate}
-use Rattle.records.specs.Fields.{laid}
+use Rattle.lists.specs.Lists.{tabulate, laid}
 use Rattle.records.specs.Record.{mapByte, bitmapLength}
 use Rattle.writer.proofs.WriteLaws.{bits-start, bits-more, bits-all}
 use Rattle.writer.proofs.write_bits.Statement.{statement}
