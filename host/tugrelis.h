@@ -18,7 +18,7 @@ enum tugrelis_refusal {
     TUGRELIS_OFF_SIZE = 1,      /* An extent is 0 or above its limit, or origin and extent together pass 1,024. */
     TUGRELIS_BAD_CUT = 2,       /* A cut list breaks its rule, or there are more than 16,384 blocks. */
     TUGRELIS_WRONG_STAGE = 3,   /* The step or reading belongs to another stage of the job, or a total is read before all readings have come. */
-    TUGRELIS_NO_SUCH_PLACE = 4, /* There is no such block, the pair is no seam, the cell is outside the block, or a component's number is 0 or too large. */
+    TUGRELIS_NO_SUCH_PLACE = 4, /* There is no such block, the pair is no seam, the cell is outside the block, the layer is not there, or a component's number is 0 or too large. */
     TUGRELIS_DONE_ALREADY = 5,  /* This block or seam has had this step in this stage. */
     TUGRELIS_WRONG_TRAY = 6,    /* A tray, map, list of codes or readings, or table has another length than the stated one, or the record tray is too short. */
     TUGRELIS_BLANK_VOXEL = 7,   /* Is no longer given: a code 0 is a voxel outside the specimen. */
@@ -33,6 +33,7 @@ enum tugrelis_refusal {
    codes           n_x n_y n_z, x fastest; 0 is outside the specimen
    map, work       cells
    record          12 + (cells + 7) / 8 + 4 * (cells whose number is not 0); the writer's tray may be longer
+   printed pages   81 * (2 n_y - 1) * ((2 n_x + 14) / 16): 81 bytes to a line, a line for each y, a page for every 16 cells
    cx, cy, cz      the cut lists: 0 first, the last voxel last, neighbours at most 63 apart; the single 0 for an extent of 1
 
    Of a job, with the entries that its opening was told:
@@ -87,6 +88,14 @@ uint32_t tugrelis_read_record(
     const uint8_t *bytes, size_t bytes_len,
     uint32_t *map, size_t map_len,
     uint16_t fields[6]);
+
+/* Prints the layer z of cells of a block's map: extents, z from 0 to 2 n_z - 2, map, tray for the pages. Each number is right-aligned in 5 columns, 0 is a
+   dot, above 99,999 are five hash signs, and places beyond the grid are blank; 16 cells and a line end, byte 10, to a line. Pages follow one another from
+   left to right, each with all lines. */
+uint32_t tugrelis_print_layer(
+    uint16_t nx, uint16_t ny, uint16_t nz, uint32_t z,
+    const uint32_t *map, size_t map_len,
+    uint8_t *tray, size_t tray_len);
 
 /* Opens a job: a place for the job, extents, entries, cut lists, all tables. Zeroes ticks, came, face_sums and face_counts. */
 uint32_t tugrelis_open(

@@ -32,6 +32,7 @@ mod exports {
             size: *mut usize,
         ) -> u32;
         pub fn tugrelis_read_record(bytes: *const u8, bytes_len: usize, map: *mut u32, map_len: usize, fields: *mut [u16; 6]) -> u32;
+        pub fn tugrelis_print_layer(nx: u16, ny: u16, nz: u16, z: u32, map: *const u32, map_len: usize, tray: *mut u8, tray_len: usize) -> u32;
         pub fn tugrelis_open(
             job: *mut [u32; 13],
             nx: u32,
@@ -340,6 +341,14 @@ pub fn write_record(nx: u16, ny: u16, nz: u16, ox: u16, oy: u16, oz: u16, map: &
 pub fn read_record(bytes: &[u8], map: &mut [u32], fields: &mut [u16; 6]) -> u32 {
     // SAFETY: every pointer comes from a slice or a reference, with its length.
     unsafe { exports::tugrelis_read_record(bytes.as_ptr(), bytes.len(), map.as_mut_ptr(), map.len(), fields) }
+}
+
+/// Prints the layer z of cells of a block's map: extents, z from 0 to 2 n_z - 2, map, tray for the pages. Each number is right-aligned in 5 columns, 0 is a
+/// dot, above 99,999 are five hash signs, and places beyond the grid are blank; 16 cells and a line end, byte 10, to a line. Pages follow one another from
+/// left to right, each with all lines.
+pub fn print_layer(nx: u16, ny: u16, nz: u16, z: u32, map: &[u32], tray: &mut [u8]) -> u32 {
+    // SAFETY: every pointer comes from a slice or a reference, with its length.
+    unsafe { exports::tugrelis_print_layer(nx, ny, nz, z, map.as_ptr(), map.len(), tray.as_mut_ptr(), tray.len()) }
 }
 
 /// Opens a job: a place for the job, extents, entries, cut lists, all tables. Zeroes ticks, came, face_sums and face_counts.

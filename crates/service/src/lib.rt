@@ -5,6 +5,7 @@ use job::Stage;
 use job_numbers::job_in;
 use job_numbers::keep;
 use labeller::label;
+use layer_printer::print_layer;
 use lists::read_or_zero;
 use maxima::most_components;
 use methods::Joining;
@@ -25,6 +26,7 @@ ghost use Rattle.labeller.specs.Labelling.{labelling};
 ghost use Rattle.writer.specs.Writing.{writing};
 ghost use Rattle.reader.specs.Loaded.{reading};
 ghost use Rattle.maxima.specs.Maxima.{mostComponents};
+ghost use Rattle.layer_printer.specs.Printing.{outcome, printing};
 ghost use Rattle.service.specs.Exports.{exported, export, exportedMost, exportMost, exportedWriting, exportWriting, exportedReading, exportReading};
 ghost use Rattle.job_numbers.specs.Numbers.{jobIn};
 ghost use Rattle.exports.specs.Exports.{ExportedOpening, ExportedStep, ExportedLookup, ExportedStrain, ExportedTotal, RowExported, sixOf};
@@ -98,6 +100,21 @@ pub extern "C" fn tugrelis_read_record(bytes: &[u8], map: &mut [u32], fields: &m
         fields[5] = r.oz;
     }
     r.refusal
+}
+
+// Prints a layer of a block's map; answers the refusal, 0 for none.
+#[no_mangle]
+pub extern "C" fn tugrelis_print_layer(
+    nx: u16,
+    ny: u16,
+    nz: u16,
+    z: u32,
+    map: &[u32],
+    tray: &mut [u8],
+) -> u32
+    ensures { λ r. ⌜ outcome r (now (tray .exit)) ≡ printing (triple nx ny nz) z (now (map .entry)) (now (tray .entry)) ⌝ }
+{
+    print_layer(nx, ny, nz, z, map, tray)
 }
 
 // Opens a job; answers the refusal, 0 for none, and stores the job.

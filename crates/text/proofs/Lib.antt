@@ -1,3 +1,4 @@
 -- The laws of the definitions in specs/.
 pub mod Example
+pub mod SpelledLaws
 pub mod CaseLaws

@@ -17,21 +17,24 @@ use Rattle.maxima.specs.declared.Most.{Most}
 use Rattle.maxima.specs.Maxima as maxima
 use Rattle.writer.specs.Writing as writer
 use Rattle.reader.specs.Loaded as reader
+use Rattle.layer_printer.specs.Printing as layer-printer
+use Rattle.layer_printer.proofs.PrintedLayer.{print-refusal}
 use Rattle.joiner.specs.Declines as joiner
 use Rattle.strain_calls.specs.Declines.{openingDeclines, openingRefusal, strainDeclines, strainRefusal}
 use Rattle.text.specs.Request.{declinesText, textRefusal, askedExtents}
 use Rattle.parser.specs.declared.Task.{Task}
 use Rattle.parser.specs.Asked.{taskOf}
 use Rattle.parser.proofs.TextLaws.{text-read}
-use Rattle.theory_refusals.specs.PublicCalls.{PublicCall, label, most-components, write-record, read-record, opening, call, about-readings, program, casesOf, Answers}
+use Rattle.theory_refusals.specs.PublicCalls.{PublicCall, label, most-components, write-record, read-record, print-layer, opening, call, about-readings, program, casesOf, Answers}
 
 -- 7 is on no list.
 pub seven-unlisted : (a : PublicCall) → isIn (listedNumbers (casesOf a)) (number blank-voxel) ≡ false
-unfolding isIn listedNumbers number casesOf labeller.declines maxima.declines writer.declines reader.declines openingDeclines joiner.declines strainDeclines declinesText
+unfolding isIn listedNumbers number casesOf labeller.declines maxima.declines writer.declines reader.declines layer-printer.declines openingDeclines joiner.declines strainDeclines declinesText
 seven-unlisted (label e codes m w) = refl
 seven-unlisted (most-components e) = refl
 seven-unlisted (write-record e o m t) = refl
 seven-unlisted (read-record r t) = refl
+seven-unlisted (print-layer e z m t) = refl
 seven-unlisted (opening o lent w) = refl
 seven-unlisted (call s c) = refl
 seven-unlisted (about-readings s w c) = refl
@@ -48,11 +51,12 @@ task-shown n e = outcome-refusal shown n refl refl refl
 
 -- What is answered is what the list of cases gives.
 pub answers-cases : (a : PublicCall) (n : ℕ) → Answers a n → n ≡ givenRefusal (casesOf a)
-unfolding casesOf labeller.refusalOf maxima.mostComponents maxima.accepted maxima.refused maxima.refusalOf writer.writing writer.accepted writer.refused writer.refusalOf reader.reading reader.accepted reader.refused reader.refusalOf openingRefusal joiner.refusal strainRefusal textRefusal
+unfolding casesOf labeller.refusalOf maxima.mostComponents maxima.accepted maxima.refused maxima.refusalOf writer.writing writer.accepted writer.refused writer.refusalOf reader.reading reader.accepted reader.refused reader.refusalOf layer-printer.refusalOf openingRefusal joiner.refusal strainRefusal textRefusal
 answers-cases (label e codes m w) n (r, m′, w′, p, i) = i ∙ label-refusal e codes m w r m′ w′ p
 answers-cases (most-components e) n (r, p, i) = i ∙ outcome-refusal (λ (a : Most). a .refusal) _ refl refl p
 answers-cases (write-record e o m t) n (r, t′, p, i) = i ∙ outcome-refusal (λ (a : writer.Outcome). a .answer .refusal) _ refl refl p
 answers-cases (read-record b t) n (r, t′, p, i) = i ∙ outcome-refusal (λ (a : reader.Outcome). a .answer .refusal) _ refl refl p
+answers-cases (print-layer e z m t) n (t′, p) = print-refusal e z m t t′ n p
 answers-cases (opening o lent w) n (s, v, p) = p .told
 answers-cases (call s c) n (a, t, p, i) = i ∙ p .told
 answers-cases (about-readings s w c) n (a, v, p, i) = i ∙ p .told

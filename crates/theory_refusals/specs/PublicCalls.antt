@@ -14,6 +14,7 @@ use Rattle.writer.specs.declared.Written.{Written}
 use Rattle.writer.specs.Writing as writer
 use Rattle.reader.specs.declared.Head.{Head}
 use Rattle.reader.specs.Loaded as reader
+use Rattle.layer_printer.specs.Printing as layer-printer
 use Rattle.joiner.specs.Job.{Told, Tables, State}
 use Rattle.joiner.specs.Calls.{Call, Answer}
 use Rattle.joiner.specs.Declines as joiner
@@ -36,6 +37,8 @@ pub data PublicCall : Type 0 where
   write-record : Triple → Triple → List ℕ → List ℕ → PublicCall
   -- a record and the map tray
   read-record : List ℕ → List ℕ → PublicCall
+  -- extents, layer, map and the tray for the pages
+  print-layer : Triple → ℕ → List ℕ → List ℕ → PublicCall
   -- what it is told, the nineteen tables, the three of the readings
   opening : Told → Tables → TotalTables → PublicCall
   -- enrol, seam, crossing, point, lookup or row
@@ -51,6 +54,7 @@ casesOf (label e codes m w) = labeller.declines e (length codes) (length m) (len
 casesOf (most-components e) = maxima.declines e
 casesOf (write-record e o m t) = writer.declines e o m (length t)
 casesOf (read-record r t) = reader.declines r (length t)
+casesOf (print-layer e z m t) = layer-printer.declines e z m (length t)
 casesOf (opening o lent w) = openingDeclines o lent w
 casesOf (call s c) = joiner.declines s c
 casesOf (about-readings s w c) = strainDeclines s w c
@@ -63,6 +67,7 @@ Answers (label e codes m w) n = (r : Labelled) × (m′ : List ℕ) × (w′ : L
 Answers (most-components e) n = (r : Most) × (r ≡ maxima.mostComponents e) × (n ≡ r .refusal)
 Answers (write-record e o m t) n = (r : Written) × (t′ : List ℕ) × (writer.outcome r t′ ≡ writer.writing e o m t) × (n ≡ r .refusal)
 Answers (read-record b t) n = (r : Head) × (t′ : List ℕ) × (reader.outcome r t′ ≡ reader.reading b t) × (n ≡ r .refusal)
+Answers (print-layer e z m t) n = (t′ : List ℕ) × (layer-printer.outcome n t′ ≡ layer-printer.printing e z m t)
 Answers (opening o lent w) n = (s : State) × (v : TotalTables) × TotalsOpening o lent w n s v
 Answers (call s c) n = (a : Answer) × (t : State) × CallStep s c a t × (n ≡ a .refusal)
 Answers (about-readings s w c) n = (a : StrainAnswer) × (v : TotalTables) × StrainStep s w c a v × (n ≡ a .refusal)

@@ -4,7 +4,7 @@ refusals! {
     1 OffSize "off size" "An extent is 0 or above its limit, or origin and extent together pass 1,024."
     2 BadCut "bad cut" "A cut list breaks its rule, or there are more than 16,384 blocks."
     3 WrongStage "wrong stage" "The step or reading belongs to another stage of the job, or a total is read before all readings have come."
-    4 NoSuchPlace "no such place" "There is no such block, the pair is no seam, the cell is outside the block, or a component's number is 0 or too large."
+    4 NoSuchPlace "no such place" "There is no such block, the pair is no seam, the cell is outside the block, the layer is not there, or a component's number is 0 or too large."
     5 DoneAlready "done already" "This block or seam has had this step in this stage."
     6 WrongTray "wrong tray" "A tray, map, list of codes or readings, or table has another length than the stated one, or the record tray is too short."
     7 BlankVoxel "blank voxel" "Is no longer given: a code 0 is a voxel outside the specimen."
