@@ -1,5 +1,5 @@
-/* Asks how many components a block can have, then labels and joins a volume of 3×2×1 voxels from two blocks and reads the strains on one of its faces, through tugrelis.h, in plain C. Every answer is checked; the first that is not as it
-   must be is printed, and the exit status is then 1.
+/* Asks how many components a block can have, then labels and joins a volume of 3×2×1 voxels from two blocks, prints a layer of the first one, and reads the strains on one of its faces, through tugrelis.h, in plain C.
+   Every answer is checked; the first that is not as it must be is printed, and the exit status is then 1.
 
        1 2 2      cut at x = 1 into    1 2    and    2 2
        3 4 4                           3 4           4 4
@@ -130,6 +130,20 @@ static void label(uint32_t block, const uint32_t codes[4], uint32_t map[CELLS], 
     printf("\n");
 }
 
+/* Prints the one layer of a block's cells: a page of three lines, of which the first three cells are shown; the other places are blank. */
+static void layer(const uint32_t map[CELLS]) {
+    uint8_t page[3 * 81] = {0};
+    uint32_t y;
+    expect("a layer that is not there", tugrelis_print_layer(2, 2, 1, 1, map, CELLS, SLICE(page)), TUGRELIS_NO_SUCH_PLACE);
+    expect("the page of a refused call", page[0], 0);
+    expect("print", tugrelis_print_layer(2, 2, 1, 0, map, CELLS, SLICE(page)), 0);
+    for (y = 0; y < 3; y++) {
+        expect("the last column", page[81 * y + 79], ' ');
+        expect("the line end", page[81 * y + 80], '\n');
+        printf("%.15s\n", (const char *)page + 81 * y);
+    }
+}
+
 /* Looks up every cell of the block, and compares it with the uncut volume. */
 static void look(const struct job *j, uint32_t block, const uint32_t map[CELLS], const uint32_t right[3][5]) {
     uint32_t x, y, number = 0;
@@ -169,6 +183,8 @@ int main(void) {
     for (b = 0; b < BLOCKS; b++) {
         label(b, codes[b], maps[b], maps_right[b]);
     }
+    printf("block 0, layer 0:\n");
+    layer(maps[0]);
     join(&job, maps);
 
     /* a refused call answers why, and changes nothing */

@@ -1,6 +1,7 @@
-//! Times of the proved labeller, writer and reader, and of the readings' step, beside plain Rust, in one run: medians of several rounds, as ratios.
+//! Times of the proved labeller, writer, reader and printer, and of the readings' step, beside plain Rust, in one run: medians of several rounds, as ratios.
 mod codec;
 mod joins;
+mod pages;
 mod plain;
 mod volume;
 
@@ -114,6 +115,28 @@ fn records(name: &str, map: &[u32]) {
     println!("{:<22} {:>8.1} {:>10.1} {:>8.2} {:>12.1} {:>10.1} {:>8.2}", name, a, b, a / b, c, d, c / d);
 }
 
+/// All layers of a block, each in turn into one tray.
+fn printing(name: &str, map: &[u32]) {
+    let (extents, layers) = ([SIDE as u16; 3], 2 * SIDE - 1);
+    let [nx, ny, nz] = extents;
+    let (mut tray, mut other) = (vec![9u8; 81 * layers * layers.div_ceil(16)], vec![9u8; 81 * layers * layers.div_ceil(16)]);
+    let proved = |z: usize, tray: &mut [u8]| assert_eq!(raw::print_layer(nx, ny, nz, z as u32, map, tray), 0);
+    let plain = |z: usize, tray: &mut [u8]| pages::print(extents, z as u32, map, tray).unwrap();
+    for z in 0..layers {
+        proved(z, &mut tray);
+        plain(z, &mut other);
+        assert!(tray == other, "{name}: the pages of layer {z} differ");
+    }
+    let mut times = [Vec::new(), Vec::new()];
+    for _ in 0..ROUNDS {
+        timed(&mut times[0], || (0..layers).for_each(|z| proved(z, &mut tray)));
+        timed(&mut times[1], || (0..layers).for_each(|z| plain(z, &mut other)));
+        assert!(tray == other, "{name}: the last pages differ");
+    }
+    let [a, b] = times.map(median);
+    println!("{:<22} {:>8.1} {:>10.1} {:>8.2}", name, a, b, a / b);
+}
+
 fn main() {
     let words: Vec<String> = std::env::args().skip(1).collect();
     if let [k, stage] = &words[..] {
@@ -140,8 +163,12 @@ fn main() {
         maps.push((name, map));
     }
     println!("{:<22} {:>8} {:>10} {:>8} {:>12} {:>10} {:>8}", "records", "write", "plain", "ratio", "read", "plain", "ratio");
-    for (name, map) in maps {
-        records(name, &map);
+    for (name, map) in &maps {
+        records(name, map);
+    }
+    println!("{:<22} {:>8} {:>10} {:>8}", "all 127 layers", "print", "plain", "ratio");
+    for (name, map) in &maps {
+        printing(name, map);
     }
     println!("\n{:<22} {:>8} {:>10} {:>8} {:>12} {:>12} {:>20}", "readings", "proved", "plain", "ratio", "point step", "one pass", "proved/(both)");
     for (name, codes) in volumes() {

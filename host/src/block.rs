@@ -1,4 +1,4 @@
-//! One block: its labelling, how many components it can have, and its record.
+//! One block: its labelling, how many components it can have, its record, and its layers as text.
 use crate::raw;
 use crate::refusal::Refusal;
 
@@ -75,5 +75,16 @@ impl Block {
         Refusal::check(raw::read_record(record, &mut map, &mut fields))?;
         let [nx, ny, nz, ox, oy, oz] = fields;
         Ok((Block { extents: [nx, ny, nz], map }, [ox, oy, oz]))
+    }
+
+    /// Layer `z` of the block's cells as text, 0 to 2 n_z - 2: lines of 80 characters and a line end, 16 cells to a line, y = 0 first. A number stands
+    /// right-aligned in 5 columns, 0 is a dot, above 99,999 are five hash signs. A wider layer goes on over further pages, left to right, each with all lines.
+    pub fn print(&self, z: u32) -> Result<String, Refusal> {
+        let [nx, ny, nz] = self.extents;
+        let [width, height] = [nx, ny].map(|n| (2 * usize::from(n)).saturating_sub(1));
+        let size = if self.extents.iter().all(|&n| (1..=64).contains(&n)) { 81 * height * width.div_ceil(16) } else { 0 };
+        let mut tray = vec![0; size];
+        Refusal::check(raw::print_layer(nx, ny, nz, z, &self.map, &mut tray))?;
+        Ok(tray.into_iter().map(char::from).collect())
     }
 }

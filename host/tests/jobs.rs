@@ -59,6 +59,46 @@ fn records_come_back() {
     }
 }
 
+/// The pages of a layer by the second implementation.
+fn pages(block: &Block, z: u32) -> String {
+    let mut tray = vec![0; reference::pages::length(block.extents)];
+    reference::pages::print(block.extents, z, &block.map, &mut tray).unwrap();
+    String::from_utf8(tray).unwrap()
+}
+
+#[test]
+fn layers_are_printed() {
+    for v in volumes() {
+        for (block, _) in label_blocks(&v.cutting, &v.codes).unwrap() {
+            let layers = 2 * u32::from(block.extents[2]) - 1;
+            (0..layers).for_each(|z| assert_eq!(block.print(z), Ok(pages(&block, z)), "{}", v.name));
+            for z in [layers, layers + 1, u32::MAX] {
+                assert_eq!(block.print(z), Err(Refusal::NoSuchPlace));
+            }
+        }
+    }
+    // eight pages with numbers of every width
+    let codes: Vec<u32> = (1..=64 * 64 * 64).collect();
+    let (block, _) = Block::label([64; 3], &codes).unwrap();
+    (0..127).for_each(|z| assert_eq!(block.print(z).unwrap(), pages(&block, z)));
+    let line = |cells: &str| format!("{cells:<80}\n");
+    let (block, _) = Block::label([2, 2, 1], &[1, 1, 0, 100_000]).unwrap();
+    assert_eq!(block.print(0), Ok(line("    1    .    1") + &line("    1    1    2") + &line("    .    3#####")));
+}
+
+#[test]
+fn printings_that_are_declined() {
+    let block = |extents: [u16; 3], cells: usize| Block { extents, map: vec![5; cells] };
+    for extents in [[0, 1, 1], [1, 65, 1], [1, 1, 65_535], [0; 3]] {
+        assert_eq!(block(extents, 1).print(9), Err(Refusal::OffSize));
+    }
+    assert_eq!(block([2, 1, 1], 4).print(1), Err(Refusal::NoSuchPlace));
+    for cells in [0, 2, 4] {
+        assert_eq!(block([2, 1, 1], cells).print(0), Err(Refusal::WrongTray));
+    }
+    assert_eq!(block([2, 1, 1], 3).print(0), Ok(format!("{:<80}\n", "    5    5    5")));
+}
+
 #[test]
 fn what_is_declined() {
     assert_eq!(Block::label([0, 1, 1], &[]), Err(Refusal::OffSize));

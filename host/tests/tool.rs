@@ -1,10 +1,12 @@
-//! The command-line tool: one volume under ten cuttings gives one sheet, and failures leave nothing behind.
+//! The command-line tool: one volume under ten cuttings gives one sheet, layers are printed, and failures leave nothing behind.
+use reference::grid::Grid;
 use reference::label::number;
 use reference::random::Random;
+use reference::{codec, pages};
 use std::fs;
 use std::os::unix::ffi::OsStrExt;
 use std::path::{Path, PathBuf};
-use std::process::{Command, Output};
+use std::process::{Command, Output, Stdio};
 use tugrelis::volumes::{drill, voronoi};
 
 /// A new folder for one test.
@@ -137,6 +139,124 @@ fn failures_leave_nothing_behind() {
     fs::remove_dir_all(&dir).unwrap();
 }
 
+/// The pages of each layer of a record's block, by the second implementation.
+fn layers(record: &[u8]) -> Vec<String> {
+    let extents = [0, 2, 4].map(|k: usize| u16::from_le_bytes([record[k], record[k + 1]]));
+    let mut map = vec![0; Grid::new(extents.map(usize::from)).cells()];
+    codec::read(record, &mut map).unwrap();
+    let printed = |z: u32| {
+        let mut tray = vec![0; pages::length(extents)];
+        pages::print(extents, z, &map, &mut tray).unwrap();
+        String::from_utf8(tray).unwrap()
+    };
+    (0..2 * u32::from(extents[2]) - 1).map(printed).collect()
+}
+
+#[test]
+fn every_layer_of_every_record() {
+    let dir = folder("layers");
+    let (volume, out) = (dir.join("volume.raw"), dir.join("out"));
+    let mut codes = core([20, 9, 5], 12, 3);
+    (codes[100], codes[101]) = (99_999, 100_000);
+    write_volume(&volume, &codes);
+    assert!(tool(&[volume.to_str().unwrap(), "20", "9", "5", out.to_str().unwrap(), "--size", "12"]).status.success());
+    let records = ["block-00000.record", "block-00001.record"].map(|name| out.join(name));
+    for path in &records {
+        for (z, layer) in layers(&fs::read(path).unwrap()).iter().enumerate() {
+            let ran = tool(&["print", path.to_str().unwrap(), &z.to_string()]);
+            assert!(ran.status.success() && ran.stderr.is_empty());
+            assert_eq!(String::from_utf8(ran.stdout).unwrap(), *layer);
+        }
+    }
+    // 23 cells are two pages of 17 lines
+    assert_eq!(layers(&fs::read(&records[0]).unwrap())[0].lines().count(), 2 * 17);
+    fs::remove_dir_all(&dir).unwrap();
+}
+
+#[test]
+fn a_volume_that_is_called_print() {
+    let dir = folder("print");
+    write_volume(&dir.join("print"), &[1, 1, 2, 3]);
+    let here = |words: &[&str]| Command::new(env!("CARGO_BIN_EXE_tugrelis")).current_dir(&dir).args(words).output().unwrap();
+    assert!(here(&["./print", "2", "2", "1", "out"]).status.success());
+    let ran = here(&["print", "out/block-00000.record", "0"]);
+    let lines = ["    1    .    1", "    1    1    2", "    2    3    3"].map(|cells| format!("{cells:<80}\n"));
+    assert_eq!((ran.status.code(), String::from_utf8(ran.stdout).unwrap()), (Some(0), lines.concat()));
+    fs::remove_dir_all(&dir).unwrap();
+}
+
+/// A new folder for one test, and the record of a block of 2×2×1 voxels in it.
+fn with_record(name: &str) -> (PathBuf, PathBuf) {
+    let dir = folder(name);
+    let (volume, out) = (dir.join("volume.raw"), dir.join("out"));
+    write_volume(&volume, &[1, 1, 2, 3]);
+    assert!(tool(&[volume.to_str().unwrap(), "2", "2", "1", out.to_str().unwrap()]).status.success());
+    (dir, out.join("block-00000.record"))
+}
+
+#[test]
+fn printings_that_are_refused() {
+    let (dir, good) = with_record("refused");
+    let bytes = fs::read(&good).unwrap();
+    let [short, off_size, long, missing] = ["short", "off-size", "long", "missing"].map(|name| dir.join(name));
+    fs::write(&short, &bytes[..bytes.len() - 1]).unwrap();
+    fs::write(&off_size, [&[65], &bytes[1..]].concat()).unwrap();
+    // a record and then a terabyte of zeros, which must not be read to its end
+    fs::write(&long, &bytes).unwrap();
+    fs::File::options().write(true).open(&long).unwrap().set_len(1 << 40).unwrap();
+    for (record, z, message) in [
+        (&good, "1", "block-00000.record: layer 1: refused 4 (no such place)"),
+        (&good, "4294967295", "block-00000.record: layer 4294967295: refused 4 (no such place)"),
+        (&off_size, "1", "off-size: refused 1 (off size)"),
+        (&short, "1", "short: refused 11 (bad record)"),
+        (&long, "0", "long: refused 11 (bad record)"),
+        (&missing, "0", "missing: "),
+        (&dir, "0", "tugrelis-refused-"),
+    ] {
+        fails(&dir, &["print", record.to_str().unwrap(), z], 1, message);
+    }
+    fs::remove_dir_all(&dir).unwrap();
+}
+
+#[test]
+fn command_lines_of_print() {
+    let (dir, record) = with_record("lines");
+    let r = record.to_str().unwrap();
+    for (words, message) in [
+        (vec!["print"], "print takes RECORD and Z"),
+        (vec!["print", r], "print takes RECORD and Z"),
+        (vec!["print", r, "0", "1"], "print takes RECORD and Z"),
+        (vec!["print", "2", "2", "1", "out"], "print takes RECORD and Z"),
+        (vec!["print", r, "top"], "'top' is no layer"),
+        (vec!["print", r, "-1"], "'-1' is no layer"),
+        (vec!["print", r, "4294967296"], "'4294967296' is no layer"),
+        (vec!["print", r, "0", "--size", "2"], "'--size' is no option of print"),
+        (vec!["print", "--cut", "0"], "'--cut' is no option of print"),
+        (vec!["print", r, "0", "--page"], "'--page' is no option"),
+    ] {
+        fails(&dir, &words, 2, message);
+        fails(&dir, &words, 2, "; see tugrelis --help\n");
+    }
+    fs::remove_dir_all(&dir).unwrap();
+}
+
+#[test]
+fn a_pipe_that_nobody_reads() {
+    let (dir, record) = with_record("pipe");
+    for words in [vec!["print", record.to_str().unwrap(), "0"], vec!["--help"], vec!["--version"]] {
+        // the pipe to a program that has ended
+        let mut ended = Command::new("true").stdin(Stdio::piped()).spawn().unwrap();
+        let pipe = ended.stdin.take().unwrap();
+        ended.wait().unwrap();
+        let run = Command::new(env!("CARGO_BIN_EXE_tugrelis")).args(&words).stdout(pipe).stderr(Stdio::piped()).spawn();
+        let ran = run.unwrap().wait_with_output().unwrap();
+        let said = String::from_utf8(ran.stderr).unwrap();
+        assert!(ran.status.code() == Some(1) && said.lines().count() == 1, "{words:?}: {said}");
+        assert!(said.starts_with("tugrelis: standard output: "), "{words:?}: {said}");
+    }
+    fs::remove_dir_all(&dir).unwrap();
+}
+
 #[test]
 fn help_and_version() {
     let said = |words: &[&str]| {
@@ -147,7 +267,9 @@ fn help_and_version() {
     assert_eq!(said(&["--version"]), concat!("tugrelis ", env!("CARGO_PKG_VERSION"), "\n"));
     let help = said(&["--help"]);
     assert_eq!(help, said(&["volume.raw", "2", "--help"]));
-    for word in ["VOLUME", "NX NY NZ", "FOLDER", "--size N", "--cut X-LIST Y-LIST Z-LIST", "--help", "--version"] {
+    for word in ["VOLUME", "NX NY NZ", "FOLDER", "--size N", "--cut X-LIST Y-LIST Z-LIST", "print ", "RECORD", "Z ", "--help", "--version"] {
         assert_eq!(help.lines().filter(|l| l.trim_start().starts_with(word)).count(), 1, "{word}");
     }
+    assert!(help.contains("\n       tugrelis print RECORD Z\n"));
+    assert_eq!(help, said(&["print", "--help"]));
 }

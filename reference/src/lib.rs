@@ -8,6 +8,7 @@ pub mod label;
 pub mod listing;
 pub mod maxima;
 pub mod outcome;
+pub mod pages;
 pub mod random;
 pub mod samples;
 pub mod strain;

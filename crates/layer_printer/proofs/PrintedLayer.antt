@@ -15,7 +15,7 @@ use Rattle.cells.specs.Grid.{sides, cells}
 use Rattle.cells.proofs.ExtentLaws.{cells-are}
 use Rattle.layer_printer.specs.Printed.{cellLine, mapLayer, printedLayer}
 use Rattle.layer_printer.specs.Printing.{refusalOf, Outcome, outcome, printing}
-use Rattle.layer_printer.specs.Places.{LaidOut, layerNumber}
+use Rattle.layer_printer.specs.Places.{Owner, IsOwner, placeOf, ownerAt, LaidOut, layerNumber}
 use Rattle.layer_printer.proofs.PrintLaws.{ready-of}
 use Rattle.layer_printer.proofs.PlaceLaws.{pages-laid-out}
 
@@ -49,6 +49,10 @@ printed-laid-out e z m hz l =
     let h : ℕ = 2 * e .y - 1 in
     let room : w * h * z + w * h ≤ length m = omega (arith, cells-are e, listed-room (w * h) (2 * e .z - 1) z hz) in
     pages-laid-out w h (take (w * h) (drop (w * h * z) m)) (layerNumber e z m) (line-long w h z m room) (line-holds w h z m room)
+
+-- No two owners stand at one place.
+pub one-owner : {w h : ℕ} {number : ℕ → ℕ → ℕ} {text : List ℕ} → LaidOut w h number text → (a b : Owner) → IsOwner w h a → IsOwner w h b → placeOf w h a ≡ placeOf w h b → a ≡ b
+one-owner {w} {h} l a b p q e = sym (l .owner a p) ∙ ap (ownerAt w h) e ∙ l .owner b q
 
 -- ---- from the promise of `print_layer`
 

@@ -1,4 +1,5 @@
-//! Labels and joins a whole volume: HELP tells what the tool takes and leaves. Memory is needed for the tables and for one or two blocks at a time.
+//! Labels and joins a whole volume, or prints a layer of one of its blocks: HELP tells what the tool takes and leaves. Memory is needed for the tables and for
+//! one or two blocks at a time.
 use std::fs::{self, File};
 use std::io::{BufWriter, Read, Seek, SeekFrom, Write};
 use std::path::{Path, PathBuf};
@@ -7,9 +8,10 @@ use tugrelis::sheet::write_sheet;
 use tugrelis::{Block, Cutting, Entries, Error, Job};
 
 const HELP: &str = "\
-Labels and joins a whole volume.
+Labels and joins a whole volume, or prints a layer of one of its blocks.
 
 usage: tugrelis VOLUME NX NY NZ FOLDER [--size N | --cut X-LIST Y-LIST Z-LIST]
+       tugrelis print RECORD Z
 
   VOLUME      a file of little-endian 32-bit codes, x fastest; 0 is outside the specimen
   NX NY NZ    the extents of the volume in voxels
@@ -17,17 +19,27 @@ usage: tugrelis VOLUME NX NY NZ FOLDER [--size N | --cut X-LIST Y-LIST Z-LIST]
   --size N    blocks of at most N voxels on each axis, 2 to 64; 64 if nothing is said
   --cut X-LIST Y-LIST Z-LIST
               blocks cut where the lists say: numbers parted by commas, 0 first, the last voxel last
+  print       prints a layer of a block's map; a volume that is called print is named ./print
+  RECORD      the block's record
+  Z           the layer of cells: 0 to 2n - 2 for a block of n voxels in z
   --help      prints this
   --version   prints the version
+
+A printed page has 16 cells to a line, the first line for y = 0. Layers that are wider go on over further pages, left to right. A number has 5 columns;
+0 is a dot, above 99,999 are five hash signs.
 
 Exit status: 0; 1 for a refusal or a bad file, and then nothing is left behind; 2 for a command line that it does not take.";
 
 const VERSION: &str = concat!("tugrelis ", env!("CARGO_PKG_VERSION"));
 
+/// The bytes of the longest record: 64×64×64 voxels, and a number for each of the 127×127×127 cells.
+const LONGEST: u64 = 12 + 127u64.pow(3).div_ceil(8) + 4 * 127u64.pow(3);
+
 /// What the command line asks for.
 enum Asked {
-    Print(&'static str),
+    Tell(&'static str),
     Label(Task),
+    Print { record: PathBuf, z: u32 },
 }
 
 struct Task {
@@ -56,13 +68,26 @@ fn cutting(extents: [u32; 3], words: &[String]) -> Result<Cutting, Error> {
     }
 }
 
+/// What is printed, by the words after `print`.
+fn layer(words: &[String]) -> Result<Asked, Error> {
+    if let Some(option) = words.iter().find(|w| w.starts_with("--")) {
+        return usage(format!("'{option}' is no option of print"));
+    }
+    let [record, z] = words else { return usage("print takes RECORD and Z".into()) };
+    let z = z.parse().or_else(|_| usage(format!("'{z}' is no layer")))?;
+    Ok(Asked::Print { record: record.into(), z })
+}
+
 fn asked(words: &[String]) -> Result<Asked, Error> {
     if let Some(option) = words.iter().find(|w| w.starts_with("--") && !["--size", "--cut"].contains(&w.as_str())) {
         return match option.as_str() {
-            "--help" => Ok(Asked::Print(HELP)),
-            "--version" => Ok(Asked::Print(VERSION)),
+            "--help" => Ok(Asked::Tell(HELP)),
+            "--version" => Ok(Asked::Tell(VERSION)),
             _ => usage(format!("'{option}' is no option")),
         };
+    }
+    if words.first().is_some_and(|word| word == "print") {
+        return layer(&words[1..]);
     }
     let [volume, nx, ny, nz, folder, rest @ ..] = words else { return usage("VOLUME, NX, NY, NZ and FOLDER are needed".into()) };
     let extent = |w: &String| w.parse().or_else(|_| usage(format!("'{w}' is no extent")));
@@ -227,12 +252,27 @@ fn label(task: &Task) -> Result<(), Error> {
     outcome
 }
 
+/// The pages of a layer of a record's block. A file that is longer than any record is not read to its end.
+fn pages(record: &Path, z: u32) -> Result<String, Error> {
+    let mut bytes = Vec::new();
+    File::open(record)?.take(LONGEST + 1).read_to_end(&mut bytes)?;
+    let (block, _) = Block::read(&bytes)?;
+    block.print(z).map_err(at(format_args!("layer {z}")))
+}
+
+/// Writes to standard output.
+fn tell(text: &str) -> Result<(), Error> {
+    let mut out = std::io::stdout();
+    out.write_all(text.as_bytes()).and_then(|()| out.flush()).map_err(at("standard output"))
+}
+
 fn run() -> Result<(), Error> {
     let told = |word: std::ffi::OsString| word.into_string().or_else(|word| usage(format!("{word:?} is no text")));
     let words = std::env::args_os().skip(1).map(told).collect::<Result<Vec<_>, _>>()?;
     match asked(&words)? {
-        Asked::Print(text) => Ok(writeln!(std::io::stdout(), "{text}")?),
+        Asked::Tell(text) => tell(&format!("{text}\n")),
         Asked::Label(task) => label(&task),
+        Asked::Print { record, z } => tell(&pages(&record, z).map_err(at(record.display()))?),
     }
 }
 

@@ -1,12 +1,13 @@
 //! Compares the proved code with the second implementation over seeded random blocks.
 //! Usage: compare SEED BLOCKS [--spoil WHAT]. With --spoil one answer of the proved code to WHAT is changed before it is
 //! compared, which must be reported. After 1,000 blocks or more come one of 64×64×64, all extents up to 5 with the most
-//! components that a search finds, and 64×64×64 with all codes different. Exits 1 if anything differs, and prints the first
-//! difference.
+//! components that a search finds, 64×64×64 with all codes different, and printed layers of every width. Exits 1 if anything
+//! differs, and prints the first difference.
 use reference::codec::{self, Head};
 use reference::grid::Grid;
 use reference::label;
 use reference::maxima::{different, most, search};
+use reference::pages;
 use reference::random::{damage, volume, Random};
 use std::collections::BTreeMap;
 use std::fmt::{Debug, Write};
@@ -14,11 +15,15 @@ use std::ops::Not;
 use std::slice::from_mut;
 use tugrelis::raw;
 
-/// What is compared, by the names that --spoil takes: an entry's refusal by the entry's name (label, most, write, read), and what it leaves by a name of its own.
-const WHATS: [&str; 12] = ["label", "counts", "map", "work", "most", "maxima", "write", "length", "record", "read", "fields", "back"];
+/// What is compared, by the names that --spoil takes: an entry's refusal by the entry's name (label, most, print, write, read), and what it leaves by a name of
+/// its own.
+const WHATS: [&str; 14] = ["label", "counts", "map", "work", "most", "maxima", "print", "pages", "write", "length", "record", "read", "fields", "back"];
 
 /// Places before and behind every lent tray, which must stay as they are.
 const GUARD: usize = 5;
+
+/// Numbers at which the printed form changes.
+const EDGES: [u32; 14] = [0, 1, 9, 10, 99, 100, 999, 1_000, 9_999, 10_000, 99_999, 100_000, 100_001, u32::MAX];
 
 /// Longer trays are shown around the first difference only.
 const SHOWN: usize = 20_000;
@@ -108,6 +113,18 @@ impl Comparison {
         self.same("maxima", &mut maxima, &expected.unwrap_or([77; 3]), &input);
     }
 
+    fn print(&mut self, extents: [u16; 3], z: u32, map: &[u32], tray_length: usize) {
+        let [nx, ny, nz] = extents;
+        let mut tray = self.bytes(tray_length);
+        let mut other_tray = tray.clone();
+        let t = GUARD..GUARD + tray_length;
+        let input = || format!("extents {extents:?} layer {z} map {map:?} tray of {tray_length}");
+        let refusal = raw::print_layer(nx, ny, nz, z, map, &mut tray[t.clone()]);
+        let answer = pages::print(extents, z, map, &mut other_tray[t]);
+        self.refusal("print", refusal, answer.err().unwrap_or(0), &input);
+        self.same("pages", &mut tray, &other_tray, &input);
+    }
+
     fn write(&mut self, head: Head, map: &[u32], tray_length: usize) -> Option<Vec<u8>> {
         let [nx, ny, nz, ox, oy, oz] = head;
         let (mut tray, mut size) = (self.bytes(tray_length), 77);
@@ -155,7 +172,7 @@ impl Comparison {
         extents
     }
 
-    /// One block: labelled, written, read back, and read from damaged records.
+    /// One block: labelled, two layers printed, written, read back, and read from damaged records.
     fn one(&mut self, extents: [u16; 3]) {
         let grid = Grid::new(extents.map(usize::from));
         let mut codes = volume(&mut self.random, grid.extents);
@@ -169,6 +186,9 @@ impl Comparison {
         let labelled = self.label(called, &codes, m, w);
         self.most(called, most(called));
         let map = self.map(&grid, labelled);
+        let numbers = self.numbers(grid.cells());
+        self.layer(extents, map.clone());
+        self.layer(extents, numbers);
         self.records(extents, &grid, map);
     }
 
@@ -204,6 +224,52 @@ impl Comparison {
             Some(map) if !random.once_in(4) => map,
             _ => (0..grid.cells()).map(|_| if random.once_in(2) { 0 } else { random.word() as u32 }).collect(),
         }
+    }
+
+    /// Numbers of every width that is printed, half of them at its edges.
+    fn numbers(&mut self, length: usize) -> Vec<u32> {
+        let random = &mut self.random;
+        let number =
+            |_| if random.once_in(2) { random.pick(&EDGES) } else { random.word() as u32 % random.pick(&[10, 100, 1_000, 10_000, 100_000, 1_000_000]) };
+        (0..length).map(number).collect()
+    }
+
+    /// A layer of a map printed: mostly one that is there, into a tray of the right length.
+    fn layer(&mut self, extents: [u16; 3], mut map: Vec<u32>) {
+        let (layers, right, mut called) = (2 * u32::from(extents[2]) - 1, pages::length(extents), extents);
+        let z = self.random.below(layers as usize) as u32;
+        let z = match self.random.below(12) {
+            0 => self.random.pick(&[layers, layers + 1, u32::MAX, 1 << 31, z + 256, z + 65_536]),
+            _ => z,
+        };
+        if self.random.once_in(25) {
+            called[self.random.below(3)] = self.random.pick(&[0, 65, 66, 128, 256, 65_535]);
+        }
+        let length = self.length(map.len());
+        map.resize(length, 9);
+        let room = match self.random.below(60) {
+            0 => right - 81,
+            1 => right + 81,
+            2 => right + pages::length([1, extents[1], 1]),
+            _ => self.length(right),
+        };
+        self.print(called, z, &map, room);
+    }
+
+    /// Every layer of every width on some heights and depths, and of a block of the largest extents.
+    fn widths(&mut self) {
+        for nx in 1..=64 {
+            for [ny, nz] in [[1, 1], [2, 3], [5, 2], [64, 1], [1, 64]] {
+                self.layers([nx, ny, nz]);
+            }
+        }
+        self.layers([64; 3]);
+    }
+
+    /// Every layer of one block.
+    fn layers(&mut self, extents: [u16; 3]) {
+        let map = self.numbers(Grid::new(extents.map(usize::from)).cells());
+        (0..2 * u32::from(extents[2]) - 1).for_each(|z| self.print(extents, z, &map, pages::length(extents)));
     }
 
     fn records(&mut self, extents: [u16; 3], grid: &Grid, mut map: Vec<u32>) {
@@ -273,6 +339,7 @@ fn main() {
     if blocks >= 1000 {
         c.largest();
         c.largest_blocks();
+        c.widths();
     }
     let mut given = String::new();
     for ((what, refusal), times) in &c.given {

@@ -1,7 +1,8 @@
 //! Calls every entry with arbitrary numbers for jobs, cut lists, tables, maps and records: fuzz SEED ROUNDS [--untimed] [--spoil WHAT].
-//! A round is a block labelled, written and read, with the most components of its extents told, or some calls of a joiner's job that is honest but for numbers changed here and there. Compared
-//! with the second implementation are each call's refusal, the number, row or totals of each accepted reading, and job and tables after each accepted step, as far
-//! as the rules tell them. Lent tables stand between guards; after a refusal or a reading every lent place must hold what it held, and the guards always. Every refusal of every entry must have come, and every reason for 8.
+//! A round is a block labelled, written and read, with the most components of its extents told and a layer of another one printed, or some calls of a joiner's job
+//! that is honest but for numbers changed here and there. Compared with the second implementation are each call's refusal, the number, row or totals of each
+//! accepted reading, the printed pages, and job and tables after each accepted step, as far as the rules tell them. Lent tables stand between guards; after a
+//! refusal or a reading every lent place must hold what it held, and the guards always. Every refusal of every entry must have come, and every reason for 8.
 //! No call may take longer than the numbers that it is lent can explain; long tables are made for that. --untimed leaves this out: for valgrind, which
 //! sees every byte read or written (host/run). With --spoil one outcome is changed before it is looked at, which must be reported.
 //! Exits 1 if anything is not as it must be.
@@ -12,16 +13,17 @@ mod long;
 use forged::small;
 use lent::{guarded, holds, part, Asked, Lent};
 use reference::book::Answer;
+use reference::pages;
 use reference::random::Random;
 use std::collections::BTreeMap;
 use std::sync::atomic::{AtomicUsize, Ordering};
 use std::time::{Duration, Instant};
 use tugrelis::{cells, raw};
 
-const SPOILS: [&str; 9] = ["refusal", "number", "row", "total", "left", "most", "kept", "guards", "time"];
+const SPOILS: [&str; 10] = ["refusal", "number", "row", "total", "left", "most", "print", "kept", "guards", "time"];
 
 /// What must come in a long run: the refusals of each entry, with the reasons for 8.
-const COME: [(&str, &str); 15] = [
+const COME: [(&str, &str); 16] = [
     ("open", "0,1,2,6"),
     ("enrol", "0,1,2,3,4,5,6,8 Tally,10"),
     ("seam", "0,1,2,3,4,5,6,8 Tally,8 Map,8 Place,8 Way,8 Below,9"),
@@ -35,6 +37,7 @@ const COME: [(&str, &str); 15] = [
     ("strain", "0,1,2,3,4,5,6,8 Tally,8 Map,8 Place,8 Final,8 Total,12"),
     ("label", "0,1,6"),
     ("most", "0,1"),
+    ("print", "0,1,4,6"),
     ("write", "0,1,6"),
     ("read", "0,1,6,11"),
 ];
@@ -204,6 +207,7 @@ impl Fuzz {
         let refusal = raw::label(&codes, nx, ny, nz, part(&mut map), part(&mut work), &mut counts);
         self.judge("label", refusal, before == (map.clone(), work.clone(), counts), holds(&map) && holds(&work));
         self.most(extents, if refusal == 0 { counts } else { [0; 3] });
+        self.print();
         if self.random.once_in(3) {
             map = guarded(&self.numbers(size));
         }
@@ -239,6 +243,33 @@ impl Fuzz {
         self.judge("most", refusal, maxima == [7; 3], holds(&places));
         let right = refusal == expected.err().unwrap_or(0) && expected.map_or(true, |most| maxima == most && (0..3).all(|k| labelled[k] <= most[k]));
         self.expect("most", right, &|| format!("{extents:?} answered {refusal} and {maxima:?}, it must be {expected:?}; a labelled block has {labelled:?}"));
+    }
+
+    /// A layer of a map printed, beside the second implementation.
+    fn print(&mut self) {
+        let random = &mut self.random;
+        let mut extents = [random.pick(&[1, 2, 8, 9, 17, 64]), random.pick(&[1, 2, 3, 4]), random.pick(&[1, 2, 3, 4])];
+        let z = if random.once_in(9) { small(random) } else { random.below(2 * usize::from(extents[2])) as u32 };
+        // mostly the right length, or one place more or less
+        let [size, room] = [cells(extents.map(usize::from)), pages::length(extents)].map(|n| n + 1 - random.pick(&[0, 1, 1, 1, 1, 1, 1, 1, 2]));
+        if random.once_in(4) {
+            extents[random.below(3)] = random.pick(&[0, 65, 65_535]);
+        }
+        let numbers: Vec<u32> = (0..size).map(|_| if random.once_in(4) { random.pick(&[9, 10, 99_999, 100_000]) } else { small(random) }).collect();
+        let ([nx, ny, nz], mut map, mut tray) = (extents, guarded(&numbers), guarded(&vec![9u8; room]));
+        let (mut other, before) = (tray.clone(), (map.clone(), tray.clone()));
+        let refusal = raw::print_layer(nx, ny, nz, z, part(&mut map), part(&mut tray));
+        let expected = pages::print(extents, z, part(&mut map), part(&mut other));
+        if expected.is_ok() && self.spoiled("print") {
+            part(&mut tray)[79] ^= 1;
+        }
+        let guards = holds(&map) && holds(&tray);
+        let right = refusal == expected.err().unwrap_or(0) && tray == other && map == before.0;
+        let at = (0..tray.len()).find(|&k| tray[k] != other[k]);
+        self.expect("print", right, &|| {
+            format!("layer {z} of {extents:?}, tray of {room}, answered {refusal}, it must be {expected:?}; other bytes from {at:?} on: map {map:?}")
+        });
+        self.judge("print", refusal, before == (map, tray), guards);
     }
 
     /// Everything that must come has come.
