@@ -201,9 +201,9 @@ fn printings_that_are_refused() {
     let [short, off_size, long, missing] = ["short", "off-size", "long", "missing"].map(|name| dir.join(name));
     fs::write(&short, &bytes[..bytes.len() - 1]).unwrap();
     fs::write(&off_size, [&[65], &bytes[1..]].concat()).unwrap();
-    // a record and then a terabyte of zeros, which must not be read to its end
+    // a record and then 16 GiB of zeros, which must not be read to its end
     fs::write(&long, &bytes).unwrap();
-    fs::File::options().write(true).open(&long).unwrap().set_len(1 << 40).unwrap();
+    fs::File::options().write(true).open(&long).unwrap().set_len(1 << 34).unwrap();
     for (record, z, message) in [
         (&good, "1", "block-00000.record: layer 1: refused 4 (no such place)"),
         (&good, "4294967295", "block-00000.record: layer 4294967295: refused 4 (no such place)"),

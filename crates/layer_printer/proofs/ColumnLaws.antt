@@ -1,17 +1,22 @@
 -- The five columns of a cell or of a blank place.
 -- Assumes nothing.
 use mathlib.Core.Path.{_≡_, refl, sym, ap, _∙_}
+use mathlib.Core.Bool.{true}
 use mathlib.Core.List.{List, [], _∷_, _++_, append-assoc}
 use Prim.Native.Nat.{ℕ, zero, suc, _+_, _-_, _/_, _%_, _^_, _≤_, _<_}
 use native.Mathlib.Nat.{pow-suc}
 use native.Mathlib.Omega.{arith}
 use lib.Dec.{eqb, ltb}
 use lib.ListN.{length, getD, replicate, length-append, replicate-append-replicate, getD-replicate}
-use borrow.Author.Tests.{ltb-true, ltb-false, eqb-true, eqb-false, eq-eqb, ne-eqb, lt-ltb, le-ltb}
+use borrow.Author.Tests.{ltb-true, ltb-false, eqb-true, eqb-false, eq-eqb, ne-eqb, le-leb, lt-ltb, le-ltb}
+use Rattle.lists.specs.Lists.{allOf}
 use Rattle.lists.proofs.Cases.{by-test}
+use Rattle.lists.proofs.Lists.{getD-in}
+use Rattle.lists.proofs.Tests.{all-out}
 use Rattle.decimals.specs.Decimals.{decimalIn, decimal}
 use Rattle.decimals.proofs.DecimalLaws.{digits-low, digits-high}
 use Rattle.layer_printer.specs.Printed.{rightAligned, cellColumns, placeColumns}
+use Rattle.layer_printer.specs.Places.{isColumn}
 use Rattle.layer_printer.specs.Inner.{columnByte}
 
 -- ---- a number, column by column from the last one on
@@ -121,36 +126,28 @@ columns-five n = by-number n (λ (l : List ℕ). length l ≡ 5) refl refl (λ p
 pub place-five : (line : List ℕ) (x : ℕ) → length (placeColumns line x) ≡ 5
 place-five line x = by-place line x (λ (l : List ℕ). length l ≡ 5) refl (columns-five (getD line x 0))
 
--- ---- every column has a character that is seen, or a space
+-- ---- every column has a space, a hash sign, a dot or a digit
 
-abbrev pub Character : ℕ → Type 0
-Character b = (32 ≤ b) × (b ≤ 57)
+digit-column : (d : ℕ) → d < 10 → isColumn (48 + d) ≡ true
+unfolding isColumn
+digit-column d h = rw (ne-eqb (48 + d) 32 (λ e. omega arith), ne-eqb (48 + d) 35 (λ e. omega arith), ne-eqb (48 + d) 46 (λ e. omega arith), le-leb 48 (48 + d) (omega arith), le-leb (48 + d) 57 (omega arith))
 
-five-characters : {a b c d e : ℕ} → Character a → Character b → Character c → Character d → Character e → (k : ℕ) → k < 5 → Character (getD (a ∷ b ∷ c ∷ d ∷ e ∷ []) k 0)
-five-characters p q r s t zero h = p
-five-characters p q r s t (suc zero) h = q
-five-characters p q r s t (suc (suc zero)) h = r
-five-characters p q r s t (suc (suc (suc zero))) h = s
-five-characters p q r s t (suc (suc (suc (suc zero)))) h = t
-five-characters p q r s t (suc (suc (suc (suc (suc k))))) h = absurd (omega arith)
+byte-column : (n : ℕ) → isColumn (columnByte n) ≡ true
+unfolding columnByte isColumn
+byte-column n = by-test (eqb n 0) (λ t. rw t) (λ t. rw t (digit-column (n % 10) (omega arith)))
 
-column-character : (n : ℕ) → Character (columnByte n)
-unfolding columnByte
-column-character n = by-test (eqb n 0) (λ t. rw t (omega arith, omega arith)) (λ t. rw t (omega arith, omega arith))
+cell-all : (n : ℕ) → allOf isColumn (cellColumns n) ≡ true
+unfolding isColumn
+cell-all n =
+    by-number n (λ (l : List ℕ). allOf isColumn l ≡ true) refl refl
+    (λ p q. rw (number-columns n p q, byte-column (n / 10000), byte-column (n / 1000), byte-column (n / 100), byte-column (n / 10), byte-column n))
 
-cell-character : (n k : ℕ) → k < 5 → Character (getD (cellColumns n) k 0)
-cell-character n k h =
-    let same : (b : ℕ) → Character b → Character (getD (b ∷ b ∷ b ∷ b ∷ b ∷ []) k 0) = λ b q. five-characters q q q q q k h in
-    let space : Character 32 = (omega arith, omega arith) in
-    by-number n (λ (l : List ℕ). Character (getD l k 0))
-    (five-characters space space space space (omega arith, omega arith) k h)
-    (same 35 (omega arith, omega arith))
-    (λ p q. rw (number-columns n p q) (five-characters (column-character _) (column-character _) (column-character _) (column-character _) (column-character _) k h))
+place-all : (line : List ℕ) (x : ℕ) → allOf isColumn (placeColumns line x) ≡ true
+unfolding isColumn
+place-all line x = by-place line x (λ (l : List ℕ). allOf isColumn l ≡ true) refl (cell-all (getD line x 0))
 
-pub place-character : (line : List ℕ) (x k : ℕ) → k < 5 → Character (getD (placeColumns line x) k 0)
-place-character line x k h =
-    let space : Character 32 = (omega arith, omega arith) in
-    by-place line x (λ (l : List ℕ). Character (getD l k 0)) (five-characters space space space space space k h) (cell-character (getD line x 0) k h)
+pub place-column : (line : List ℕ) (x k : ℕ) → k < 5 → isColumn (getD (placeColumns line x) k 0) ≡ true
+place-column line x k h = all-out isColumn (placeColumns line x) (place-all line x) (getD-in (placeColumns line x) k (rw (place-five line x) h))
 
 -- a blank place has spaces
 pub blank-column : (k : ℕ) → k < 5 → _≡_ {A = ℕ} (getD (32 ∷ 32 ∷ 32 ∷ 32 ∷ 32 ∷ []) k 0) 32

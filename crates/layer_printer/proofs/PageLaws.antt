@@ -1,26 +1,29 @@
 -- Lines and pages: how long they are, and how they are laid into a tray piece by piece.
 -- Assumes nothing.
-use mathlib.Core.Path.{_≡_, ap, _∙_}
-use mathlib.Core.List.{List, [], _∷_, append-nil, flatMap}
-use Prim.Native.Nat.{ℕ, _+_, _-_, _*_, _≤_}
+use mathlib.Core.Path.{_≡_, sym, ap, _∙_}
+use mathlib.Core.List.{List, [], _∷_, _++_, append-assoc, append-nil, flatMap}
+use Prim.Native.Nat.{ℕ, zero, suc, _+_, _-_, _*_, _≤_, _<_, min}
 use native.Mathlib.Omega.{arith}
-use lib.ListN.{length, take, drop, set, length-append, drop-of-length-le}
+use lib.Dec.{ltb}
+use lib.ListN.{length, getD, take, drop, set, replicate, length-append, length-replicate, replicate-append-replicate, drop-of-length-le}
+use borrow.Author.Tests.{ltb-true, ltb-false}
 use Rattle.lists.specs.Lists.{consecutive, laid}
-use Rattle.lists.proofs.Laid.{laid-more, laid-front}
-use Rattle.lists.proofs.Pieces.{length-pieces, pieces-none, pieces-laid}
-use Rattle.layer_printer.specs.Printed.{placeColumns, placesOn, pageLine, cellLine, page, pageCount, pages}
-use Rattle.layer_printer.proofs.ColumnLaws.{place-five}
+use Rattle.lists.proofs.Cases.{by-test}
+use Rattle.lists.proofs.Laid.{laid-none, laid-next, laid-more, laid-front}
+use Rattle.lists.proofs.Pieces.{length-pieces, pieces-next, pieces-none, pieces-laid}
+use Rattle.layer_printer.specs.Printed.{cellColumns, placeColumns, firstPlaces, pageLine, cellLine, page, pageCount, pages}
+use Rattle.layer_printer.proofs.ColumnLaws.{place-beyond, place-cell, place-five}
 
 -- ---- lengths
 
-pub places-length : (line : List ℕ) (p : ℕ) → length (placesOn line p) ≡ 80
-unfolding placesOn
-places-length line p = length-pieces _ 5 (λ k. place-five _ _) 16
+pub places-length : (line : List ℕ) (p n : ℕ) → length (firstPlaces line p n) ≡ 5 * n
+unfolding firstPlaces
+places-length line p n = length-pieces _ 5 (λ k. place-five _ _) n
 
 -- "Every line is 80 characters and a line end."
 pub line-length : (line : List ℕ) (p : ℕ) → length (pageLine line p) ≡ 81
 unfolding pageLine
-line-length line p = length-append (placesOn line p) (10 ∷ []) ∙ rw (places-length line p)
+line-length line p = length-append (firstPlaces line p 16) (10 ∷ []) ∙ rw (places-length line p 16)
 
 module _ (w h : ℕ) (layer : List ℕ) where
   pub page-length : (p : ℕ) → length (page w h layer p) ≡ 81 * h
@@ -31,27 +34,63 @@ module _ (w h : ℕ) (layer : List ℕ) where
   unfolding pages
   pages-length = length-pieces _ (81 * h) (λ p. page-length _) (pageCount w)
 
--- ---- a line, place by place
+-- ---- a line: its cells, blanks, and its end
 
-module _ (line : List ℕ) (p at : ℕ) (t : List ℕ) where
-  -- The tray once k places are laid.
-  abbrev pub placesLaid : ℕ → List ℕ
-  placesLaid k = laid at (flatMap (λ i. placeColumns line (16 * p + i)) (consecutive 0 k)) t
+module _ (line : List ℕ) (p : ℕ) where
+  -- no place yet, and one more, which is a cell
+  pub places-none : (at : ℕ) (t : List ℕ) → at ≤ length t → t ≡ laid at (firstPlaces line p 0) t
+  unfolding firstPlaces
+  places-none at t h = pieces-none _ 5 (λ k. place-five line (16 * p + k)) at t h
 
-  pub places-none : at ≤ length t → t ≡ placesLaid 0
-  places-none h = pieces-none (λ i. placeColumns line (16 * p + i)) 5 (λ i. place-five line (16 * p + i)) at t h
+  pub places-next : (at : ℕ) (t : List ℕ) (k : ℕ) (u v : List ℕ) → 16 * p + k < length line → at + 5 * (k + 1) ≤ length t → u ≡ laid at (firstPlaces line p k) t
+      → v ≡ laid (at + 5 * k) (cellColumns (getD line (16 * p + k) 0)) u → v ≡ laid at (firstPlaces line p (k + 1)) t
+  unfolding firstPlaces
+  places-next at t k u v c h i j = pieces-laid _ 5 (λ k. place-five line (16 * p + k)) at k t u v h i (rw (place-cell line (16 * p + k) c) j)
 
-  pub places-next : (k : ℕ) (u v : List ℕ) → at + 5 * (k + 1) ≤ length t → u ≡ placesLaid k → v ≡ laid (at + 5 * k) (placeColumns line (16 * p + k)) u → v ≡ placesLaid (k + 1)
-  places-next k u v h i j = pieces-laid (λ i. placeColumns line (16 * p + i)) 5 (λ i. place-five line (16 * p + i)) at k t u v h i j
+  place-more : (k : ℕ) → firstPlaces line p (k + 1) ≡ firstPlaces line p k ++ placeColumns line (16 * p + k)
+  unfolding firstPlaces
+  place-more k = pieces-next _ k
 
-  pub places-all : (k : ℕ) (u : List ℕ) → k ≡ 16 → u ≡ placesLaid k → u ≡ laid at (placesOn line p) t
-  unfolding placesOn
-  places-all k u e i = rw e at i
+  -- beyond the grid
+  places-blank : (n d : ℕ) → length line ≤ 16 * p + n → firstPlaces line p (n + d) ≡ firstPlaces line p n ++ replicate (5 * d) 32
+  places-blank n zero h = let z : n + 0 ≡ n = omega arith in rw z (sym (append-nil (firstPlaces line p n)))
+  places-blank n (suc d) h =
+      let s : n + suc d ≡ n + d + 1 = omega arith in
+      let five : 5 * d + 5 ≡ 5 * suc d = omega arith in
+      rw s
+      (place-more (n + d) ∙ rw (places-blank n d h, place-beyond line (16 * p + (n + d)) (omega arith)) (append-assoc (firstPlaces line p n) (replicate (5 * d) 32) (replicate 5 32))
+      ∙ ap (λ (l : List ℕ). firstPlaces line p n ++ l) (replicate-append-replicate (5 * d) 5 32 ∙ ap (λ (k : ℕ). replicate k 32) five))
 
-  -- .. and its line end
-  pub line-ended : (u : List ℕ) → at + 81 ≤ length t → u ≡ laid at (placesOn line p) t → set u (at + 80) 10 ≡ laid at (pageLine line p) t
+  -- All places: those in the grid, and blanks.
+  places-all : (n : ℕ) → n ≡ min 16 (length line - 16 * p) → firstPlaces line p 16 ≡ firstPlaces line p n ++ replicate (80 - 5 * n) 32
+  places-all n e =
+      let s : n + (16 - n) ≡ 16 = omega arith in
+      let f : 5 * (16 - n) ≡ 80 - 5 * n = omega arith in
+      by-test (ltb n 16)
+      (λ t.
+      let low : n < 16 = ltb-true n 16 t in
+      ap (firstPlaces line p) (sym s) ∙ places-blank n (16 - n) (omega arith) ∙ rw f)
+      (λ t.
+      let full : n ≡ 16 = omega (arith, ltb-false n 16 t) in
+      rw full (sym (append-nil (firstPlaces line p 16))))
+
+  pub line-laid : (n at : ℕ) (t u v : List ℕ) → n ≡ min 16 (length line - 16 * p) → at + 81 ≤ length t → u ≡ laid at (firstPlaces line p n) t → v ≡ laid (at + 5 * n) (replicate (80 - 5 * n) 32) u
+      → set v (at + 80) 10 ≡ laid at (pageLine line p) t
   unfolding pageLine
-  line-ended u h i = rw i (laid-more at 80 10 (placesOn line p) t (places-length line p) (omega arith))
+  line-laid n at t u v e h i j =
+      let cells = places-length line p n in
+      let spaces = length-replicate {A = ℕ} (80 - 5 * n) 32 in
+      let whole : v ≡ laid at (firstPlaces line p 16) t =
+      j ∙ ap (laid (at + 5 * n) (replicate (80 - 5 * n) 32)) i ∙ laid-next at (at + 5 * n) (firstPlaces line p n) (replicate (80 - 5 * n) 32) t (omega arith) (omega arith)
+      ∙ ap (λ (l : List ℕ). laid at l t) (sym (places-all n e)) in
+      rw whole (laid-more at 80 10 (firstPlaces line p 16) t (places-length line p 16) (omega arith))
+
+-- spaces, one by one
+pub spaces-none : (at : ℕ) (t : List ℕ) → at ≤ length t → t ≡ laid at (replicate 0 32) t
+spaces-none at t h = laid-none at t h
+
+pub spaces-next : (at : ℕ) (t : List ℕ) (i : ℕ) (u : List ℕ) → at + i < length t → u ≡ laid at (replicate i 32) t → set u (at + i) 32 ≡ laid at (replicate (i + 1) 32) t
+spaces-next at t i u h e = rw e (laid-more at i 32 (replicate i 32) t (length-replicate i 32) h ∙ ap (λ (l : List ℕ). laid at l t) (replicate-append-replicate i 1 32))
 
 -- ---- a page, line by line
 

@@ -1,6 +1,7 @@
 -- Where each byte of a printed layer stands.
 -- Assumes nothing.
 use mathlib.Core.Path.{_≡_, refl, sym, ap, _∙_}
+use mathlib.Core.Bool.{true}
 use mathlib.Core.List.{List, [], _∷_}
 use Prim.Native.Nat.{ℕ, _+_, _*_, _/_, _%_, _≤_, _<_}
 use native.Mathlib.Omega.{arith}
@@ -13,23 +14,23 @@ use Rattle.lists.proofs.Overlay.{row-place}
 use Rattle.lists.proofs.Pieces.{pieces-at}
 use Rattle.cells.specs.Box.{Triple, X, Y, Z, triple, volume, index, place}
 use Rattle.cells.proofs.BoxLaws.{Inside, index-place, place-index, place-inside, index-inside}
-use Rattle.layer_printer.specs.Printed.{cellColumns, placeColumns, placesOn, pageLine, cellLine, page, pageCount, pages}
-use Rattle.layer_printer.specs.Places.{byteBox, Owner, of-cell, of-blank, line-end, IsOwner, columnAt, placeOf, columnOwner, ownerAt, ownerByte, LaidOut}
-use Rattle.layer_printer.proofs.ColumnLaws.{place-beyond, place-cell, place-five, columns-five, Character, place-character, blank-column}
+use Rattle.layer_printer.specs.Printed.{cellColumns, placeColumns, firstPlaces, pageLine, cellLine, page, pageCount, pages}
+use Rattle.layer_printer.specs.Places.{byteBox, Owner, of-cell, of-blank, line-end, IsOwner, columnAt, placeOf, columnOwner, ownerAt, ownerByte, isColumn, LaidOut}
+use Rattle.layer_printer.proofs.ColumnLaws.{place-beyond, place-cell, place-five, columns-five, place-column, blank-column}
 use Rattle.layer_printer.proofs.PageLaws.{places-length, line-length, page-length, pages-length}
 
 -- ---- the bytes of a line
 
 -- column c of place k
 place-byte : (line : List ℕ) (p k c : ℕ) → k < 16 → c < 5 → getD (pageLine line p) (5 * k + c) 0 ≡ getD (placeColumns line (16 * p + k)) c 0
-unfolding pageLine placesOn
+unfolding pageLine firstPlaces
 place-byte line p k c hk hc =
-    List·getD-append (placesOn line p) (10 ∷ []) 0 (5 * k + c) (omega (arith, places-length line p))
+    List·getD-append (firstPlaces line p 16) (10 ∷ []) 0 (5 * k + c) (omega (arith, places-length line p 16))
     ∙ pieces-at (λ i. placeColumns line (16 * p + i)) 5 (λ i. place-five line (16 * p + i)) 16 k c hk hc
 
 end-byte : (line : List ℕ) (p : ℕ) → getD (pageLine line p) 80 0 ≡ 10
 unfolding pageLine
-end-byte line p = getD-at (placesOn line p) 10 [] 0 80 (places-length line p)
+end-byte line p = getD-at (firstPlaces line p 16) 10 [] 0 80 (places-length line p 16)
 
 -- ---- the places of the bytes
 
@@ -41,6 +42,10 @@ pages-cover w = omega arith
 module _ (w h : ℕ) where
   abbrev box : Triple
   box = byteBox w h
+
+  -- byte b of a line, the line and the page: the place of byte t
+  abbrev spot : ℕ → Triple
+  spot t = place box t
 
   box-bytes : volume box ≡ 81 * h * pageCount w
   unfolding byteBox volume
@@ -119,33 +124,56 @@ module _ (w h : ℕ) where
   -- ---- from a byte to its owner
 
   module _ (t : ℕ) (ht : t < 81 * h * pageCount w) where
-    abbrev byte : Triple
-    byte = place box t
-
-    byte-within : Inside box byte
+    byte-within : Inside box (spot t)
     byte-within = place-inside box t (rw box-bytes ht)
 
-    byte-x : byte .x < 81
+    byte-x : spot t .x < 81
     unfolding byteBox
     byte-x = byte-within X
 
-    byte-y : byte .y < h
+    byte-y : spot t .y < h
     unfolding byteBox
     byte-y = byte-within Y
 
-    byte-z : byte .z < pageCount w
+    byte-z : spot t .z < pageCount w
     unfolding byteBox
     byte-z = byte-within Z
 
     -- the place of a byte that ends no line
-    byte-column : (byte .x ≡ 80 → ⊥) → (16 * byte .z + byte .x / 5 < 16 * pageCount w) × (columnAt w h (16 * byte .z + byte .x / 5) (byte .y) (byte .x % 5) ≡ t)
+    byte-column : (spot t .x ≡ 80 → ⊥) → (16 * spot t .z + spot t .x / 5 < 16 * pageCount w) × (columnAt w h (16 * spot t .z + spot t .x / 5) (spot t .y) (spot t .x % 5) ≡ t)
     unfolding columnAt
     byte-column d =
-        let low : byte .x < 80 = omega (arith, byte-x) in
-        let a : (16 * byte .z + byte .x / 5) % 16 ≡ byte .x / 5 = omega arith in
-        let b : (16 * byte .z + byte .x / 5) / 16 ≡ byte .z = omega arith in
-        let s : 5 * (byte .x / 5) + byte .x % 5 ≡ byte .x = omega arith in
+        let low : spot t .x < 80 = omega (arith, byte-x) in
+        let a : (16 * spot t .z + spot t .x / 5) % 16 ≡ spot t .x / 5 = omega arith in
+        let b : (16 * spot t .z + spot t .x / 5) / 16 ≡ spot t .z = omega arith in
+        let s : 5 * (spot t .x / 5) + spot t .x % 5 ≡ spot t .x = omega arith in
         (omega (arith, byte-z), rw (a, b, s) (index-place box t))
+
+    -- a byte ends its line, or is a column of a cell or of a blank place
+    by-owner : (P : Owner → Type 0) → (spot t .x ≡ 80 → P (line-end (spot t .z) (spot t .y)))
+        → ((x y c : ℕ) → x < 16 * pageCount w → y < h → c < 5 → columnAt w h x y c ≡ t → (x < w → P (of-cell x y c)) × (w ≤ x → P (of-blank x y c)))
+        → P (ownerAt w h t)
+    by-owner P e f =
+        by-test (eqb (spot t .x) 80)
+        (λ u. let d : spot t .x ≡ 80 = eqb-true (spot t .x) 80 u in rw (owner-end t d) (e d))
+        (λ u.
+        let d : spot t .x ≡ 80 → ⊥ = eqb-false (spot t .x) 80 u in
+        let q = byte-column d in
+        let x : ℕ = 16 * spot t .z + spot t .x / 5 in
+        let g = f x (spot t .y) (spot t .x % 5) (q .0) byte-y (omega arith) (q .1) in
+        rw (owner-column t d)
+        (by-test (ltb x w)
+        (λ v. let lx = ltb-true x w v in rw (cell-owner x (spot t .y) (spot t .x % 5) lx) (g .0 lx))
+        (λ v. let lx = ltb-false x w v in rw (blank-owner x (spot t .y) (spot t .x % 5) lx) (g .1 lx))))
+
+    byte-owned : IsOwner w h (ownerAt w h t)
+    byte-owned = by-owner (IsOwner w h) (λ _. (byte-z, byte-y)) (λ x y c hx hy hc e. (λ lx. (lx, hy, hc), λ lx. (lx, hx, hy, hc)))
+
+    end-returned : spot t .x ≡ 80 → placeOf w h (line-end (spot t .z) (spot t .y)) ≡ t
+    end-returned e = rw (← e) (index-place box t)
+
+    byte-returned : placeOf w h (ownerAt w h t) ≡ t
+    byte-returned = by-owner (λ a. placeOf w h a ≡ t) end-returned (λ x y c hx hy hc e. (λ _. e, λ _. e))
 
 -- ---- all of it
 
@@ -183,53 +211,24 @@ module _ (w h : ℕ) (layer : List ℕ) (number : ℕ → ℕ → ℕ) (long : (
     within : t < 81 * h * pageCount w
     within = omega (arith, pages-length w h layer)
 
-    abbrev spot : Triple
-    spot = place (byteBox w h) t
-
-    -- a byte ends its line, or is a column of a cell or of a blank place
-    by-owner : (P : Owner → Type 0) → (spot .x ≡ 80 → P (line-end (spot .z) (spot .y)))
-        → ((x y c : ℕ) → x < 16 * pageCount w → y < h → c < 5 → columnAt w h x y c ≡ t → (x < w → P (of-cell x y c)) × (w ≤ x → P (of-blank x y c)))
-        → P (ownerAt w h t)
-    by-owner P e f =
-        by-test (eqb (spot .x) 80)
-        (λ u. let d : spot .x ≡ 80 = eqb-true (spot .x) 80 u in rw (owner-end w h t d) (e d))
-        (λ u.
-        let d : spot .x ≡ 80 → ⊥ = eqb-false (spot .x) 80 u in
-        let q = byte-column w h t within d in
-        let x : ℕ = 16 * spot .z + spot .x / 5 in
-        let g = f x (spot .y) (spot .x % 5) (q .0) (byte-y w h t within) (omega arith) (q .1) in
-        rw (owner-column w h t d)
-        (by-test (ltb x w)
-        (λ v. let lx = ltb-true x w v in rw (cell-owner w h x (spot .y) (spot .x % 5) lx) (g .0 lx))
-        (λ v. let lx = ltb-false x w v in rw (blank-owner w h x (spot .y) (spot .x % 5) lx) (g .1 lx))))
-
-    byte-owned : IsOwner w h (ownerAt w h t)
-    byte-owned = by-owner (IsOwner w h) (λ _. (byte-z w h t within, byte-y w h t within)) (λ x y c hx hy hc e. (λ lx. (lx, hy, hc), λ lx. (lx, hx, hy, hc)))
-
-    end-returned : spot .x ≡ 80 → placeOf w h (line-end (spot .z) (spot .y)) ≡ t
-    end-returned e = rw (← e) (index-place (byteBox w h) t)
-
-    byte-returned : placeOf w h (ownerAt w h t) ≡ t
-    byte-returned = by-owner (λ a. placeOf w h a ≡ t) end-returned (λ x y c hx hy hc e. (λ _. e, λ _. e))
-
-    -- the first number of a byte's place is its place in the line
-    spot-first : spot .x ≡ t % 81
+    -- the place of a byte in its line
+    spot-first : spot w h t .x ≡ t % 81
     unfolding place byteBox
     spot-first = refl
 
     byte-ends : t % 81 ≡ 80 → getD text t 0 ≡ 10
     byte-ends e =
-        let d : spot .x ≡ 80 = spot-first ∙ e in
-        ap (λ (n : ℕ). getD text n 0) (sym (end-returned d)) ∙ owner-stands (line-end (spot .z) (spot .y)) (byte-z w h t within, byte-y w h t within)
+        let d : spot w h t .x ≡ 80 = spot-first ∙ e in
+        ap (λ (n : ℕ). getD text n 0) (sym (end-returned w h t within d)) ∙ owner-stands (line-end (spot w h t .z) (spot w h t .y)) (byte-z w h t within, byte-y w h t within)
 
-    byte-character : t % 81 < 80 → Character (getD text t 0)
-    byte-character l =
+    byte-is-column : t % 81 < 80 → isColumn (getD text t 0) ≡ true
+    byte-is-column l =
         let q = byte-column w h t within (λ e. omega (arith, spot-first)) in
-        let x : ℕ = 16 * spot .z + spot .x / 5 in
-        let c : ℕ = spot .x % 5 in
-        let same : getD text t 0 ≡ getD (placeColumns (cellLine w layer (spot .y)) x) c 0 =
-        ap (λ (n : ℕ). getD text n 0) (sym (q .1)) ∙ column-byte w h x (spot .y) c (q .0) (byte-y w h t within) (omega arith) layer in
-        rw same (place-character (cellLine w layer (spot .y)) x c (omega arith))
+        let x : ℕ = 16 * spot w h t .z + spot w h t .x / 5 in
+        let c : ℕ = spot w h t .x % 5 in
+        let same : getD text t 0 ≡ getD (placeColumns (cellLine w layer (spot w h t .y)) x) c 0 =
+        ap (λ (n : ℕ). getD text n 0) (sym (q .1)) ∙ column-byte w h x (spot w h t .y) c (q .0) (byte-y w h t within) (omega arith) layer in
+        rw same (place-column (cellLine w layer (spot w h t .y)) x c (omega arith))
 
   -- column by column
   column-step : (x y c : ℕ) → columnAt w h x y c ≡ columnAt w h x y 0 + c
@@ -254,9 +253,9 @@ module _ (w h : ℕ) (layer : List ℕ) (number : ℕ → ℕ → ℕ) (long : (
     inside = owner-inside;
     owner = owner-back;
     stands = owner-stands;
-    owned = byte-owned;
-    returned = byte-returned;
+    owned = λ t k. byte-owned w h t (within t k);
+    returned = λ t k. byte-returned w h t (within t k);
     cell-bytes = five-bytes;
     line-ends = byte-ends;
-    characters = byte-character;
+    characters = byte-is-column;
   }

@@ -18,7 +18,7 @@ use Rattle.cells.specs.Grid.{sides, cells}
 use Rattle.cells.proofs.ExtentLaws.{cells-are}
 use Rattle.extents.proofs.SizeLaws.{sized-of}
 use Rattle.layer_printer.specs.Printed.{pageCount, pages, mapLayer, printedLayer}
-use Rattle.layer_printer.specs.Printing.{declines, refusalOf, outcome, printing}
+use Rattle.layer_printer.specs.Printing.{declines, refusalOf, outcome, accepted, refused, layerPrinting}
 use Rattle.layer_printer.specs.Inner.{Whole}
 use Rattle.layer_printer.proofs.PageLaws.{pages-length}
 
@@ -71,39 +71,39 @@ module _ (e : Triple) (z : ℕ) (m : List ℕ) (tray : ℕ) where
         fits = eqb-true _ _ (not-false _ (w .1)) ∙ printed-length e z m;
       }
 
-module _ (e : Triple) (z : ℕ) (m : List ℕ) (tray : ℕ) (r : Ready e z m tray) where
-  abbrev layerCells : ℕ
-  layerCells = (2 * e .x - 1) * (2 * e .y - 1)
+-- How many cells a layer has.
+abbrev pub layerCells : Triple → ℕ
+layerCells e = (2 * e .x - 1) * (2 * e .y - 1)
 
-  -- The layer lies in the map.
-  pub layer-room : layerCells * z + layerCells ≤ length m
-  layer-room = omega (arith, r .mapped, cells-are e, listed-room layerCells (2 * e .z - 1) z (r .there))
+-- Layer z as a part of the map, which the code lends.
+abbrev pub layerPart : Triple → ℕ → List ℕ → List ℕ
+layerPart e z m = take (layerCells e * z + layerCells e - layerCells e * z) (drop (layerCells e * z) m)
 
-  -- .. and is lent as a part of it
-  pub layer-whole : Whole (2 * e .x - 1) (2 * e .y - 1) (take (layerCells * z + layerCells - layerCells * z) (drop (layerCells * z) m))
-  layer-whole = record {
-    narrow = omega (arith, r .sized .x-high);
-    low = omega (arith, r .sized .y-high);
-    there = simp (length-take, length-drop) (omega (arith, layer-room));
-  }
+-- The layer lies in the map.
+pub layer-room : (e : Triple) (z : ℕ) (m : List ℕ) → z < 2 * e .z - 1 → length m ≡ cells e → layerCells e * z + layerCells e ≤ length m
+layer-room e z m h l = omega (arith, cells-are e, listed-room (layerCells e) (2 * e .z - 1) z h)
+
+pub layer-whole : (e : Triple) (z : ℕ) (m : List ℕ) (tray : ℕ) → Ready e z m tray → Whole (2 * e .x - 1) (2 * e .y - 1) (layerPart e z m)
+layer-whole e z m tray r = record {
+  narrow = omega (arith, r .sized .x-high);
+  low = omega (arith, r .sized .y-high);
+  there = simp (length-take, length-drop) (omega (arith, layer-room e z m (r .there) (r .mapped)));
+}
 
 -- ---- the ways of `print_layer`
 
 module _ (e : Triple) (z : ℕ) (m t : List ℕ) (n : ℕ) (h : n ≡ refusalOf e z m (length t)) where
-  pub print-refused : (n ≡ 0 → ⊥) → outcome n t ≡ printing e z m t
-  unfolding printing
+  pub print-refused : (n ≡ 0 → ⊥) → outcome n t ≡ layerPrinting e z m t
+  unfolding layerPrinting refused
   print-refused d = rw (← h, ne-eqb n 0 d)
 
-  pub print-accepted : (u : List ℕ) → n ≡ 0
-      → u ≡ pages (2 * e .x - 1) (2 * e .y - 1) (take ((2 * e .x - 1) * (2 * e .y - 1) * z + (2 * e .x - 1) * (2 * e .y - 1) - (2 * e .x - 1) * (2 * e .y - 1) * z) (drop ((2 * e .x - 1) * (2 * e .y - 1) * z) m))
-      → outcome 0 u ≡ printing e z m t
-  unfolding printing printedLayer mapLayer sides
+  pub print-accepted : (u : List ℕ) → n ≡ 0 → u ≡ pages (2 * e .x - 1) (2 * e .y - 1) (layerPart e z m) → outcome 0 u ≡ layerPrinting e z m t
+  unfolding layerPrinting accepted printedLayer mapLayer sides
   print-accepted u i j =
-      let a : ℕ = (2 * e .x - 1) * (2 * e .y - 1) in
-      let c : a * z + a - a * z ≡ a = omega arith in
+      let c : layerCells e * z + layerCells e - layerCells e * z ≡ layerCells e = omega arith in
       rw (← h, eq-eqb n 0 i) (ap (outcome 0) (j ∙ rw c))
 
 -- The numbers that `print_layer` lists, in the order of the table.
-pub print-listed : (e : Triple) (z : ℕ) (m : List ℕ) (tray : ℕ) → listedNumbers (declines e z m tray) ≡ 1 ∷ 4 ∷ 6 ∷ []
+pub layer-listed : (e : Triple) (z : ℕ) (m : List ℕ) (tray : ℕ) → listedNumbers (declines e z m tray) ≡ 1 ∷ 4 ∷ 6 ∷ []
 unfolding listedNumbers declines number
-print-listed e z m tray = refl
+layer-listed e z m tray = refl

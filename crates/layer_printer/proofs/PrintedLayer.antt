@@ -12,11 +12,10 @@ use Rattle.lists.proofs.Overlay.{row-place, listed-room}
 use Rattle.refusals.proofs.RefusalLaws.{outcome-refusal}
 use Rattle.cells.specs.Box.{Triple, index}
 use Rattle.cells.specs.Grid.{sides, cells}
-use Rattle.cells.proofs.ExtentLaws.{cells-are}
 use Rattle.layer_printer.specs.Printed.{cellLine, mapLayer, printedLayer}
-use Rattle.layer_printer.specs.Printing.{refusalOf, Outcome, outcome, printing}
+use Rattle.layer_printer.specs.Printing.{refusalOf, Outcome, outcome, accepted, refused, layerPrinting}
 use Rattle.layer_printer.specs.Places.{Owner, IsOwner, placeOf, ownerAt, LaidOut, layerNumber}
-use Rattle.layer_printer.proofs.PrintLaws.{ready-of}
+use Rattle.layer_printer.proofs.PrintLaws.{ready-of, layer-room}
 use Rattle.layer_printer.proofs.PlaceLaws.{pages-laid-out}
 
 -- ---- the cells of a layer
@@ -47,7 +46,7 @@ unfolding printedLayer mapLayer sides index
 printed-laid-out e z m hz l =
     let w : ℕ = 2 * e .x - 1 in
     let h : ℕ = 2 * e .y - 1 in
-    let room : w * h * z + w * h ≤ length m = omega (arith, cells-are e, listed-room (w * h) (2 * e .z - 1) z hz) in
+    let room = layer-room e z m hz l in
     pages-laid-out w h (take (w * h) (drop (w * h * z) m)) (layerNumber e z m) (line-long w h z m room) (line-holds w h z m room)
 
 -- No two owners stand at one place.
@@ -56,15 +55,15 @@ one-owner {w} {h} l a b p q e = sym (l .owner a p) ∙ ap (ownerAt w h) e ∙ l 
 
 -- ---- from the promise of `print_layer`
 
-module _ (e : Triple) (z : ℕ) (m t t′ : List ℕ) (r : ℕ) (p : outcome r t′ ≡ printing e z m t) where
+module _ (e : Triple) (z : ℕ) (m t t′ : List ℕ) (r : ℕ) (p : outcome r t′ ≡ layerPrinting e z m t) where
   -- what it answers is the refusal of the call
   pub print-refusal : r ≡ refusalOf e z m (length t)
-  unfolding printing
-  print-refusal = outcome-refusal (λ (o : Outcome). o .refusal) (refusalOf e z m (length t)) {accepted = outcome 0 (printedLayer e z m)} {refused = outcome (refusalOf e z m (length t)) t} refl refl p
+  unfolding layerPrinting accepted refused
+  print-refusal = outcome-refusal (λ (o : Outcome). o .refusal) (refusalOf e z m (length t)) refl refl p
 
   -- Accepted: each cell stands at its place in the tray, whatever the tray held.
   pub print-laid-out : r ≡ 0 → LaidOut (sides e .x) (sides e .y) (layerNumber e z m) t′
-  unfolding printing sides
+  unfolding layerPrinting accepted sides
   print-laid-out a =
       let n : refusalOf e z m (length t) ≡ 0 = sym print-refusal ∙ a in
       let ready = ready-of e z m (length t) n in
@@ -73,5 +72,5 @@ module _ (e : Triple) (z : ℕ) (m t t′ : List ℕ) (r : ℕ) (p : outcome r t
 
   -- Refused: the tray is as it was.
   pub print-kept : r ≢ 0 → t′ ≡ t
-  unfolding printing
+  unfolding layerPrinting refused
   print-kept d = ap (λ (o : Outcome). o .tray) {y = outcome (refusalOf e z m (length t)) t} (p ∙ rw (ne-eqb (refusalOf e z m (length t)) 0 (λ n. d (print-refusal ∙ n))))

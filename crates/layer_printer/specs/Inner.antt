@@ -6,7 +6,7 @@ use Prim.Native.Nat.{ℕ, _+_, _*_, _%_, _≤_}
 use lib.Dec.{eqb}
 use lib.ListN.{length}
 
--- The byte of the column that a number ends in: its last digit, a space for 0.
+-- The byte of the column that the digits of n end in: the last digit, and a space where no digit is left.
 unfoldable pub columnByte : ℕ → ℕ
 columnByte n = cond (eqb n 0) 32 (48 + n % 10)
 

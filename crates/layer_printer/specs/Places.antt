@@ -1,10 +1,10 @@
 -- Where each byte of a printed layer stands: "exact widths and the place of each cell are to be shown" (document 02, item 2). The layer has h lines of w cells.
 -- Assumes nothing.
 use mathlib.Core.Path.{_≡_}
-use mathlib.Core.Bool.{cond}
+use mathlib.Core.Bool.{Bool, true, cond, _&&_, _||_}
 use mathlib.Core.List.{List}
 use Prim.Native.Nat.{ℕ, _+_, _*_, _/_, _%_, _≤_, _<_}
-use lib.Dec.{eqb, ltb}
+use lib.Dec.{eqb, leb, ltb}
 use lib.ListN.{length, getD, take, drop}
 use Rattle.cells.specs.Box.{Triple, triple, index, place}
 use Rattle.cells.specs.Grid.{sides}
@@ -50,7 +50,11 @@ ownerByte number (of-cell x y c) = getD (cellColumns (number x y)) c 0
 ownerByte number (of-blank x y c) = 32
 ownerByte number (line-end p y) = 10
 
--- What is shown of a printed layer of w × h cells.
+-- What a column can have: a space, a hash sign, a dot or a digit.
+unfoldable pub isColumn : ℕ → Bool
+isColumn b = eqb b 32 || (eqb b 35 || (eqb b 46 || (leb 48 b && leb b 57)))
+
+-- What is shown of a printed layer of w × h cells. Each byte has exactly one owner: `ownerAt` and `placeOf` undo each other.
 pub record LaidOut (w h : ℕ) (number : ℕ → ℕ → ℕ) (text : List ℕ) : Type 0 where
   -- 81 bytes to a line, h lines to a page
   pub exact : length text ≡ 81 * h * pageCount w
@@ -65,7 +69,7 @@ pub record LaidOut (w h : ℕ) (number : ℕ → ℕ → ℕ) (text : List ℕ) 
   pub cell-bytes : (x y : ℕ) → x < w → y < h → take 5 (drop (columnAt w h x y 0) text) ≡ cellColumns (number x y)
   -- "every line is 80 characters and a line end, byte 10"
   pub line-ends : (t : ℕ) → t < length text → t % 81 ≡ 80 → getD text t 0 ≡ 10
-  pub characters : (t : ℕ) → t < length text → t % 81 < 80 → (32 ≤ getD text t 0) × (getD text t 0 ≤ 57)
+  pub characters : (t : ℕ) → t < length text → t % 81 < 80 → isColumn (getD text t 0) ≡ true
 
 -- What the cells of layer z of a map hold.
 abbrev pub layerNumber : Triple → ℕ → List ℕ → ℕ → ℕ → ℕ

@@ -20,15 +20,15 @@ cellColumns n = cond (eqb n 0) (rightAligned (46 ∷ [])) (cond (ltb 99999 n) (r
 
 -- Place x of a line of cells: "places beyond the grid are blank".
 unfoldable pub placeColumns : List ℕ → ℕ → List ℕ
-placeColumns line x = cond (ltb x (length line)) (cellColumns (getD line x 0)) (rightAligned [])
+placeColumns line x = cond (ltb x (length line)) (cellColumns (getD line x 0)) (replicate 5 32)
 
--- The places of a line of cells on page p: "a page is 16 cells wide".
-unfoldable pub placesOn : List ℕ → ℕ → List ℕ
-placesOn line p = flatMap (λ k. placeColumns line (16 * p + k)) (consecutive 0 16)
+-- The first n places of page p in a line of cells: "a page is 16 cells wide".
+unfoldable pub firstPlaces : List ℕ → ℕ → ℕ → List ℕ
+firstPlaces line p n = flatMap (λ k. placeColumns line (16 * p + k)) (consecutive 0 n)
 
--- "Every line is 80 characters and a line end, byte 10."
+-- All 16, and the line end: "every line is 80 characters and a line end, byte 10".
 unfoldable pub pageLine : List ℕ → ℕ → List ℕ
-pageLine line p = placesOn line p ++ (10 ∷ [])
+pageLine line p = firstPlaces line p 16 ++ (10 ∷ [])
 
 -- Line y of a layer whose lines have w cells.
 unfoldable pub cellLine : ℕ → List ℕ → ℕ → List ℕ

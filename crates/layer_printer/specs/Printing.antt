@@ -11,7 +11,8 @@ use Rattle.cells.specs.Extents.{offSize}
 use Rattle.cells.specs.Grid.{sides, cells}
 use Rattle.layer_printer.specs.Printed.{printedLayer}
 
--- The cases of `print_layer`: "a layer not there is 4", "a tray of another length than the pages is 6". The tray goes in by its length.
+-- The cases of `print_layer`: 1 for an extent that is 0 or above 64, "a layer not there is 4", 6 for a map that has another length than the cells, or "a tray of another
+-- length than the pages". The tray goes in by its length.
 unfoldable pub declines : Triple → ℕ → List ℕ → ℕ → List Case
 declines e z m tray =
     off-size if offSize 64 e ∷ no-such-place if leb (sides e .z) z ∷
@@ -29,8 +30,14 @@ pub record Outcome : Type 0 where
 abbrev pub outcome : ℕ → List ℕ → Outcome
 outcome n t = record { refusal = n; tray = t }
 
--- Accepted: the pages fill the tray. Refused: the number, and the tray as it was.
-unfoldable pub printing : Triple → ℕ → List ℕ → List ℕ → Outcome
-printing e z m t =
-    let n = refusalOf e z m (length t) in
-    cond (eqb n 0) (outcome 0 (printedLayer e z m)) (outcome n t)
+-- Accepted: the pages fill the tray.
+unfoldable pub accepted : Triple → ℕ → List ℕ → Outcome
+accepted e z m = outcome 0 (printedLayer e z m)
+
+-- Refused: the number, and the tray as it was.
+unfoldable pub refused : ℕ → List ℕ → Outcome
+refused n t = outcome n t
+
+-- The outcome of a call.
+unfoldable pub layerPrinting : Triple → ℕ → List ℕ → List ℕ → Outcome
+layerPrinting e z m t = cond (eqb (refusalOf e z m (length t)) 0) (accepted e z m) (refused (refusalOf e z m (length t)) t)

@@ -6,13 +6,13 @@ use refusals::OFF_SIZE;
 use refusals::WRONG_TRAY;
 ghost use mathlib.Core.Path.{_≡_};
 ghost use mathlib.Core.List.{[], _∷_};
-ghost use Prim.Native.Nat.{_+_, _-_, _*_, _<_, _≤_};
-ghost use lib.ListN.{length};
+ghost use Prim.Native.Nat.{_+_, _-_, _*_, _<_, _≤_, min};
+ghost use lib.ListN.{length, replicate};
 ghost use Rattle.lists.specs.Lists.{laid};
 ghost use Rattle.decimals.specs.Decimals.{decimal};
 ghost use Rattle.cells.specs.Box.{triple};
-ghost use Rattle.layer_printer.specs.Printed.{rightAligned, cellColumns, placeColumns, placesOn, pageLine, page, pageCount, pages};
-ghost use Rattle.layer_printer.specs.Printing.{refusalOf, outcome, printing};
+ghost use Rattle.layer_printer.specs.Printed.{rightAligned, cellColumns, firstPlaces, pageLine, page, pageCount, pages};
+ghost use Rattle.layer_printer.specs.Printing.{refusalOf, outcome, layerPrinting};
 ghost use Rattle.layer_printer.specs.Inner.{columnByte, Whole};
 
 const SPACE: u8 = 32;
@@ -23,7 +23,7 @@ const HASH: u8 = 35;
 
 const LINE_END: u8 = 10;
 
-// The byte of the column that a number ends in: its last digit, a space for 0.
+// The byte of the column that the digits of n end in: the last digit, and a space where no digit is left.
 fn column(n: u32) -> u8
     ensures { λ r. ⌜ r ≡ columnByte n ⌝ }
 {
@@ -74,36 +74,53 @@ fn put_cell(tray: &mut [u8], at: usize, n: u32)
     put_number(tray, at, n);
 }
 
-// Lays the five columns of place x of a line of cells, blank beyond them.
-fn put_place(tray: &mut [u8], at: usize, line: &[u32], x: usize)
-    requires { ⌜ at + 5 ≤ length (now tray) ⌝ }
-    ensures { λ _. ⌜ now (tray .exit) ≡ laid at (placeColumns (now (line .entry)) x) (now (tray .entry)) ⌝ }
+// How many of n cells in a line stand on page p.
+fn cells_on(n: usize, p: usize) -> usize
+    requires { ⌜ p < 8 ⌝ }
+    ensures { λ r. ⌜ r ≡ min 16 (n - 16 * p) ⌝ }
 {
-    if x >= line.len() {
-        put_five(tray, at, SPACE, SPACE, SPACE, SPACE, SPACE);
-        return;
+    let first = 16 * p;
+    if n <= first {
+        return 0;
     }
-    put_cell(tray, at, line[x]);
+    if n - first > 16 {
+        return 16;
+    }
+    n - first
 }
 
-// Lays the 16 places of a line of cells that page p has.
-fn put_places(tray: &mut [u8], at: usize, line: &[u32], p: usize)
-    requires { ⌜ (p < 8) × (at + 80 ≤ length (now tray)) ⌝ }
-    ensures { λ _. ⌜ now (tray .exit) ≡ laid at (placesOn (now (line .entry)) p) (now (tray .entry)) ⌝ }
+// Lays the first n places of page p in a line of cells. They are in the grid.
+fn put_cells(tray: &mut [u8], at: usize, line: &[u32], p: usize, n: usize)
+    requires { ⌜ (p < 8) × (n ≤ length (now line) - 16 * p) × (at + 5 * n ≤ length (now tray)) ⌝ }
+    ensures { λ _. ⌜ now (tray .exit) ≡ laid at (firstPlaces (now (line .entry)) p n) (now (tray .entry)) ⌝ }
 {
     let mut k: usize = 0;
-    while k < 16 {
-        put_place(tray, at + 5 * k, line, 16 * p + k);
+    while k < n {
+        put_cell(tray, at + 5 * k, line[16 * p + k]);
         k += 1;
     }
 }
 
-// Lays a line of cells on page p, and its line end.
+// Lays n spaces.
+fn put_spaces(tray: &mut [u8], at: usize, n: usize)
+    requires { ⌜ at + n ≤ length (now tray) ⌝ }
+    ensures { λ _. ⌜ now (tray .exit) ≡ laid at (replicate n 32) (now (tray .entry)) ⌝ }
+{
+    let mut i: usize = 0;
+    while i < n {
+        tray[at + i] = SPACE;
+        i += 1;
+    }
+}
+
+// Lays a line of cells on page p: its cells there, blanks beyond the grid, and the line end.
 fn put_line(tray: &mut [u8], at: usize, line: &[u32], p: usize)
     requires { ⌜ (p < 8) × (at + 81 ≤ length (now tray)) ⌝ }
     ensures { λ _. ⌜ now (tray .exit) ≡ laid at (pageLine (now (line .entry)) p) (now (tray .entry)) ⌝ }
 {
-    put_places(tray, at, line, p);
+    let n = cells_on(line.len(), p);
+    put_cells(tray, at, line, p, n);
+    put_spaces(tray, at + 5 * n, 80 - 5 * n);
     tray[at + 80] = LINE_END;
 }
 
@@ -153,19 +170,19 @@ fn put_pages(tray: &mut [u8], layer: &[u32], w: usize, h: usize)
 fn refusal(nx: u16, ny: u16, nz: u16, z: u32, map: &[u32], tray: usize) -> u32
     ensures { λ r. ⌜ r ≡ refusalOf (triple nx ny nz) z (now (map .entry)) tray ⌝ }
 {
-    let x = nx as usize;
-    let y = ny as usize;
-    let d = nz as usize;
-    if off_size(64, x, y, d) {
+    let wide = nx as usize;
+    let high = ny as usize;
+    let deep = nz as usize;
+    if off_size(64, wide, high, deep) {
         return OFF_SIZE;
     }
-    if (z as usize) >= 2 * d - 1 {
+    if (z as usize) >= 2 * deep - 1 {
         return NO_SUCH_PLACE;
     }
-    if map.len() != grid_cells(x, y, d) {
+    if map.len() != grid_cells(wide, high, deep) {
         return WRONG_TRAY;
     }
-    if tray != pages_length(x, y) {
+    if tray != pages_length(wide, high) {
         return WRONG_TRAY;
     }
     0
@@ -173,7 +190,7 @@ fn refusal(nx: u16, ny: u16, nz: u16, z: u32, map: &[u32], tray: usize) -> u32
 
 // Prints layer z of a block's map: its cells with that z. The pages fill the tray. Answers the number of the refusal, 0 for none.
 pub fn print_layer(nx: u16, ny: u16, nz: u16, z: u32, map: &[u32], tray: &mut [u8]) -> u32
-    ensures { λ r. ⌜ outcome r (now (tray .exit)) ≡ printing (triple nx ny nz) z (now (map .entry)) (now (tray .entry)) ⌝ }
+    ensures { λ r. ⌜ outcome r (now (tray .exit)) ≡ layerPrinting (triple nx ny nz) z (now (map .entry)) (now (tray .entry)) ⌝ }
 {
     let room = tray.len();
     let number = refusal(nx, ny, nz, z, map, room);

@@ -1,7 +1,7 @@
 -- Lists of one length, one after the other: f 0, f 1, .. as `flatMap f (consecutive 0 n)`.
 -- Assumes nothing.
 use mathlib.Core.Path.{_≡_, refl, sym, ap, _∙_}
-use mathlib.Core.List.{List, [], _∷_, _++_, append-assoc, append-nil, flatMap}
+use mathlib.Core.List.{List, [], _++_, append-nil, flatMap}
 use Prim.Native.Nat.{ℕ, zero, suc, _+_, _*_, _≤_, _<_}
 use native.Mathlib.Omega.{arith}
 use lib.Dec.{eqb}
@@ -13,13 +13,9 @@ use Rattle.lists.proofs.Cases.{by-test}
 use Rattle.lists.proofs.Lists.{consecutive-split}
 use Rattle.lists.proofs.Overlay.{row-place}
 use Rattle.lists.proofs.Laid.{laid-none, laid-next}
+use Rattle.lists.proofs.Flat.{flat-append}
 
 module _ (f : ℕ → List ℕ) where
-  flat-append : (a b : List ℕ) → flatMap f (a ++ b) ≡ flatMap f a ++ flatMap f b
-  unfolding flatMap
-  flat-append [] b = refl
-  flat-append (x ∷ a) b = rw (flat-append a b) (sym (append-assoc (f x) (flatMap f a) (flatMap f b)))
-
   flat-one : (n : ℕ) → flatMap f (consecutive n 1) ≡ f n
   unfolding flatMap consecutive
   flat-one n = append-nil (f n)
@@ -32,7 +28,7 @@ module _ (f : ℕ → List ℕ) where
   pub pieces-next : (n : ℕ) → flatMap f (consecutive 0 (n + 1)) ≡ flatMap f (consecutive 0 n) ++ f n
   pieces-next n =
       let z : 0 + n ≡ n = omega arith in
-      ap (flatMap f) (consecutive-split 0 n 1) ∙ flat-append (consecutive 0 n) (consecutive (0 + n) 1) ∙ rw (z, flat-one n)
+      ap (flatMap f) (consecutive-split 0 n 1) ∙ flat-append f (consecutive 0 n) (consecutive (0 + n) 1) ∙ rw (z, flat-one n)
 
 module _ (f : ℕ → List ℕ) (w : ℕ) (long : (k : ℕ) → length (f k) ≡ w) where
   pub length-pieces : (n : ℕ) → length (flatMap f (consecutive 0 n)) ≡ w * n

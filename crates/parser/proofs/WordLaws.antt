@@ -9,6 +9,7 @@ use lib.Dec.{eqb, leb, ltb}
 use lib.ListN.{length, length-append}
 use borrow.Author.Tests.{lt-leb, le-leb, le-ltb, ne-eqb, ltb-true, ltb-false}
 use Rattle.lists.proofs.Cases.{by-test, and-second}
+use Rattle.text.proofs.SpelledLaws.{value-snoc, digits-snoc}
 use Rattle.text.specs.Words.{gap, digit, ended, wordsFrom, wordsOf, allDigits, valueFrom, spelled, isNumber}
 use Rattle.parser.specs.declared.Scanned.{Scanned}
 use Rattle.parser.specs.Scanning.{State, state, scanned, begun, capped, spells, longer, counts, counted, lost, grown, stored, closed, step, after}
@@ -21,16 +22,6 @@ after-append st [] b = refl
 after-append st (x ∷ a) b = after-append (step (st .seen) (st .codes) x) a b
 
 -- ---- the word that has not ended
-
-value-snoc : (n : ℕ) (w : List ℕ) (b : ℕ) → valueFrom n (w ++ (b ∷ [])) ≡ 10 * valueFrom n w + (b - 48)
-unfolding valueFrom
-value-snoc n [] b = refl
-value-snoc n (x ∷ w) b = value-snoc (10 * n + (x - 48)) w b
-
-digits-snoc : (w : List ℕ) (b : ℕ) → allDigits (w ++ (b ∷ [])) ≡ (allDigits w && digit b)
-unfolding allDigits
-digits-snoc [] b = by-test (digit b) (λ t. rw t) (λ t. rw t)
-digits-snoc (x ∷ w) b = by-test (digit x) (λ t. rw t (digits-snoc w b)) (λ t. rw t)
 
 -- It may be a number, as far as it has come.
 abbrev good : List ℕ → Bool

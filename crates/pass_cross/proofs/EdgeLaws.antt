@@ -18,7 +18,7 @@ use Rattle.cells.specs.Box.{Triple}
 use Rattle.cells.specs.Row.{sameRow, padTo, numbersAt}
 use Rattle.labels.specs.Number.{pairs}
 use Rattle.pass_cross.specs.CrossEdges.{placeOf, edgeIf, crossPair}
-use Rattle.pass_cross.proofs.FlatLaws.{flat-append}
+use Rattle.lists.proofs.Flat.{flat-append}
 use Rattle.pass_cross.specs.Inner.{activeRow, cellRow, cellRows, padRows, countActive, edgesTo, edgesAmong}
 
 -- ---- two numbers

@@ -1,5 +1,4 @@
 -- The laws of the definitions in specs/.
-pub mod FlatLaws
 pub mod ReadLaws
 pub mod AroundLaws
 pub mod EdgeLaws

@@ -24,7 +24,7 @@ use Rattle.joiner.specs.Job.{Face, Curve, Tables, fromOf, node}
 use Rattle.joiner.specs.Outcomes.{AtCrossing, Merged, joined, throughLinks, joinedRow}
 use Rattle.theory_model.proofs.Merging.{joins-merged-by}
 use Rattle.pass_cross.specs.CrossEdges.{placeOf, readThrough, numbersThrough, rowThrough, edgeIf, crossPair, crossAt, crossEdges}
-use Rattle.pass_cross.proofs.FlatLaws.{flat-in, flat-out}
+use Rattle.lists.proofs.Flat.{flat-in, flat-out}
 
 -- ---- two numbers
 

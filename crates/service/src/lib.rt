@@ -26,7 +26,7 @@ ghost use Rattle.labeller.specs.Labelling.{labelling};
 ghost use Rattle.writer.specs.Writing.{writing};
 ghost use Rattle.reader.specs.Loaded.{reading};
 ghost use Rattle.maxima.specs.Maxima.{mostComponents};
-ghost use Rattle.layer_printer.specs.Printing.{outcome, printing};
+ghost use Rattle.layer_printer.specs.Printing.{outcome, layerPrinting};
 ghost use Rattle.service.specs.Exports.{exported, export, exportedMost, exportMost, exportedWriting, exportWriting, exportedReading, exportReading};
 ghost use Rattle.job_numbers.specs.Numbers.{jobIn};
 ghost use Rattle.exports.specs.Exports.{ExportedOpening, ExportedStep, ExportedLookup, ExportedStrain, ExportedTotal, RowExported, sixOf};
@@ -112,7 +112,7 @@ pub extern "C" fn tugrelis_print_layer(
     map: &[u32],
     tray: &mut [u8],
 ) -> u32
-    ensures { λ r. ⌜ outcome r (now (tray .exit)) ≡ printing (triple nx ny nz) z (now (map .entry)) (now (tray .entry)) ⌝ }
+    ensures { λ r. ⌜ outcome r (now (tray .exit)) ≡ layerPrinting (triple nx ny nz) z (now (map .entry)) (now (tray .entry)) ⌝ }
 {
     print_layer(nx, ny, nz, z, map, tray)
 }

@@ -1,7 +1,7 @@
 -- The decimal digits of a number spell it: a number that is printed is read back as itself.
 -- Assumes nothing.
-use mathlib.Core.Path.{_≡_, refl, sym, _∙_}
-use mathlib.Core.Bool.{true, true≢false}
+use mathlib.Core.Path.{_≡_, refl, _∙_}
+use mathlib.Core.Bool.{true, _&&_}
 use mathlib.Core.List.{List, [], _∷_, _++_}
 use Prim.Native.Nat.{ℕ, zero, suc, _+_, _-_, _*_, _/_, _%_, _^_, _≤_, _<_}
 use native.Mathlib.Nat.{pow-suc}
@@ -14,15 +14,20 @@ use Rattle.decimals.specs.Decimals.{decimalIn, decimal}
 use Rattle.decimals.proofs.DecimalLaws.{digits-low, digits-high}
 use Rattle.text.specs.Words.{digit, allDigits, valueFrom, spelled, isNumber}
 
-value-append : (n : ℕ) (a b : List ℕ) → valueFrom n (a ++ b) ≡ valueFrom (valueFrom n a) b
+-- One byte more: the number that is spelled, and whether all are digits.
+pub value-snoc : (n : ℕ) (w : List ℕ) (b : ℕ) → valueFrom n (w ++ (b ∷ [])) ≡ 10 * valueFrom n w + (b - 48)
 unfolding valueFrom
-value-append n [] b = refl
-value-append n (x ∷ a) b = value-append (10 * n + (x - 48)) a b
+value-snoc n [] b = refl
+value-snoc n (x ∷ w) b = value-snoc (10 * n + (x - 48)) w b
 
-digits-append : (a b : List ℕ) → allDigits a ≡ true → allDigits b ≡ true → allDigits (a ++ b) ≡ true
+pub digits-snoc : (w : List ℕ) (b : ℕ) → allDigits (w ++ (b ∷ [])) ≡ (allDigits w && digit b)
 unfolding allDigits
-digits-append [] b p q = q
-digits-append (x ∷ a) b p q = by-test (digit x) (λ t. rw t (digits-append a b (rw t at p) q)) (λ t. absurd (true≢false (sym (rw t at p))))
+digits-snoc [] b = by-test (digit b) (λ t. rw t) (λ t. rw t)
+digits-snoc (x ∷ w) b = by-test (digit x) (λ t. rw t (digits-snoc w b)) (λ t. rw t)
+
+digit-byte : (d : ℕ) → d < 10 → digit (48 + d) ≡ true
+unfolding digit
+digit-byte d h = rw (le-leb 48 (48 + d) (omega arith), le-leb (48 + d) 57 (omega arith))
 
 -- What is shown of the digits of n in f places.
 record Spells (f n : ℕ) (w : List ℕ) : Type 0 where
@@ -31,15 +36,9 @@ record Spells (f n : ℕ) (w : List ℕ) : Type 0 where
   some : 1 ≤ length w
   few : length w ≤ f
 
--- one digit
-digit-spells : (d : ℕ) → d < 10 → (n : ℕ) → (valueFrom n ((48 + d) ∷ []) ≡ 10 * n + d) × (allDigits ((48 + d) ∷ []) ≡ true)
-unfolding valueFrom allDigits digit
-digit-spells d h n = (omega arith, rw (le-leb 48 (48 + d) (omega arith), le-leb (48 + d) 57 (omega arith)))
-
 one-spells : (f n : ℕ) → n < 10 → Spells (suc f) n (decimalIn (suc f) n)
-one-spells f n low =
-    let d = digit-spells n low 0 in
-    rw (digits-low f n low) (record { value = d .0 ∙ omega arith; digits = d .1; some = omega arith; few = omega arith })
+unfolding valueFrom allDigits
+one-spells f n low = rw (digits-low f n low) (record { value = omega arith; digits = rw (digit-byte n low); some = omega arith; few = omega arith })
 
 spells : (f n : ℕ) → n < 10 ^ suc f → Spells (suc f) n (decimalIn (suc f) n)
 spells zero n h = one-spells zero n (omega arith)
@@ -48,12 +47,11 @@ spells (suc f) n h =
     (λ t.
     let before = decimalIn (suc f) (n / 10) in
     let s = spells f (n / 10) (omega (arith, pow-suc 10 (suc f))) in
-    let d = digit-spells (n % 10) (omega arith) (n / 10) in
     let l = length-append before ((48 + n % 10) ∷ []) in
     rw (digits-high (suc f) n (ltb-false n 10 t))
     (record {
-      value = value-append 0 before ((48 + n % 10) ∷ []) ∙ rw (s .value) (d .0 ∙ omega arith);
-      digits = digits-append before ((48 + n % 10) ∷ []) (s .digits) (d .1);
+      value = value-snoc 0 before (48 + n % 10) ∙ rw (s .value) (omega arith);
+      digits = digits-snoc before (48 + n % 10) ∙ rw (s .digits, digit-byte (n % 10) (omega arith));
       some = omega arith;
       few = omega (arith, s .few);
     }))

@@ -1,11 +1,11 @@
 -- `layer_printer::print_layer` meets its contract.
 use mathlib.Core.Path.{_∙_, sym}
-use Prim.Native.Nat.{_+_, _-_, _*_, _≤_}
+use Prim.Native.Nat.{_+_, _*_, _≤_}
 use native.Mathlib.Omega.{arith}
 use lib.ListN.{length}
 use borrow.Author.Needs.{needs}
 use Rattle.cells.specs.Box.{triple}
-use Rattle.layer_printer.proofs.PrintLaws.{Ready, ready-of, layer-room, layer-whole, print-refused, print-accepted}
+use Rattle.layer_printer.proofs.PrintLaws.{Ready, ready-of, layerCells, layer-room, layer-whole, print-refused, print-accepted}
 use Rattle.layer_printer.proofs.print_layer.Statement.{statement}
 use Rattle.layer_printer.proofs.print_layer.Tie as tie
 
@@ -19,8 +19,8 @@ returns c = print-refused _ _ _ _ _ (c .before .refusal .ensures) (c .if1 .taken
 ready : (c : tie.Else1) → let a = c .before .before .before .before .args in Ready (triple (a .nx) (a .ny) (a .nz)) (a .z) (a .map .now) (length (a .tray .now))
 ready c = ready-of _ _ _ _ (sym (c .before .refusal .ensures) ∙ c .if1 .left)
 
-room : (c : tie.Else1) → let a = c .before .before .before .before .args in (2 * a .nx - 1) * (2 * a .ny - 1) * a .z + (2 * a .nx - 1) * (2 * a .ny - 1) ≤ length (a .map .now)
-room c = layer-room _ _ _ _ (ready c)
+room : (c : tie.Else1) → let a = c .before .before .before .before .args in let e = triple (a .nx) (a .ny) (a .nz) in layerCells e * a .z + layerCells e ≤ length (a .map .now)
+room c = let a = c .before .before .before .before .args in layer-room _ _ (a .map .now) (ready c .there) (ready c .mapped)
 
 mul-w : tie.Need-mul-w
 mul-w c = search needs

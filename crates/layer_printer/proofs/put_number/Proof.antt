@@ -30,7 +30,14 @@ returns c =
     let back4 = c .before .before .before .before in
     let back8 = back4 .before .before .before .before in
     let start = back8 .before .before in
-    rw (number-columns _ (start .pre .1) (start .pre .2), ← back4 .column5 .ensures, ← back4 .before .column4 .ensures, ← back4 .before .before .column3 .ensures, ← back4 .before .before .before .column2 .ensures, ← back8 .column .ensures) (c .before .before .put-five .ensures)
+    rw (
+      number-columns _ (start .pre .1) (start .pre .2),
+      ← back4 .column5 .ensures,
+      ← back4 .before .column4 .ensures,
+      ← back4 .before .before .column3 .ensures,
+      ← back4 .before .before .before .column2 .ensures,
+      ← back8 .column .ensures,
+    ) (c .before .before .put-five .ensures)
 
 pub put-number-spec : {M : Type 1} → statement M
 put-number-spec =

@@ -16,7 +16,7 @@ use Rattle.lines.proofs.WalkLaws.{onwards, lines-first, lines-next, lines-last}
 use Rattle.pass_cross.specs.CrossEdges.{crossAt, crossEdges}
 use Rattle.pass_cross.specs.Inner.{lineEdges}
 use Rattle.pass_cross.proofs.CrossLaws.{StillToCross, rest-all, rest-fewer, rest-none, trays-kept}
-use Rattle.pass_cross.proofs.FlatLaws.{flat-append}
+use Rattle.lists.proofs.Flat.{flat-append}
 use Rattle.pass_cross.proofs.cross_cells.Statement.{statement}
 use Rattle.pass_cross.proofs.cross_cells.Tie as tie
 
