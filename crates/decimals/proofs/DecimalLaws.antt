@@ -1,13 +1,18 @@
 -- The digits of a number: the last one and those before it. Assumes nothing.
 use mathlib.Core.Path.{_≡_, ap, _∙_}
+use mathlib.Core.Bool.{true}
 use mathlib.Core.List.{List, [], _∷_, _++_}
 use Prim.Native.Nat.{ℕ, zero, suc, _+_, _/_, _%_, _^_, _≤_, _<_}
 use native.Mathlib.Nat.{pow-suc}
 use native.Mathlib.Omega.{arith}
 use lib.Dec.{ltb}
-use borrow.Author.Tests.{lt-ltb, le-ltb}
+use borrow.Author.Tests.{le-leb, lt-ltb, le-ltb}
 use Rattle.lists.proofs.Cases.{by-test}
-use Rattle.decimals.specs.Decimals.{decimalIn, decimal}
+use Rattle.decimals.specs.Decimals.{digit, decimalIn, decimal}
+
+pub digit-byte : (d : ℕ) → d < 10 → digit (48 + d) ≡ true
+unfolding digit
+digit-byte d h = rw (le-leb 48 (48 + d) (omega arith), le-leb (48 + d) 57 (omega arith))
 
 -- in any number of places
 pub digits-low : (f n : ℕ) → n < 10 → decimalIn (suc f) n ≡ (48 + n) ∷ []

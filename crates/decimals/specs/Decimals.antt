@@ -1,9 +1,13 @@
 -- Numbers in decimal digits, as bytes in ASCII: those of the listing (document 01) and of a printed layer (document 02, item 2).
 -- Assumes nothing.
-use mathlib.Core.Bool.{cond}
+use mathlib.Core.Bool.{Bool, cond, _&&_}
 use mathlib.Core.List.{List, [], _∷_, _++_}
 use Prim.Native.Nat.{ℕ, zero, suc, _+_, _/_, _%_}
-use lib.Dec.{ltb}
+use lib.Dec.{leb, ltb}
+
+-- One of the bytes 48 to 57.
+unfoldable pub digit : ℕ → Bool
+digit b = leb 48 b && leb b 57
 
 -- The decimal digits of n, in at most f places.
 unfoldable pub decimalIn : ℕ → ℕ → List ℕ

@@ -8,13 +8,13 @@ use native.Mathlib.Nat.{pow-suc}
 use native.Mathlib.Omega.{arith}
 use lib.Dec.{eqb, ltb}
 use lib.ListN.{length, getD, replicate, length-append, replicate-append-replicate, getD-replicate}
-use borrow.Author.Tests.{ltb-true, ltb-false, eqb-true, eqb-false, eq-eqb, ne-eqb, le-leb, lt-ltb, le-ltb}
+use borrow.Author.Tests.{ltb-true, ltb-false, eqb-true, eqb-false, eq-eqb, ne-eqb, lt-ltb, le-ltb}
 use Rattle.lists.specs.Lists.{allOf}
 use Rattle.lists.proofs.Cases.{by-test}
 use Rattle.lists.proofs.Lists.{getD-in}
 use Rattle.lists.proofs.Tests.{all-out}
 use Rattle.decimals.specs.Decimals.{decimalIn, decimal}
-use Rattle.decimals.proofs.DecimalLaws.{digits-low, digits-high}
+use Rattle.decimals.proofs.DecimalLaws.{digit-byte, digits-low, digits-high}
 use Rattle.layer_printer.specs.Printed.{rightAligned, cellColumns, placeColumns}
 use Rattle.layer_printer.specs.Places.{isColumn}
 use Rattle.layer_printer.specs.Inner.{columnByte}
@@ -130,7 +130,7 @@ place-five line x = by-place line x (λ (l : List ℕ). length l ≡ 5) refl (co
 
 digit-column : (d : ℕ) → d < 10 → isColumn (48 + d) ≡ true
 unfolding isColumn
-digit-column d h = rw (ne-eqb (48 + d) 32 (λ e. omega arith), ne-eqb (48 + d) 35 (λ e. omega arith), ne-eqb (48 + d) 46 (λ e. omega arith), le-leb 48 (48 + d) (omega arith), le-leb (48 + d) 57 (omega arith))
+digit-column d h = rw (ne-eqb (48 + d) 32 (λ e. omega arith), ne-eqb (48 + d) 35 (λ e. omega arith), ne-eqb (48 + d) 46 (λ e. omega arith), digit-byte d h)
 
 byte-column : (n : ℕ) → isColumn (columnByte n) ≡ true
 unfolding columnByte isColumn

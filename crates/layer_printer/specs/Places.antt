@@ -1,11 +1,12 @@
 -- Where each byte of a printed layer stands: "exact widths and the place of each cell are to be shown" (document 02, item 2). The layer has h lines of w cells.
 -- Assumes nothing.
 use mathlib.Core.Path.{_≡_}
-use mathlib.Core.Bool.{Bool, true, cond, _&&_, _||_}
+use mathlib.Core.Bool.{Bool, true, cond, _||_}
 use mathlib.Core.List.{List}
 use Prim.Native.Nat.{ℕ, _+_, _*_, _/_, _%_, _≤_, _<_}
-use lib.Dec.{eqb, leb, ltb}
+use lib.Dec.{eqb, ltb}
 use lib.ListN.{length, getD, take, drop}
+use Rattle.decimals.specs.Decimals.{digit}
 use Rattle.cells.specs.Box.{Triple, triple, index, place}
 use Rattle.cells.specs.Grid.{sides}
 use Rattle.layer_printer.specs.Printed.{cellColumns, pageCount}
@@ -52,7 +53,7 @@ ownerByte number (line-end p y) = 10
 
 -- What a column can have: a space, a hash sign, a dot or a digit.
 unfoldable pub isColumn : ℕ → Bool
-isColumn b = eqb b 32 || (eqb b 35 || (eqb b 46 || (leb 48 b && leb b 57)))
+isColumn b = eqb b 32 || (eqb b 35 || (eqb b 46 || digit b))
 
 -- What is shown of a printed layer of w × h cells. Each byte has exactly one owner: `ownerAt` and `placeOf` undo each other.
 pub record LaidOut (w h : ℕ) (number : ℕ → ℕ → ℕ) (text : List ℕ) : Type 0 where

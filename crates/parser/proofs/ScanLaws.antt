@@ -11,7 +11,8 @@ use lib.ListN.{length, getD, drop, set, drop-of-length-le}
 use lib.Seq.{drop-cons, set-out}
 use borrow.Author.Tests.{lt-leb, le-leb, lt-ltb, le-ltb, eq-eqb, ne-eqb, ltb-true}
 use Rattle.lists.proofs.Cases.{and-first, and-second}
-use Rattle.text.specs.Words.{gap, digit}
+use Rattle.decimals.specs.Decimals.{digit}
+use Rattle.text.specs.Words.{gap}
 use Rattle.parser.specs.declared.Scanned.{Scanned}
 use Rattle.parser.specs.Scanning.{State, state, capped, spells, counts, counted, lost, grown, stored, closed, step, after}
 

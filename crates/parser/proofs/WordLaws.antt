@@ -10,7 +10,8 @@ use lib.ListN.{length, length-append}
 use borrow.Author.Tests.{lt-leb, le-leb, le-ltb, ne-eqb, ltb-true, ltb-false}
 use Rattle.lists.proofs.Cases.{by-test, and-second}
 use Rattle.text.proofs.SpelledLaws.{value-snoc, digits-snoc}
-use Rattle.text.specs.Words.{gap, digit, ended, wordsFrom, wordsOf, allDigits, valueFrom, spelled, isNumber}
+use Rattle.decimals.specs.Decimals.{digit}
+use Rattle.text.specs.Words.{gap, ended, wordsFrom, wordsOf, allDigits, valueFrom, spelled, isNumber}
 use Rattle.parser.specs.declared.Scanned.{Scanned}
 use Rattle.parser.specs.Scanning.{State, state, scanned, begun, capped, spells, longer, counts, counted, lost, grown, stored, closed, step, after}
 

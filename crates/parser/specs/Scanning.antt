@@ -5,7 +5,8 @@ use mathlib.Core.List.{List, [], _∷_}
 use Prim.Native.Nat.{ℕ, _+_, _-_, _*_, _^_}
 use lib.Dec.{eqb, ltb}
 use lib.ListN.{set}
-use Rattle.text.specs.Words.{gap, digit}
+use Rattle.decimals.specs.Decimals.{digit}
+use Rattle.text.specs.Words.{gap}
 use Rattle.parser.specs.declared.Scanned.{Scanned}
 
 -- What has been read, and the tray of codes.

@@ -4,7 +4,7 @@ use mathlib.Core.Path.{_≡_, refl}
 use mathlib.Core.List.{List, [], _∷_, _++_}
 use Prim.Native.Nat.{ℕ}
 use Rattle.lists.specs.Lists.{consecutive, tabulate}
-use Rattle.decimals.specs.Decimals.{decimalIn, decimal}
+use Rattle.decimals.specs.Decimals.{digit, decimalIn, decimal}
 use Rattle.closure.specs.Joined.{mergeIds, joinClasses, joins, rep}
 use Rattle.closure.specs.Numbered.{countBelow, leader, numberBy, label}
 use Rattle.refusals.specs.Refusals.{number as refusal-number, table, first, givenBy, standsIn}
@@ -14,7 +14,7 @@ use Rattle.cells.specs.Grid.{sides, cells, parity, order, along, upperNeighbour
 use Rattle.cells.specs.Row.{rowOf, occupied, row, active}
 use Rattle.labels.specs.Number.{pairs, alike, edgesAt, orderBelow, edges, activeOf, number, numberedAt, numbered, codeAt, mapDown, labels}
 use Rattle.labels.specs.Components.{ofOrder, largest, component, firstCell, rowAtFirst, componentRow}
-use Rattle.text.specs.Words.{gap, digit, ended, wordsFrom, wordsOf, allDigits, valueFrom, spelled, isNumber}
+use Rattle.text.specs.Words.{gap, ended, wordsFrom, wordsOf, allDigits, valueFrom, spelled, isNumber}
 use Rattle.text.specs.Request.{numbers, word, readable, extentsIn, codesIn, formed, declinesText, textRefusal, askedExtents, askedCodes}
 use Rattle.text.specs.Listing.{spaced, letter, width, coordinates, line, linesFor, linesOf, heading, listing, refusedLine, printed}
 

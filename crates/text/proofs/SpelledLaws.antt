@@ -10,9 +10,9 @@ use lib.Dec.{ltb}
 use lib.ListN.{length, length-append}
 use borrow.Author.Tests.{ltb-true, ltb-false, lt-ltb, le-leb}
 use Rattle.lists.proofs.Cases.{by-test}
-use Rattle.decimals.specs.Decimals.{decimalIn, decimal}
-use Rattle.decimals.proofs.DecimalLaws.{digits-low, digits-high}
-use Rattle.text.specs.Words.{digit, allDigits, valueFrom, spelled, isNumber}
+use Rattle.decimals.specs.Decimals.{digit, decimalIn, decimal}
+use Rattle.decimals.proofs.DecimalLaws.{digit-byte, digits-low, digits-high}
+use Rattle.text.specs.Words.{allDigits, valueFrom, spelled, isNumber}
 
 -- One byte more: the number that is spelled, and whether all are digits.
 pub value-snoc : (n : ℕ) (w : List ℕ) (b : ℕ) → valueFrom n (w ++ (b ∷ [])) ≡ 10 * valueFrom n w + (b - 48)
@@ -24,10 +24,6 @@ pub digits-snoc : (w : List ℕ) (b : ℕ) → allDigits (w ++ (b ∷ [])) ≡ (
 unfolding allDigits
 digits-snoc [] b = by-test (digit b) (λ t. rw t) (λ t. rw t)
 digits-snoc (x ∷ w) b = by-test (digit x) (λ t. rw t (digits-snoc w b)) (λ t. rw t)
-
-digit-byte : (d : ℕ) → d < 10 → digit (48 + d) ≡ true
-unfolding digit
-digit-byte d h = rw (le-leb 48 (48 + d) (omega arith), le-leb (48 + d) 57 (omega arith))
 
 -- What is shown of the digits of n in f places.
 record Spells (f n : ℕ) (w : List ℕ) : Type 0 where

@@ -6,14 +6,11 @@ use mathlib.Core.List.{List, [], _∷_, _++_}
 use Prim.Native.Nat.{ℕ, _+_, _-_, _*_, _^_}
 use lib.Dec.{eqb, leb, ltb}
 use lib.ListN.{length}
+use Rattle.decimals.specs.Decimals.{digit}
 
 -- A space or a line end: byte 32 or byte 10.
 unfoldable pub gap : ℕ → Bool
 gap b = eqb b 32 || eqb b 10
-
--- One of the bytes 48 to 57.
-unfoldable pub digit : ℕ → Bool
-digit b = leb 48 b && leb b 57
 
 -- A word that ends before the words ws; none where no byte of it has come.
 unfoldable pub ended : List ℕ → List (List ℕ) → List (List ℕ)
