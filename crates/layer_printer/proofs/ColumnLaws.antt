@@ -9,7 +9,7 @@ use native.Mathlib.Omega.{arith}
 use lib.Dec.{eqb, ltb}
 use lib.ListN.{length, getD, replicate, length-append, replicate-append-replicate, getD-replicate}
 use borrow.Author.Tests.{ltb-true, ltb-false, eqb-true, eqb-false, eq-eqb, ne-eqb, lt-ltb, le-ltb}
-use Rattle.lists.specs.Lists.{allOf}
+use Rattle.lists.specs.Lists.{allOf, laid}
 use Rattle.lists.proofs.Cases.{by-test}
 use Rattle.lists.proofs.Lists.{getD-in}
 use Rattle.lists.proofs.Tests.{all-out}
@@ -104,6 +104,10 @@ module _ (n : ℕ) where
       let p : 0 < n = omega arith in
       by-test (ltb 99999 n) (λ u. rw (cell-large (ltb-true 99999 n u)) b)
       (λ u. let h : n ≤ 99999 = ltb-false 99999 n u in rw (cell-number p h) (c p h)))
+
+-- what is laid for a cell, by the way that its number goes
+pub cell-laid : (at n : ℕ) (t u five : List ℕ) → cellColumns n ≡ five → u ≡ laid at five t → u ≡ laid at (cellColumns n) t
+cell-laid at n t u five e i = rw e i
 
 module _ (line : List ℕ) (x : ℕ) where
   -- "Places beyond the grid are blank."
