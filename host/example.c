@@ -1,4 +1,5 @@
-/* Asks how many components a block can have, then labels and joins a volume of 3×2×1 voxels from two blocks, prints a layer of the first one, and reads the strains on one of its faces, through tugrelis.h, in plain C.
+/* Asks how many components a block can have, then labels and joins a volume of 3×2×1 voxels from two blocks, prints a layer of the first one, looks up cells
+   one by one and together, and reads the strains on one of its faces, through tugrelis.h, in plain C.
    Every answer is checked; the first that is not as it must be is printed, and the exit status is then 1.
 
        1 2 2      cut at x = 1 into    1 2    and    2 2
@@ -11,7 +12,7 @@
 
 #include "tugrelis.h"
 
-enum { BLOCKS = 2, CELLS = 9, FACES = 5, CURVES = 1, RECORD = 64 };
+enum { BLOCKS = 2, CELLS = 9, FACES = 5, CURVES = 1, RECORD = 64, ASKED = 4 };
 
 /* A job with its tables. The volume has no point cell, so its tables of points have no entries: each is the empty slice, NULL and 0. */
 struct job {
@@ -29,6 +30,9 @@ struct job {
 };
 
 static const uint32_t cuts_x[] = {0, 1, 2}, cuts_y[] = {0, 1}, cuts_z[] = {0};
+
+/* Cells that are looked up together: one twice, and the second one is in both blocks. */
+static const uint32_t asked_x[ASKED] = {4, 2, 1, 4}, asked_y[ASKED] = {1, 1, 0, 1}, asked_z[ASKED] = {0};
 
 /* An array with its length, as the functions take a slice. */
 #define SLICE(array) (array), sizeof(array) / sizeof((array)[0])
@@ -82,6 +86,16 @@ static uint32_t point(struct job *j, uint32_t block, const uint32_t map[CELLS]) 
 
 static uint32_t lookup(const struct job *j, uint32_t block, const uint32_t map[CELLS], uint32_t x, uint32_t y, uint32_t *number) {
     return tugrelis_lookup(j->numbers, CUTS, SLICE(j->ticks), SLICE(j->blocks), SLICE(j->face_numbers), SLICE(j->curve_numbers), NONE, block, map, CELLS, x, y, 0, number);
+}
+
+static uint32_t request(const struct job *j, const uint32_t xs[ASKED], const uint32_t ys[ASKED], uint32_t needed[ASKED], uint32_t *count) {
+    return tugrelis_request_blocks(j->numbers, CUTS, xs, ASKED, ys, ASKED, SLICE(asked_z), needed, ASKED, count);
+}
+
+static uint32_t fill(const struct job *j, uint32_t block, const uint32_t map[CELLS], uint32_t answers[ASKED]) {
+    return tugrelis_fill_cells(
+        j->numbers, CUTS, SLICE(j->ticks), SLICE(j->blocks), SLICE(j->face_numbers), SLICE(j->curve_numbers), NONE, SLICE(asked_x), SLICE(asked_y), SLICE(asked_z), block, map, CELLS,
+        answers, ASKED);
 }
 
 static uint32_t strain(struct job *j, uint32_t block, const uint32_t map[CELLS], const double values[4], const uint8_t kinds[4]) {
@@ -158,6 +172,28 @@ static void look(const struct job *j, uint32_t block, const uint32_t map[CELLS],
     printf("\n");
 }
 
+/* Looks up the cells together: asks which blocks are needed, and has each of them fill in its answers. */
+static void together(const struct job *j, uint32_t maps[BLOCKS][CELLS]) {
+    static const uint32_t none[ASKED] = {7, 7, 7, 7}, outside[ASKED] = {0, 0, 3, 0};
+    static const uint32_t blocks[ASKED] = {0, 1, 7, 7}, first[ASKED] = {3, 7, 7, 3}, right[ASKED] = {3, 3, 1, 3};
+    uint32_t needed[ASKED] = {7, 7, 7, 7}, answers[ASKED] = {7, 7, 7, 7}, count = 7, i;
+    expect("a cell outside the volume", request(j, asked_x, outside, needed, &count), TUGRELIS_NO_SUCH_PLACE);
+    expect("blocks or count of a refused request", memcmp(needed, none, sizeof none) != 0 || count != 7, 0);
+    expect("request", request(j, asked_x, asked_y, needed, &count), 0);
+    expect("the needed blocks", count == 2 && memcmp(needed, blocks, sizeof blocks) == 0, 1);
+    expect("a block that is not needed", fill(j, 2, maps[1], answers), TUGRELIS_NO_SUCH_PLACE);
+    expect("answers of a refused filling", memcmp(answers, none, sizeof none) != 0, 0);
+    expect("fill", fill(j, 1, maps[1], answers), 0);
+    expect("the answers of block 1", memcmp(answers, first, sizeof first) != 0, 0);
+    expect("fill", fill(j, 0, maps[0], answers), 0);
+    expect("all answers", memcmp(answers, right, sizeof right) != 0, 0);
+    printf("together, from blocks %" PRIu32 " and %" PRIu32 ":", needed[0], needed[1]);
+    for (i = 0; i < ASKED; i++) {
+        printf(" %" PRIu32, answers[i]);
+    }
+    printf("\n");
+}
+
 /* Opens the job and takes it through enrolments, seam and crossings. */
 static void join(struct job *j, uint32_t maps[BLOCKS][CELLS]) {
     uint32_t b;
@@ -202,6 +238,7 @@ int main(void) {
     for (b = 0; b < BLOCKS; b++) {
         look(&job, b, maps[b], volume);
     }
+    together(&job, maps);
     expect("row", tugrelis_curve_row(job.numbers, 1, SLICE(job.face_listed), SLICE(job.curve_listed), NONE, row), 0);
     expect("the row of curve 1", memcmp(row, row_right, sizeof row) != 0, 0);
     expect("first position of curve 1", job.curve_firsts[0] == 6, 1);

@@ -18,9 +18,9 @@ enum tugrelis_refusal {
     TUGRELIS_OFF_SIZE = 1,      /* An extent is 0 or above its limit, or origin and extent together pass 1,024. */
     TUGRELIS_BAD_CUT = 2,       /* A cut list breaks its rule, or there are more than 16,384 blocks. */
     TUGRELIS_WRONG_STAGE = 3,   /* The step or reading belongs to another stage of the job, or a total is read before all readings have come. */
-    TUGRELIS_NO_SUCH_PLACE = 4, /* There is no such block, the pair is no seam, the cell is outside the block, the layer is not there, or a component's number is 0 or too large. */
+    TUGRELIS_NO_SUCH_PLACE = 4, /* There is no such block, the pair is no seam, the cell is outside the block or the volume, no cell is read from the block, the layer is not there, or a component's number is 0 or too large. */
     TUGRELIS_DONE_ALREADY = 5,  /* This block or seam has had this step in this stage. */
-    TUGRELIS_WRONG_TRAY = 6,    /* A tray, map, list of codes or readings, or table has another length than the stated one, or the record tray is too short. */
+    TUGRELIS_WRONG_TRAY = 6,    /* A tray, map, list of codes, readings or cells, or table has another length than the stated one, or the record tray is too short. */
     TUGRELIS_BLANK_VOXEL = 7,   /* Is no longer given: a code 0 is a voxel outside the specimen. */
     TUGRELIS_STRAY_LABEL = 8,   /* A map, a tally or an entry holds a number that cannot stand there. */
     TUGRELIS_LAYERS_DIFFER = 9, /* The two blocks of a seam differ in the layer that they share: in a code, or in a cell that is active in one of them only. */
@@ -60,6 +60,9 @@ enum tugrelis_refusal {
    face_sums       2 * face_entries, 64-bit floats: the lower-code side and the higher-code side; the outside is the higher one, with zeros
    face_counts     6 * face_entries, 64 bits each: strains, clipped, missing of the lower side, then of the higher
    values, kinds   n_x n_y n_z of the block, x fastest; kinds are 0 strain, 1 clipped, 2 missing
+   xs, ys, zs      one coordinate for each cell, 0 to 2 n - 2 for an extent of n; at most 4,096 cells
+   needed          1 a cell
+   answers         1 a cell
 
    A job is kept in thirteen numbers: the stage (0 enrol, 1 seam, 2 crossing, 3 points, 4 closed), the extents x y z, the entries of faces, curves
    and points, how many of each are enrolled or found, and how many are numbered. A step stores the job that it hands on. */
@@ -213,6 +216,38 @@ uint32_t tugrelis_lookup(
     const uint32_t *map, size_t map_len,
     uint32_t x, uint32_t y, uint32_t z,
     uint32_t *number);
+
+/* The blocks that cells of a closed job are read from, each once, ascending: the cells in any order, repeats allowed; a tray, of which the first places get the
+   blocks and the others stay; a place for the count. A cell in several blocks is read from the lowest-numbered one. */
+uint32_t tugrelis_request_blocks(
+    const uint32_t job[13],
+    const uint32_t *cx, size_t cx_len,
+    const uint32_t *cy, size_t cy_len,
+    const uint32_t *cz, size_t cz_len,
+    const uint32_t *xs, size_t xs_len,
+    const uint32_t *ys, size_t ys_len,
+    const uint32_t *zs, size_t zs_len,
+    uint32_t *needed, size_t needed_len,
+    uint32_t *count);
+
+/* Fills in the final numbers of the cells that are read from one block: the same cells, a needed block, its map, a tray of answers. The other answers stay.
+   Once each needed block has come, in any order, the tray has the number of every cell, in the order of the cells. */
+uint32_t tugrelis_fill_cells(
+    const uint32_t job[13],
+    const uint32_t *cx, size_t cx_len,
+    const uint32_t *cy, size_t cy_len,
+    const uint32_t *cz, size_t cz_len,
+    const uint32_t *ticks, size_t ticks_len,
+    const uint32_t *blocks, size_t blocks_len,
+    const uint32_t *face_numbers, size_t face_numbers_len,
+    const uint32_t *curve_numbers, size_t curve_numbers_len,
+    const uint64_t *point_firsts, size_t point_firsts_len,
+    const uint32_t *xs, size_t xs_len,
+    const uint32_t *ys, size_t ys_len,
+    const uint32_t *zs, size_t zs_len,
+    uint32_t block,
+    const uint32_t *map, size_t map_len,
+    uint32_t *answers, size_t answers_len);
 
 /* Adds the readings of a block of a closed job to the totals of its faces, each block once: its map, its values in microstrain (whole multiples of
    1/1,024, at most 2,048 either way) and its kind bytes. A clipped value is counted and not summed; the value of a missing one is ignored. */

@@ -1,6 +1,9 @@
-//! Times of the proved labeller, writer, reader and printer, and of the readings' step, beside plain Rust, in one run: medians of several rounds, as ratios.
+//! Times of the proved labeller, writer, reader and printer, of the readings' step, and of cells looked up together, beside plain Rust, in one run: medians of
+//! several rounds, as ratios.
+mod cells;
 mod codec;
 mod joins;
+mod lookups;
 mod pages;
 mod plain;
 mod volume;
@@ -137,22 +140,8 @@ fn printing(name: &str, map: &[u32]) {
     println!("{:<22} {:>8.1} {:>10.1} {:>8.2}", name, a, b, a / b);
 }
 
-fn main() {
-    let words: Vec<String> = std::env::args().skip(1).collect();
-    if let [k, stage] = &words[..] {
-        return volume::counted(k.parse().expect("a number"), stage.parse().expect("a number"));
-    }
-    if let [word, volume, times] = &words[..] {
-        let (volume, times) = (volume.parse().expect("a number"), times.parse().expect("a number"));
-        return match &word[..] {
-            "label" => labelled(volume, times),
-            "strain" => {
-                let (name, codes) = volumes().swap_remove(volume);
-                volume::strained(name, &codes, SIDE, times)
-            }
-            _ => panic!("label or strain"),
-        };
-    }
+/// One block: labelled, written, read and printed.
+fn one_block() {
     let cells = plain::cells([SIDE; 3]);
     println!("one block of 64x64x64, {} cells, medians of {} rounds, milliseconds", cells, ROUNDS);
     println!("{:<22} {:>8} {:>10} {:>8} {:>12} {:>8}", "labelling", "proved", "union-find", "ratio", "depth-first", "ratio");
@@ -170,9 +159,41 @@ fn main() {
     for (name, map) in &maps {
         printing(name, map);
     }
+}
+
+/// Cells looked up together.
+fn looked_up() {
+    println!("\n{:<22} {:>8} {:>10} {:>8} {:>14} {:>18}", "4,096 cells", "filling", "plain", "ratio", "4,096 lookups", "lookups/filling");
+    for (name, codes) in volumes() {
+        lookups::together(name, &codes, SIDE, ROUNDS);
+    }
+    lookups::growth();
+}
+
+fn main() {
+    let words: Vec<String> = std::env::args().skip(1).collect();
+    if words == ["cells"] {
+        return looked_up();
+    }
+    if let [k, stage] = &words[..] {
+        return volume::counted(k.parse().expect("a number"), stage.parse().expect("a number"));
+    }
+    if let [word, volume, times] = &words[..] {
+        let (volume, times) = (volume.parse().expect("a number"), times.parse().expect("a number"));
+        return match &word[..] {
+            "label" => labelled(volume, times),
+            "strain" => {
+                let (name, codes) = volumes().swap_remove(volume);
+                volume::strained(name, &codes, SIDE, times)
+            }
+            _ => panic!("label or strain"),
+        };
+    }
+    one_block();
     println!("\n{:<22} {:>8} {:>10} {:>8} {:>12} {:>12} {:>20}", "readings", "proved", "plain", "ratio", "point step", "one pass", "proved/(both)");
     for (name, codes) in volumes() {
         volume::readings(name, &codes, SIDE, ROUNDS);
     }
+    looked_up();
     volume::growth();
 }

@@ -119,7 +119,7 @@ fn any_readings(voxels: usize, random: &mut Random) -> Readings {
 }
 
 /// A closed job of one block, its map, and readings for it.
-fn closed(codes: &[u32], side: usize) -> (Job, Block, Counts, Readings) {
+pub fn closed(codes: &[u32], side: usize) -> (Job, Block, Counts, Readings) {
     let cutting = Cutting::even([side as u32; 3], side as u32);
     let (block, counts) = Block::label(cutting.block_extents(0), codes).expect("a labelling");
     let mut job = Job::open(cutting, counts).expect("an opening");

@@ -16,6 +16,8 @@ pub enum Error {
     Length { bytes: u64, extents: [u32; 3], right: u64 },
     /// A record is that of another block.
     OtherBlock,
+    /// A file has another length than its job states.
+    NoJob,
     /// There are more components than a table can have entries.
     TooMany,
     /// There is something already where the result is to go.
@@ -60,6 +62,7 @@ impl fmt::Display for Error {
             Error::Usage(what) => f.write_str(what),
             Error::Length { bytes, extents: [nx, ny, nz], right } => write!(f, "has {bytes} bytes, and {nx} × {ny} × {nz} codes have {right}"),
             Error::OtherBlock => f.write_str("is the record of another block"),
+            Error::NoJob => f.write_str("is no file of a closed job"),
             Error::TooMany => f.write_str("the volume has more components than a table can have entries"),
             Error::Exists => f.write_str("exists already"),
             Error::At(what, cause) => write!(f, "{what}: {cause}"),

@@ -1,9 +1,12 @@
 //! A joining job with its tables.
 use crate::block::Counts;
+use crate::cell_list::{Cells, MOST_CELLS};
 use crate::cutting::Cutting;
+use crate::error::Error;
 use crate::raw;
 use crate::refusal::Refusal;
 use crate::strain::{Readings, Side, Sums, Totals};
+use std::collections::BTreeSet;
 
 /// What the job goes through.
 #[derive(Clone, Copy, PartialEq, Eq, Debug)]
@@ -298,6 +301,55 @@ impl Job {
             &mut number,
         ))?;
         Ok(number)
+    }
+
+    /// The blocks that cells are read from, each once, ascending. A cell in several blocks is read from the lowest-numbered one. At most 4,096 cells.
+    pub fn needed_blocks(&self, cells: &Cells) -> Result<Vec<u32>, Refusal> {
+        let ([cx, cy, cz], mut needed, mut count) = (&self.cutting.lists, vec![0; cells.xs.len()], 0);
+        Refusal::check(raw::request_blocks(&self.numbers, cx, cy, cz, &cells.xs, &cells.ys, &cells.zs, &mut needed, &mut count))?;
+        needed.truncate(count as usize);
+        Ok(needed)
+    }
+
+    /// Fills in the final numbers of the cells that are read from a needed block, by its map: one place for each cell. The other answers stay.
+    pub fn fill_cells(&self, cells: &Cells, block: u32, map: &[u32], answers: &mut [u32]) -> Result<(), Refusal> {
+        let ([cx, cy, cz], t) = (&self.cutting.lists, &self.tables);
+        Refusal::check(raw::fill_cells(
+            &self.numbers,
+            cx,
+            cy,
+            cz,
+            &t.ticks,
+            &t.blocks,
+            &t.face_numbers,
+            &t.curve_numbers,
+            &t.point_firsts,
+            &cells.xs,
+            &cells.ys,
+            &cells.zs,
+            block,
+            map,
+            answers,
+        ))
+    }
+
+    /// The final numbers of any number of cells, in their order. `map` gives the map of a block; it is asked for each needed block once, ascending, and for none
+    /// if a cell is outside the volume. The library is handed at most 4,096 cells at a time.
+    pub fn lookup_all<M: AsRef<[u32]>>(&self, cells: &[[u32; 3]], mut map: impl FnMut(u32) -> Result<M, Error>) -> Result<Vec<u32>, Error> {
+        // an empty list too is declined by a job that is not closed
+        self.needed_blocks(&Cells::default())?;
+        let pieces: Vec<Cells> = cells.chunks(MOST_CELLS).map(|piece| piece.iter().copied().collect()).collect();
+        let needed = pieces.iter().map(|piece| self.needed_blocks(piece)).collect::<Result<Vec<_>, _>>()?;
+        let mut answers = vec![0; cells.len()];
+        for block in needed.iter().flatten().collect::<BTreeSet<_>>() {
+            let map = map(*block)?;
+            for ((piece, needed), answers) in pieces.iter().zip(&needed).zip(answers.chunks_mut(MOST_CELLS)) {
+                if needed.binary_search(block).is_ok() {
+                    self.fill_cells(piece, *block, map.as_ref(), answers)?;
+                }
+            }
+        }
+        Ok(answers)
     }
 
     /// The row of a face, curve or point: two codes (one and 0 at the outside), four face numbers or six curve numbers, ascending, then zeros.

@@ -237,6 +237,54 @@ mod exports {
             z: u32,
             number: *mut u32,
         ) -> u32;
+        pub fn tugrelis_request_blocks(
+            job: *const [u32; 13],
+            cx: *const u32,
+            cx_len: usize,
+            cy: *const u32,
+            cy_len: usize,
+            cz: *const u32,
+            cz_len: usize,
+            xs: *const u32,
+            xs_len: usize,
+            ys: *const u32,
+            ys_len: usize,
+            zs: *const u32,
+            zs_len: usize,
+            needed: *mut u32,
+            needed_len: usize,
+            count: *mut u32,
+        ) -> u32;
+        pub fn tugrelis_fill_cells(
+            job: *const [u32; 13],
+            cx: *const u32,
+            cx_len: usize,
+            cy: *const u32,
+            cy_len: usize,
+            cz: *const u32,
+            cz_len: usize,
+            ticks: *const u32,
+            ticks_len: usize,
+            blocks: *const u32,
+            blocks_len: usize,
+            face_numbers: *const u32,
+            face_numbers_len: usize,
+            curve_numbers: *const u32,
+            curve_numbers_len: usize,
+            point_firsts: *const u64,
+            point_firsts_len: usize,
+            xs: *const u32,
+            xs_len: usize,
+            ys: *const u32,
+            ys_len: usize,
+            zs: *const u32,
+            zs_len: usize,
+            block: u32,
+            map: *const u32,
+            map_len: usize,
+            answers: *mut u32,
+            answers_len: usize,
+        ) -> u32;
         pub fn tugrelis_strain(
             job: *const [u32; 13],
             cx: *const u32,
@@ -712,6 +760,88 @@ pub fn lookup(
             y,
             z,
             number,
+        )
+    }
+}
+
+/// The blocks that cells of a closed job are read from, each once, ascending: the cells in any order, repeats allowed; a tray, of which the first places
+/// get the blocks and the others stay; a place for the count. A cell in several blocks is read from the lowest-numbered one.
+#[allow(clippy::too_many_arguments)]
+pub fn request_blocks(job: &[u32; 13], cx: &[u32], cy: &[u32], cz: &[u32], xs: &[u32], ys: &[u32], zs: &[u32], needed: &mut [u32], count: &mut u32) -> u32 {
+    // SAFETY: every pointer comes from a slice or a reference, with its length.
+    unsafe {
+        exports::tugrelis_request_blocks(
+            job,
+            cx.as_ptr(),
+            cx.len(),
+            cy.as_ptr(),
+            cy.len(),
+            cz.as_ptr(),
+            cz.len(),
+            xs.as_ptr(),
+            xs.len(),
+            ys.as_ptr(),
+            ys.len(),
+            zs.as_ptr(),
+            zs.len(),
+            needed.as_mut_ptr(),
+            needed.len(),
+            count,
+        )
+    }
+}
+
+/// Fills in the final numbers of the cells that are read from one block: the same cells, a needed block, its map, a tray of answers. The other answers
+/// stay. Once each needed block has come, in any order, the tray has the number of every cell, in the order of the cells.
+#[allow(clippy::too_many_arguments)]
+pub fn fill_cells(
+    job: &[u32; 13],
+    cx: &[u32],
+    cy: &[u32],
+    cz: &[u32],
+    ticks: &[u32],
+    blocks: &[u32],
+    face_numbers: &[u32],
+    curve_numbers: &[u32],
+    point_firsts: &[u64],
+    xs: &[u32],
+    ys: &[u32],
+    zs: &[u32],
+    block: u32,
+    map: &[u32],
+    answers: &mut [u32],
+) -> u32 {
+    // SAFETY: every pointer comes from a slice or a reference, with its length.
+    unsafe {
+        exports::tugrelis_fill_cells(
+            job,
+            cx.as_ptr(),
+            cx.len(),
+            cy.as_ptr(),
+            cy.len(),
+            cz.as_ptr(),
+            cz.len(),
+            ticks.as_ptr(),
+            ticks.len(),
+            blocks.as_ptr(),
+            blocks.len(),
+            face_numbers.as_ptr(),
+            face_numbers.len(),
+            curve_numbers.as_ptr(),
+            curve_numbers.len(),
+            point_firsts.as_ptr(),
+            point_firsts.len(),
+            xs.as_ptr(),
+            xs.len(),
+            ys.as_ptr(),
+            ys.len(),
+            zs.as_ptr(),
+            zs.len(),
+            block,
+            map.as_ptr(),
+            map.len(),
+            answers.as_mut_ptr(),
+            answers.len(),
         )
     }
 }

@@ -2,10 +2,14 @@
 use reference::cutting::Cutting as Cuts;
 use reference::label::number;
 use reference::random::{cuts as random_cuts, reading, volume, Random};
+use std::collections::BTreeSet;
 use tugrelis::joining::{block_codes, entries_for, label_blocks, run};
+use tugrelis::kept::{read_job, write_job};
 use tugrelis::sheet::write_sheet;
 use tugrelis::volumes::{drill, spread, volumes, voronoi, Volume};
-use tugrelis::{Block, Counts, Cutting, Entries, Error, Job, Kind, Numbers, Reading, Readings, Refusal, Side, Stage, Totals, REFUSALS};
+use tugrelis::{
+    raw, Block, Cells, Counts, Cutting, Entries, Error, Job, Kind, Numbers, Reading, Readings, Refusal, Side, Stage, Tables, Totals, MOST_CELLS, REFUSALS,
+};
 
 fn cuts(c: &Cutting) -> Cuts {
     Cuts { extents: c.extents.map(|n| n as usize), cuts: [0, 1, 2].map(|a: usize| c.lists[a].iter().map(|&c| c as usize).collect()) }
@@ -179,9 +183,7 @@ fn totals_under_ten_cuttings() {
                 Cutting { extents: extents.map(|n| n as u32), lists: extents.map(|n| random_cuts(&mut random, n).iter().map(|&c| c as u32).collect()) };
             let (mut job, blocks) = joined(cutting.clone(), &codes, round % 2 == 1);
             let mut order: Vec<usize> = (0..blocks.len()).collect();
-            for i in (1..order.len()).rev() {
-                order.swap(i, random.below(i + 1));
-            }
+            random.shuffle(&mut order);
             for &b in &order {
                 assert_eq!(job.total(1), Err(Refusal::WrongStage));
                 assert_eq!(job.strain(b as u32, &blocks[b].0.map, &part(&cutting, &all, b)), Ok(()));
@@ -245,6 +247,227 @@ fn readings_that_are_declined() {
     for (count, right) in [(5, Ok(5)), (6, Err(Refusal::StrayLabel))] {
         job.tables.face_counts[2] = count;
         assert_eq!(job.total(1).map(|t| t.lower.missing), right);
+    }
+}
+
+/// All cells of a volume in any order, some of them twice.
+fn shuffled(random: &mut Random, extents: [u32; 3]) -> Vec<[u32; 3]> {
+    let [w, h, d] = extents.map(|n| 2 * n - 1);
+    let all = (0..w * h * d).map(|p| [p % w, p / w % h, p / w / h]);
+    let mut cells: Vec<[u32; 3]> = all.flat_map(|cell| vec![cell; 1 + usize::from(random.once_in(3))]).collect();
+    random.shuffle(&mut cells);
+    cells
+}
+
+/// The numbers of cells in the uncut volume.
+fn uncut_numbers(v: &Volume, cells: &[[u32; 3]]) -> Vec<u32> {
+    let uncut = number(v.cutting.extents.map(|n| n as usize), &v.codes);
+    cells.iter().map(|cell| uncut.map[uncut.grid.position(cell.map(|c| c as usize))]).collect()
+}
+
+#[test]
+fn cells_looked_up_together() {
+    let mut random = Random::new(21);
+    for v in volumes() {
+        let places = shuffled(&mut random, v.cutting.extents);
+        let (cells, right) = (places.iter().copied().collect::<Cells>(), uncut_numbers(&v, &places));
+        let sources: Vec<u32> = places.iter().map(|cell| cuts(&v.cutting).lowest(cell.map(|c| c as usize)) as u32).collect();
+        for from_back in [false, true] {
+            let (mut job, blocks) = closed(&v, from_back);
+            let needed = job.needed_blocks(&cells).unwrap();
+            assert_eq!(needed, sources.iter().copied().collect::<BTreeSet<u32>>().into_iter().collect::<Vec<_>>(), "{}", v.name);
+            // what stands in the tray has no effect, nor have other calls between
+            let (mut answers, mut expected) = (vec![77; right.len()], vec![77; right.len()]);
+            for &b in needed.iter().rev() {
+                let map = &blocks[b as usize].0.map;
+                assert_eq!(job.fill_cells(&cells, b, map, &mut answers), Ok(()));
+                (0..right.len()).filter(|&i| sources[i] == b).for_each(|i| expected[i] = right[i]);
+                assert_eq!(answers, expected, "{}, block {b}", v.name);
+                let voxels = blocks[b as usize].0.extents.iter().map(|&n| usize::from(n)).product();
+                assert_eq!(job.strain(b, map, &vec![Reading::Strain(1.5); voxels].into_iter().collect()), Ok(()));
+                assert_eq!(job.total(1).is_ok(), b == 0 && job.counts().faces > 0);
+                assert!(job.lookup(b, map, job.cutting.origin(b as usize).map(|c| 2 * c)).is_ok());
+            }
+            assert_eq!(answers, right, "{}", v.name);
+            assert_eq!(job.lookup_all(&places, |b| Ok(&blocks[b as usize].0.map)).unwrap(), right, "{}", v.name);
+        }
+    }
+}
+
+#[test]
+fn lists_of_any_length() {
+    let v = volumes().swap_remove(11);
+    let (job, blocks) = closed(&v, false);
+    let mut random = Random::new(3);
+    let mut places: Vec<[u32; 3]> = (0..40).flat_map(|_| shuffled(&mut random, v.cutting.extents)).take(2 * MOST_CELLS + 5).collect();
+    // the last piece needs the last block only
+    places[2 * MOST_CELLS..].fill([8, 4, 4]);
+    let mut asked = Vec::new();
+    let numbers = job.lookup_all(&places, |b| {
+        asked.push(b);
+        Ok(&blocks[b as usize].0.map)
+    });
+    assert_eq!(numbers.unwrap(), uncut_numbers(&v, &places));
+    assert_eq!(asked, (0..blocks.len() as u32).collect::<Vec<_>>());
+    // a map that cannot be had, or of another block, ends it; a cell outside ends it before any map is asked for
+    assert!(matches!(job.lookup_all::<Vec<u32>>(&places, |_| Err(Error::OtherBlock)), Err(Error::OtherBlock)));
+    assert_eq!(job.lookup_all(&places, |_| Ok([1])).unwrap_err().refusal(), Some(Refusal::WrongTray));
+    places[2 * MOST_CELLS + 4][1] = 5;
+    assert_eq!(job.lookup_all::<Vec<u32>>(&places, |b| panic!("block {b} was asked for")).unwrap_err().refusal(), Some(Refusal::NoSuchPlace));
+    let none = |job: &Job| job.lookup_all::<Vec<u32>>(&[], |b| panic!("block {b} was asked for"));
+    assert_eq!(none(&job).unwrap(), []);
+    let open = Job::open(v.cutting.clone(), Entries::default()).unwrap();
+    assert_eq!(none(&open).unwrap_err().refusal(), Some(Refusal::WrongStage));
+}
+
+/// The refusal of a request with so many places for the blocks, 0 for none. A refused one leaves places and count as they were, an accepted one the places
+/// behind the blocks.
+fn request(job: &Job, cells: &Cells, places: usize) -> u32 {
+    let ([cx, cy, cz], mut needed, mut count) = (&job.cutting.lists, vec![77; places], 78);
+    let refusal = raw::request_blocks(&job.numbers().into(), cx, cy, cz, &cells.xs, &cells.ys, &cells.zs, &mut needed, &mut count);
+    let stay = if refusal == 0 { count as usize } else { 0 };
+    assert!(needed[stay..].iter().all(|&place| place == 77) && (refusal == 0 || count == 78), "{refusal}");
+    refusal
+}
+
+/// The refusal of a filling with so many answers, 0 for none. A refused one leaves the answers as they were.
+fn fill(job: &Job, cells: &Cells, block: u32, map: &[u32], places: usize) -> u32 {
+    let mut answers = vec![77; places];
+    let refusal = job.fill_cells(cells, block, map, &mut answers).map_or_else(Refusal::number, |()| 0);
+    assert!(refusal == 0 || answers == vec![77; places], "{refusal}");
+    refusal
+}
+
+/// Cells on a line.
+fn on_line(xs: &[u32]) -> Cells {
+    xs.iter().map(|&x| [x, 0, 0]).collect()
+}
+
+/// The refusals of a request and of the filling from block 1 with its map, each tray with one place for each cell.
+fn both(job: &Job, cells: &Cells, map: &[u32]) -> [u32; 2] {
+    [request(job, cells, cells.xs.len()), fill(job, cells, 1, map, cells.xs.len())]
+}
+
+/// The job with something changed.
+fn forged(job: &Job, change: impl FnOnce(&mut Numbers, &mut Cutting, &mut Tables)) -> Job {
+    let (mut numbers, mut cutting, mut tables) = (job.numbers(), job.cutting.clone(), job.tables.clone());
+    change(&mut numbers, &mut cutting, &mut tables);
+    Job::resume(numbers, cutting, tables)
+}
+
+/// Codes 1 2 1, cut in the middle: the job, the map of block 1, and cells of both blocks. Block 1 has the cells 2 to 4, of which 2 is read from block 0.
+fn closed_line() -> (Job, Vec<u32>, Cells) {
+    let (job, mut blocks) = closed(&volumes()[6], false);
+    (job, blocks.swap_remove(1).0.map, on_line(&[4, 2, 3]))
+}
+
+#[test]
+fn jobs_and_cells_that_are_declined() {
+    let (job, map, cells) = closed_line();
+    assert_eq!(both(&job, &cells, &map), [0, 0]);
+    assert_eq!(both(&forged(&job, |numbers, _, _| numbers.extents[1] = 1025), &cells, &map), [1, 1]);
+    assert_eq!(both(&forged(&job, |_, cutting, _| cutting.lists[0][1] = 0), &cells, &map), [2, 2]);
+    for stage in [0, 3, 5, u32::MAX] {
+        assert_eq!(both(&forged(&job, |numbers, _, _| numbers.stage = stage), &cells, &map), [3, 3]);
+    }
+    for outside in [[5, 0, 0], [4, 1, 0], [4, 0, u32::MAX]] {
+        assert_eq!(both(&job, &[[4, 0, 0], outside].into_iter().collect(), &map), [4, 4]);
+    }
+    // also in a list that is too long, or whose three lists are unequal
+    let mut many = on_line(&[4; 4098]);
+    many.xs[4097] = 5;
+    assert_eq!(both(&job, &many, &map), [4, 4]);
+    assert_eq!(both(&job, &Cells { ys: vec![0], ..on_line(&[5, 4]) }, &map), [4, 4]);
+    // a block that no cell is read from, or that there is not
+    assert_eq!(fill(&job, &on_line(&[2, 0]), 1, &map, 2), 4);
+    assert_eq!(fill(&job, &cells, 2, &map, 3), 4);
+    assert_eq!(both(&job, &Cells::default(), &map), [0, 4]);
+}
+
+#[test]
+fn lists_and_trays_that_are_declined() {
+    let (job, map, cells) = closed_line();
+    assert_eq!(both(&job, &on_line(&[4; 4096]), &map), [0, 0]);
+    assert_eq!(both(&job, &on_line(&[4; 4097]), &map), [6, 6]);
+    let lists: [fn(&mut Cells) -> &mut Vec<u32>; 3] = [|c| &mut c.xs, |c| &mut c.ys, |c| &mut c.zs];
+    for list in lists {
+        let mut cells = cells.clone();
+        list(&mut cells).pop();
+        assert_eq!([request(&job, &cells, 3), fill(&job, &cells, 1, &map, 3)], [6, 6]);
+    }
+    for places in [0, 2, 4] {
+        assert_eq!([request(&job, &cells, places), fill(&job, &cells, 1, &map, places)], [6, 6]);
+    }
+    assert_eq!(fill(&job, &cells, 1, &map[1..], 3), 6);
+    let words: [fn(&mut Tables) -> &mut Vec<u32>; 4] = [|t| &mut t.ticks, |t| &mut t.blocks, |t| &mut t.face_numbers, |t| &mut t.curve_numbers];
+    for table in words {
+        assert_eq!(both(&forged(&job, |_, _, t| table(t).push(0)), &cells, &map), [0, 6]);
+    }
+    assert_eq!(both(&forged(&job, |_, _, t| t.point_firsts.push(0)), &cells, &map), [0, 6]);
+}
+
+#[test]
+fn cells_with_stray_labels() {
+    let (job, map, cells) = closed_line();
+    assert_eq!(both(&forged(&job, |numbers, _, _| numbers.tallies.points = 1), &cells, &map), [8, 8]);
+    assert_eq!(fill(&job, &cells, 1, &[2, 2, 1], 3), 8);
+    // the block's faces begin behind the table
+    assert_eq!(both(&forged(&job, |_, _, t| t.blocks[8] = 2), &cells, &map), [0, 8]);
+    for number in [0, 3] {
+        let stray = forged(&job, |_, _, t| t.face_numbers[1] = number);
+        assert_eq!(both(&stray, &cells, &map), [0, 8]);
+        // cell 4 is a voxel, and cell 3 is not asked for
+        assert_eq!(fill(&stray, &on_line(&[4, 2, 1]), 1, &map, 3), 0);
+    }
+}
+
+#[test]
+fn an_overlap_is_read_from_the_lowest_block() {
+    let (job, blocks) = closed(&volumes()[6], false);
+    let cells = on_line(&[2, 3, 2]);
+    let mut answers = [77; 3];
+    // another code for the shared voxel in the higher block is not read
+    assert_eq!(job.fill_cells(&cells, 1, &[9, 1, 1], &mut answers), Ok(()));
+    assert_eq!(answers, [77, 2, 77]);
+    assert_eq!(job.fill_cells(&cells, 0, &blocks[0].0.map, &mut answers), Ok(()));
+    assert_eq!(answers, [2, 2, 2]);
+    assert_eq!(job.needed_blocks(&on_line(&[2, 2])), Ok(vec![0]));
+    assert_eq!(job.needed_blocks(&Cells::default()), Ok(vec![]));
+}
+
+#[test]
+fn a_point_is_read_from_the_job() {
+    // eight codes: one point, in the middle
+    let (mut job, blocks) = closed(&volumes()[8], false);
+    let (cells, mut map) = ([[1, 1, 1], [0, 0, 0]].into_iter().collect::<Cells>(), blocks[0].0.map.clone());
+    assert_eq!(map[13], 1);
+    map[13] = 0;
+    let mut answers = [77; 2];
+    assert_eq!(job.fill_cells(&cells, 0, &map, &mut answers), Ok(()));
+    assert_eq!(answers, [1, 1]);
+    job.tables.point_firsts[0] = 14;
+    assert_eq!(job.fill_cells(&cells, 0, &map, &mut answers), Ok(()));
+    assert_eq!(answers, [0, 1]);
+}
+
+#[test]
+fn a_closed_job_in_a_file() {
+    for v in volumes() {
+        let (job, blocks) = closed(&v, false);
+        let mut file = Vec::new();
+        write_job(&job, &mut file).unwrap();
+        let kept = read_job(&file).unwrap();
+        assert_eq!((kept.numbers(), &kept.cutting), (job.numbers(), &job.cutting));
+        let places = shuffled(&mut Random::new(1), v.cutting.extents);
+        assert_eq!(kept.lookup_all(&places, |b| Ok(&blocks[b as usize].0.map)).unwrap(), uncut_numbers(&v, &places), "{}", v.name);
+        for length in 0..file.len() {
+            assert!(matches!(read_job(&file[..length]), Err(Error::NoJob)), "{length}");
+        }
+        file.push(0);
+        assert!(matches!(read_job(&file), Err(Error::NoJob)));
+        // a cut list of more than 1,024 places
+        file[13 * 4 + 1] = 5;
+        assert!(matches!(read_job(&file), Err(Error::NoJob)));
     }
 }
 
@@ -369,7 +592,7 @@ fn seeds_are_spread() {
     assert_eq!(seeds.len(), 25);
     assert!(seeds.iter().all(|seed| (0..3).all(|a| (0..extents[a] as i64).contains(&seed[a]))), "{seeds:?}");
     // some in each eighth of the volume
-    let eighths: std::collections::BTreeSet<_> = seeds.iter().map(|seed| [0, 1, 2].map(|a: usize| 2 * seed[a] >= extents[a] as i64)).collect();
+    let eighths: BTreeSet<_> = seeds.iter().map(|seed| [0, 1, 2].map(|a: usize| 2 * seed[a] >= extents[a] as i64)).collect();
     assert_eq!(eighths.len(), 8);
     let codes = voronoi(extents, &seeds);
     assert_eq!(codes.len(), 60 * 50 * 40);

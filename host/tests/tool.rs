@@ -1,4 +1,4 @@
-//! The command-line tool: one volume under ten cuttings gives one sheet, layers are printed, and failures leave nothing behind.
+//! The command-line tool: one volume under ten cuttings gives one sheet, layers are printed, cells are looked up, and failures leave nothing behind.
 use reference::grid::Grid;
 use reference::label::number;
 use reference::random::Random;
@@ -86,7 +86,7 @@ fn the_sheet_of_a_small_volume() {
     let sheet = fs::read_to_string(out.join("sheet.txt")).unwrap();
     assert_eq!(without_cutting(&sheet), text);
     assert_eq!(sheet.lines().nth(1), Some("cut x 0 2 4 6 8 y 0 2 4 6 z 0 2 4"));
-    assert_eq!(fs::read_dir(&out).unwrap().count(), 4 * 3 * 2 + 1);
+    assert_eq!(fs::read_dir(&out).unwrap().count(), 4 * 3 * 2 + 2);
     fs::remove_dir_all(&dir).unwrap();
 }
 
@@ -174,10 +174,11 @@ fn every_layer_of_every_record() {
 }
 
 #[test]
-fn a_volume_that_is_called_print() {
+fn a_volume_that_is_called_print_or_lookup() {
     let dir = folder("print");
-    write_volume(&dir.join("print"), &[1, 1, 2, 3]);
+    ["print", "lookup"].iter().for_each(|name| write_volume(&dir.join(name), &[1, 1, 2, 3]));
     let here = |words: &[&str]| Command::new(env!("CARGO_BIN_EXE_tugrelis")).current_dir(&dir).args(words).output().unwrap();
+    assert!(here(&["./lookup", "2", "2", "1", "other"]).status.success());
     assert!(here(&["./print", "2", "2", "1", "out"]).status.success());
     let ran = here(&["print", "out/block-00000.record", "0"]);
     let lines = ["    1    .    1", "    1    1    2", "    2    3    3"].map(|cells| format!("{cells:<80}\n"));
@@ -240,6 +241,92 @@ fn command_lines_of_print() {
     fs::remove_dir_all(&dir).unwrap();
 }
 
+/// A new folder for one test, and the folder of a volume of 3×1×1 voxels, codes 1 2 1, in two blocks.
+fn with_line(name: &str) -> (PathBuf, PathBuf) {
+    let dir = folder(name);
+    let (volume, out) = (dir.join("volume.raw"), dir.join("out"));
+    write_volume(&volume, &[1, 2, 1]);
+    assert!(tool(&[volume.to_str().unwrap(), "3", "1", "1", out.to_str().unwrap(), "--size", "2"]).status.success());
+    (dir, out)
+}
+
+/// What a lookup prints.
+fn looked_up(words: &[&str]) -> String {
+    let ran = tool(&[&["lookup"], words].concat());
+    assert!(ran.status.success() && ran.stderr.is_empty(), "{}", String::from_utf8_lossy(&ran.stderr));
+    String::from_utf8(ran.stdout).unwrap()
+}
+
+#[test]
+fn cells_of_a_volume() {
+    let dir = folder("cells");
+    let (volume, out, list) = (dir.join("volume.raw"), dir.join("out"), dir.join("cells"));
+    let codes = core([9, 7, 5], 6, 2);
+    write_volume(&volume, &codes);
+    assert!(tool(&[volume.to_str().unwrap(), "9", "7", "5", out.to_str().unwrap(), "--size", "3"]).status.success());
+    // more cells than the library takes at a time
+    let (uncut, mut random) = (number([9, 7, 5], &codes), Random::new(8));
+    let cells: Vec<usize> = (0..10_000).map(|_| random.below(uncut.map.len())).collect();
+    let word = |&p: &usize| uncut.grid.place(p).map(|c| c.to_string()).join(",");
+    let right = |cells: &[usize]| cells.iter().map(|&p| format!("{}\n", uncut.map[p])).collect::<String>();
+    fs::write(&list, cells.iter().map(word).collect::<Vec<_>>().join("\n")).unwrap();
+    assert_eq!(looked_up(&[out.to_str().unwrap(), "--cells", list.to_str().unwrap()]), right(&cells));
+    let words: Vec<String> = cells[..50].iter().map(word).collect();
+    let words: Vec<&str> = [out.to_str().unwrap()].into_iter().chain(words.iter().map(String::as_str)).collect();
+    assert_eq!(looked_up(&words), right(&cells[..50]));
+    fs::write(&list, "\n").unwrap();
+    assert_eq!(looked_up(&[out.to_str().unwrap(), "--cells", list.to_str().unwrap()]), "");
+    fs::remove_dir_all(&dir).unwrap();
+}
+
+#[test]
+fn only_needed_records_are_read() {
+    let (dir, out) = with_line("needed");
+    let o = out.to_str().unwrap();
+    assert_eq!(looked_up(&[o, "3,0,0", "2,0,0", "3,0,0", "0,0,0"]), "2\n2\n2\n1\n");
+    fs::remove_file(out.join("block-00001.record")).unwrap();
+    // the shared voxel is read from block 0
+    assert_eq!(looked_up(&[o, "2,0,0", "1,0,0"]), "2\n1\n");
+    fails(&dir, &["lookup", o, "2,0,0", "3,0,0"], 1, "block-00001.record: ");
+    fs::copy(out.join("block-00000.record"), out.join("block-00001.record")).unwrap();
+    fails(&dir, &["lookup", o, "3,0,0"], 1, "block-00001.record: is the record of another block");
+    fs::remove_file(out.join("block-00001.record")).unwrap();
+    fails(&dir, &["lookup", o, "2,0,0", "5,0,0"], 1, "refused 4 (no such place)");
+    fs::remove_dir_all(&dir).unwrap();
+}
+
+#[test]
+fn lookups_that_are_refused() {
+    let (dir, out) = with_line("lookups");
+    let (o, list) = (out.to_str().unwrap(), dir.join("list"));
+    fs::write(&list, "0,0,0 1,0").unwrap();
+    let [l, d, none] = [list.to_str().unwrap(), dir.to_str().unwrap(), "/dev/null/none"];
+    fails(&dir, &["lookup", o, "--cells", l], 1, "list: '1,0' is no cell");
+    fails(&dir, &["lookup", o, "--cells", none], 1, "/dev/null/none: ");
+    fails(&dir, &["lookup", d, "0,0,0"], 1, "closed.job: ");
+    let (job, bytes) = (out.join("closed.job"), fs::read(out.join("closed.job")).unwrap());
+    fs::write(&job, &bytes[1..]).unwrap();
+    fails(&dir, &["lookup", o, "0,0,0"], 1, "closed.job: is no file of a closed job");
+    fs::write(&job, [&[3], &bytes[1..]].concat()).unwrap();
+    fails(&dir, &["lookup", o, "0,0,0"], 1, "refused 3 (wrong stage)");
+    for (words, message) in [
+        (vec!["lookup"], "lookup takes FOLDER and cells"),
+        (vec!["lookup", o], "lookup takes FOLDER and cells"),
+        (vec!["lookup", o, "0,0"], "'0,0' is no cell"),
+        (vec!["lookup", o, "0,0,0,0"], "'0,0,0,0' is no cell"),
+        (vec!["lookup", o, "0,0,4294967296"], "'0,0,4294967296' is no cell"),
+        (vec!["lookup", o, "0,-1,0"], "'0,-1,0' is no cell"),
+        (vec!["lookup", o, "--cells"], "'--cells' is no cell"),
+        (vec!["lookup", o, "0,0,0", "--size", "2"], "'--size' is no cell"),
+        (vec!["print", o, "--cells", l], "'--cells' is no option of print"),
+        (vec!["volume.raw", "3", "1", "1", o, "--cells", l], "' is no way to cut"),
+    ] {
+        fails(&dir, &words, 2, message);
+        fails(&dir, &words, 2, "; see tugrelis --help\n");
+    }
+    fs::remove_dir_all(&dir).unwrap();
+}
+
 #[test]
 fn a_pipe_that_nobody_reads() {
     let (dir, record) = with_record("pipe");
@@ -267,9 +354,24 @@ fn help_and_version() {
     assert_eq!(said(&["--version"]), concat!("tugrelis ", env!("CARGO_PKG_VERSION"), "\n"));
     let help = said(&["--help"]);
     assert_eq!(help, said(&["volume.raw", "2", "--help"]));
-    for word in ["VOLUME", "NX NY NZ", "FOLDER", "--size N", "--cut X-LIST Y-LIST Z-LIST", "print ", "RECORD", "Z ", "--help", "--version"] {
+    for word in [
+        "VOLUME",
+        "NX NY NZ",
+        "FOLDER",
+        "--size N",
+        "--cut X-LIST Y-LIST Z-LIST",
+        "print ",
+        "RECORD",
+        "Z ",
+        "lookup ",
+        "CELL",
+        "--cells FILE",
+        "--help",
+        "--version",
+    ] {
         assert_eq!(help.lines().filter(|l| l.trim_start().starts_with(word)).count(), 1, "{word}");
     }
-    assert!(help.contains("\n       tugrelis print RECORD Z\n"));
+    assert!(help.contains("\n       tugrelis print RECORD Z\n       tugrelis lookup FOLDER (CELL... | --cells FILE)\n"));
     assert_eq!(help, said(&["print", "--help"]));
+    assert_eq!(help, said(&["lookup", "--help"]));
 }

@@ -53,6 +53,8 @@ pub enum Answer {
     Row(Vec<u32>),
     /// The two sides of a face, lower first.
     Totals([Side; 2]),
+    /// How many blocks a list of cells needs, 0 of a filling, and what its tray holds afterwards.
+    Tray(u32, Vec<u32>),
     /// A map that is not its block's, which neither the book nor the table of refusals stops as far as the map and what was
     /// enrolled tell. If the service accepts it, the list of calls is none that the book speaks of.
     Free,
@@ -153,10 +155,7 @@ impl Book {
                 self.so_far[2] += self.active(block);
                 self.tick(Step::Block(block))
             }
-            Call::Lookup { cell, .. } => {
-                let uncut = self.uncut();
-                Answer::Number(uncut.map[uncut.grid.position(cell)])
-            }
+            Call::Lookup { cell, .. } => Answer::Number(self.number_at(cell)),
             Call::Row { kind, number } => {
                 let order = kind.order();
                 Answer::Row(self.uncut().components[order][number as usize - 1].row[..width(order)].to_vec())
@@ -288,6 +287,12 @@ impl Book {
 
     pub(crate) fn uncut(&self) -> &Labelling {
         self.uncut.as_ref().expect("the seams are done")
+    }
+
+    /// The number of a cell in the uncut volume.
+    pub(crate) fn number_at(&self, cell: Place) -> u32 {
+        let uncut = self.uncut();
+        uncut.map[uncut.grid.position(cell)]
     }
 
     /// Ticks a step, and moves the stage where it was the last one.

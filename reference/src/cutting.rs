@@ -1,6 +1,7 @@
 //! Cutting a volume into blocks. Blocks count from 0, x fastest.
 use crate::grid::{Extents, Grid, Place};
 use crate::refusal::*;
+use std::ops::Range;
 
 /// A volume's extents, and a cut list for each axis.
 #[derive(Clone, PartialEq, Eq, Debug)]
@@ -15,6 +16,11 @@ fn good_list(n: usize, list: &[usize]) -> bool {
 
 fn count(list: &[usize]) -> usize {
     (list.len() - 1).max(1)
+}
+
+/// Whether a span has a cell.
+pub fn has(span: &[Range<usize>; 3], cell: Place) -> bool {
+    (0..3).all(|a| span[a].contains(&cell[a]))
 }
 
 impl Cutting {
@@ -90,17 +96,16 @@ impl Cutting {
         (0..self.blocks()).find(|&block| self.inside(block, cell).is_some()).expect("a cell of the volume")
     }
 
+    /// The cells that a block has on each axis, by their places in the volume.
+    pub fn span(&self, block: usize) -> [Range<usize>; 3] {
+        let (origin, sides) = (self.origin(block), self.grid(block).sides());
+        [0, 1, 2].map(|a: usize| 2 * origin[a]..2 * origin[a] + sides[a])
+    }
+
     /// A cell's place in a block, by its place in the volume; none where it lies outside the block.
     pub fn inside(&self, block: usize, cell: Place) -> Option<usize> {
-        let (origin, grid) = (self.origin(block), self.grid(block));
-        let mut place = [0; 3];
-        for a in 0..3 {
-            place[a] = cell[a].checked_sub(2 * origin[a])?;
-            if place[a] >= grid.sides()[a] {
-                return None;
-            }
-        }
-        Some(grid.position(place))
+        let span = self.span(block);
+        has(&span, cell).then(|| self.grid(block).position([0, 1, 2].map(|a: usize| cell[a] - span[a].start)))
     }
 
     /// A cell's place in the volume, by its position in a block.

@@ -1,6 +1,7 @@
 //! A second implementation of document 01 and of the requests that have landed, by another method than the proved code: components are found by breadth-first search
 //! over cells. Where the document leaves something open it goes by docs/DECISIONS.md. host/compare compares it with the proved code.
 pub mod book;
+pub mod cells;
 pub mod codec;
 pub mod cutting;
 pub mod grid;

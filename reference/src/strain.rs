@@ -4,7 +4,7 @@
 use crate::book::{Answer, Book};
 use crate::grid::Grid;
 use crate::refusal::*;
-use crate::table::{State, Stray};
+use crate::table::{Declined, State, Stray};
 
 /// The most 1,024ths of a strain, and of a sum.
 pub const STRAIN: i128 = 1 << 21;
@@ -187,15 +187,9 @@ impl State<'_> {
     }
 
     /// What the readings of a block answer, and what they leave; for a refusal 8 what was found.
-    pub fn strain(&self, totals: &TotalTables, block: usize, map: &[u32], lists: Lists) -> Result<TotalTables, (u32, Option<Stray>)> {
+    pub fn strain(&self, totals: &TotalTables, block: usize, map: &[u32], lists: Lists) -> Result<TotalTables, Declined> {
         let refused = |n: u32| Err((n, None));
-        match self.cutting.refusal() {
-            0 => {}
-            n => return refused(n),
-        }
-        if self.stage != 4 {
-            return refused(WRONG_STAGE);
-        }
+        self.closed()?;
         if block >= self.cutting.blocks() {
             return refused(NO_SUCH_PLACE);
         }
@@ -251,14 +245,11 @@ impl State<'_> {
     }
 
     /// What the reading of a total answers; for a refusal 8 what was found.
-    pub fn total(&self, totals: &TotalTables, number: u32) -> Result<[Side; 2], (u32, Option<Stray>)> {
+    pub fn total(&self, totals: &TotalTables, number: u32) -> Result<[Side; 2], Declined> {
         let refused = |n: u32| Err((n, None));
-        match self.cutting.refusal() {
-            0 => {}
-            n => return refused(n),
-        }
+        self.closed()?;
         let come = |b: usize| totals.came.get(b).is_some_and(|&tick| tick != 0);
-        if self.stage != 4 || !(0..self.cutting.blocks()).all(come) {
+        if !(0..self.cutting.blocks()).all(come) {
             return refused(WRONG_STAGE);
         }
         if !(1..=self.numbered[0]).contains(&number) {
@@ -282,10 +273,9 @@ impl State<'_> {
 #[cfg(test)]
 mod tests {
     use super::*;
-    use crate::book::Call;
     use crate::cutting::Cutting;
-    use crate::label::number;
     use crate::random::{cuts, reading, volume, Random};
+    use crate::volumes::closed;
 
     #[test]
     fn floats_by_their_bits() {
@@ -306,20 +296,6 @@ mod tests {
         }
         assert_eq!(units(8_796_093_022_208f64.to_bits(), SUM), Some(SUM));
         assert_eq!(units(8_796_093_022_208.002f64.to_bits(), SUM), None);
-    }
-
-    /// The book of a closed job, and the maps of its blocks.
-    fn closed(cutting: &Cutting, codes: &[u32]) -> (Book, Vec<Vec<u32>>) {
-        let maps: Vec<Vec<u32>> = (0..cutting.blocks()).map(|b| number(cutting.grid(b).extents, &cutting.codes(b, codes)).map).collect();
-        let mut book = Book::open(cutting.clone(), [u32::MAX; 3]).unwrap();
-        let blocks = || maps.iter().enumerate();
-        blocks().for_each(|(block, map)| assert_eq!(book.call(&Call::Enrol { block, map }), Answer::Done));
-        for (a, b) in cutting.seams() {
-            assert_eq!(book.call(&Call::Seam { blocks: (a, b), maps: (&maps[a], &maps[b]) }), Answer::Done);
-        }
-        blocks().for_each(|(block, map)| assert_eq!(book.call(&Call::Crossing { block, map }), Answer::Done));
-        blocks().for_each(|(block, map)| assert_eq!(book.call(&Call::Point { block, map }), Answer::Done));
-        (book, maps)
     }
 
     #[test]

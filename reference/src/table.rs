@@ -56,6 +56,9 @@ pub enum Stray {
     Total,
 }
 
+/// A refusal, and for 8 what was found.
+pub type Declined = (u32, Option<Stray>);
+
 impl<'a> State<'a> {
     /// The job by its thirteen numbers, with the cut lists.
     pub fn new(job: &[u32; 13], cuts: [&[u32]; 3], tables: Tables<'a>) -> State<'a> {
@@ -103,6 +106,15 @@ impl<'a> State<'a> {
         cases.iter().find(|(_, stands)| stands()).map_or(0, |&(refusal, _)| refusal)
     }
 
+    /// The refusals 1 to 3 of a call that brings the cut lists to a closed job.
+    pub(crate) fn closed(&self) -> Result<(), Declined> {
+        match self.cutting.refusal() {
+            0 if self.stage == 4 => Ok(()),
+            0 => Err((WRONG_STAGE, None)),
+            refusal => Err((refusal, None)),
+        }
+    }
+
     // ---- 4, 5: places and ticks
 
     fn placed(&self, call: &Call) -> bool {
@@ -131,7 +143,7 @@ impl<'a> State<'a> {
 
     // ---- 6: maps, and the tables that the call is lent
 
-    fn fits(&self, call: &Call) -> bool {
+    pub(crate) fn fits(&self, call: &Call) -> bool {
         let maps = brought(call).iter().all(|&(block, map)| map.len() == self.cutting.grid(block).cells());
         maps && match call {
             Call::Enrol { .. } => self.block_trays() && self.link_trays() && self.found_trays(0) && self.found_trays(1),
@@ -239,7 +251,7 @@ impl<'a> State<'a> {
     }
 
     /// The final number that a lookup hands out.
-    fn stray_number(&self, block: usize, map: &[u32], cell: Place) -> Option<Stray> {
+    pub(crate) fn stray_number(&self, block: usize, map: &[u32], cell: Place) -> Option<Stray> {
         let p = self.cutting.inside(block, cell).expect("a cell of the block");
         let kind = match self.cutting.grid(block).order(p) {
             2 => 0,
@@ -301,7 +313,7 @@ impl<'a> State<'a> {
         }
     }
 
-    fn looked_up(&self, block: usize, map: &[u32], cell: Place) -> u32 {
+    pub(crate) fn looked_up(&self, block: usize, map: &[u32], cell: Place) -> u32 {
         let p = self.cutting.inside(block, cell).expect("a cell of the block");
         match self.cutting.grid(block).order(p) {
             3 => map[p],

@@ -1,4 +1,5 @@
 //! The volumes of "Volumes to try", two that show document 003's step 4 at fault, and some with zeros (document 02, item 4). Tests only.
+use crate::book::{Answer, Book, Call};
 use crate::cutting::Cutting;
 use crate::grid::Row;
 use crate::label::{is_labelling, label, number};
@@ -47,6 +48,20 @@ pub fn core() -> (Cutting, Vec<u32>) {
     let mut codes = vec![0; 36];
     (codes[17], codes[18]) = (5, 7);
     (Cutting { extents: [4, 3, 3], cuts: [vec![0, 2, 3], vec![0, 1, 2], vec![0, 1, 2]] }, codes)
+}
+
+/// The book of a closed job, and the maps of its blocks.
+pub fn closed(cutting: &Cutting, codes: &[u32]) -> (Book, Vec<Vec<u32>>) {
+    let maps: Vec<Vec<u32>> = (0..cutting.blocks()).map(|b| number(cutting.grid(b).extents, &cutting.codes(b, codes)).map).collect();
+    let mut book = Book::open(cutting.clone(), [u32::MAX; 3]).unwrap();
+    let blocks = || maps.iter().enumerate();
+    blocks().for_each(|(block, map)| assert_eq!(book.call(&Call::Enrol { block, map }), Answer::Done));
+    for (a, b) in cutting.seams() {
+        assert_eq!(book.call(&Call::Seam { blocks: (a, b), maps: (&maps[a], &maps[b]) }), Answer::Done);
+    }
+    blocks().for_each(|(block, map)| assert_eq!(book.call(&Call::Crossing { block, map }), Answer::Done));
+    blocks().for_each(|(block, map)| assert_eq!(book.call(&Call::Point { block, map }), Answer::Done));
+    (book, maps)
 }
 
 fn map(extents: [usize; 3], codes: &[u32]) -> Vec<u32> {

@@ -2,3 +2,4 @@
 pub mod Rows
 pub mod Exported
 pub mod StrainExported
+pub mod CellExported

@@ -2,3 +2,4 @@
 pub mod Exports
 pub mod Calls
 pub mod StrainCalls
+pub mod CellCalls

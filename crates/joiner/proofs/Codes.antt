@@ -23,7 +23,7 @@ use Rattle.lists.proofs.Cases.{and-both, and-first, and-second}
 use Rattle.lists.proofs.Lists.{consecutive-in, consecutive-out, getD-tabulate, keep-in, keep-out, map-same}
 use Rattle.lists.proofs.Table.{at}
 use Rattle.lists.proofs.Tests.{first-in, some-none}
-use Rattle.cells.proofs.BoxLaws.{index-place}
+use Rattle.cells.proofs.BoxLaws.{Inside, index-inside, index-place, place-index, same-triple}
 use Rattle.cells.proofs.GridLaws.{cell-voxel, side-on, voxel-cell-inside, voxel-inside}
 use Rattle.labels.proofs.LabelLaws.{labels-numbering, numbering-unique}
 use Rattle.cutting.proofs.BlockLaws.{block-code}
@@ -80,6 +80,13 @@ lowest-has k good t ht =
     keep-in (λ b. hasCell k b c) (consecutive 0 (blocks k)) (consecutive-in 0 (blocks k) (omega arith) (omega (arith, w .listed))) (block-has-cell k good (w .b) (w .listed) t (w .has)) in
     let r = keep-out (λ b. hasCell k b c) (consecutive 0 (blocks k)) (first-in (keep (λ b. hasCell k b c) (consecutive 0 (blocks k))) m) in
     (omega (arith, consecutive-out 0 (blocks k) (r .0)), r .1)
+
+-- .. of a cell by its place.
+pub lowest-there : (k : Cutting) → goodCut k ≡ true → (c : Triple) → Inside (sides (k .extents)) c → (lowestBlock k c < blocks k) × (hasCell k (lowestBlock k c) c ≡ true)
+unfolding cells
+lowest-there k good c i =
+    let back : place (sides (k .extents)) (index (sides (k .extents)) c) ≡ c = same-triple _ _ (place-index (sides (k .extents)) c (i X) (i Y)) in
+    subst (λ (d : Triple). (lowestBlock k d < blocks k) × (hasCell k (lowestBlock k d) d ≡ true)) back (lowest-has k good (index (sides (k .extents)) c) (index-inside (sides (k .extents)) c i))
 
 -- The lowest block that has a cell of the volume, and where the cell stands in it.
 abbrev pub lowestOf : Cutting → ℕ → ℕ

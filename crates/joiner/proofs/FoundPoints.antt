@@ -1,10 +1,10 @@
 -- The points found block by block are those of the uncut volume, and rank as it numbers them.
 -- Assumes nothing.
 use mathlib.Core.Bool.{true}
-use mathlib.Core.List.{List, List·Memᴰ, List·Memᴰ·cases-cons, List·Memᴰ·head, List·Memᴰ·not-nil, List·Memᴰ·tail, [], _∷_}
+use mathlib.Core.List.{List, List·Memᴰ, List·Memᴰ·cases-cons, List·Memᴰ·head, List·Memᴰ·tail, _∷_}
 use mathlib.Core.Logic.{_≢_, _⊎_, inl, inr}
 use mathlib.Core.Path.{_∙_, _≡_, ap, refl, subst, sym}
-use Prim.Native.Nat.{_%_, _*_, _+_, _-_, _/_, _<_, _≤_, suc, ℕ}
+use Prim.Native.Nat.{_%_, _*_, _+_, _-_, _/_, _<_, _≤_, ℕ}
 use native.Mathlib.Omega.{arith}
 use lib.Dec.{eqb, ltb}
 use lib.ListN.{getD, length}
@@ -19,7 +19,7 @@ use Rattle.joiner.specs.Outcomes.{classOf, rowAt, rowFinal}
 use Rattle.joiner.specs.Job.{Point, Tables, firstAt, keyOf, keyPosition}
 use Rattle.joiner.specs.Stages.{pointStep}
 use Rattle.lists.proofs.Cases.{by-test}
-use Rattle.lists.proofs.Lists.{Ascends, ascends-at, ascends-consecutive, ascends-keep, getD-in, getD-tabulate, keep-in, keep-out}
+use Rattle.lists.proofs.Lists.{Ascends, ascends-at, ascends-consecutive, ascends-keep, getD-in, in-getD, getD-tabulate, keep-in, keep-out}
 use Rattle.lists.proofs.Overlay.{overlay-at, overlay-before, rows-at, rows-before}
 use Rattle.lists.proofs.Table.{every}
 use Rattle.labels.proofs.ComponentLaws.{Belongs, belongs-at, least-at, of-order-in, of-order-out}
@@ -131,15 +131,6 @@ module _ (k : Cutting) (good : goodCut k ≡ true) (codes : List ℕ) where
         let e : n + (x - n) ≡ x = omega arith in
         subst (PointAt u (pointStep b ∷ done)) e (new-at (x - n) (omega arith)))
 
-    -- a point cell stands at its place in the list
-    found-at : (l : List ℕ) (p : ℕ) → List·Memᴰ p l → (i : ℕ) × (i < length l) × (getD l i 0 ≡ p)
-    found-at [] p m = absurd (List·Memᴰ·not-nil m)
-    found-at (y ∷ l) p m = go (List·Memᴰ·cases-cons m) (λ q. found-at l p q)
-      where
-        go : (p ≡ y) ⊎ List·Memᴰ p l → (List·Memᴰ p l → (i : ℕ) × (i < length l) × (getD l i 0 ≡ p)) → (i : ℕ) × (i < length (y ∷ l)) × (getD (y ∷ l) i 0 ≡ p)
-        go (inl e) ih = (0, omega arith, sym e)
-        go (inr q) ih = let r = ih q in (suc (r .0), omega (arith, r .1), r .2)
-
     step-same : (c : ℕ) → pointStep c ≡ pointStep b → c ≡ b
     step-same c e = omega arith
 
@@ -149,7 +140,7 @@ module _ (k : Cutting) (good : goodCut k ≡ true) (codes : List ℕ) where
         go : (pointStep c ≡ pointStep b) ⊎ List·Memᴰ (pointStep c) done → (x : ℕ) × (x < n + length (pointsOf b)) × (firstAt u Point x ≡ embed k c p)
         go (inl e) =
             let q : c ≡ b = step-same c e in
-            let r = found-at (pointsOf b) p (subst (λ (y : ℕ). List·Memᴰ p (pointsOf y)) q m) in
+            let r = in-getD (pointsOf b) (subst (λ (y : ℕ). List·Memᴰ p (pointsOf y)) q m) in
             (n + r .0, omega (arith, r .1), new-first (r .0) (r .1) ∙ ap (embed k b) (r .2) ∙ ap (λ (y : ℕ). embed k y p) (sym q))
         go (inr i) = let r = P .into c p hc i m in (r .0, omega (arith, r .1), old-first (r .0) (r .1) ∙ r .2)
 

@@ -11,7 +11,7 @@ use lib.ListN.{getD, length, take}
 use borrow.Author.Tests.{eq-eqb, eqb-false, eqb-true, leb-true, ltb-true}
 use Rattle.lists.specs.Lists.{isIn, tabulate}
 use Rattle.closure.specs.Joined.{edge}
-use Rattle.cells.specs.Box.{X}
+use Rattle.cells.specs.Box.{Triple, X}
 use Rattle.cells.specs.Extents.{offSize}
 use Rattle.cells.specs.Grid.{cells}
 use Rattle.cells.specs.Row.{sameRow}
@@ -112,6 +112,17 @@ module _ (o : Told) (own : ℕ → List ℕ) (ext : offSize 1024 (o .cutting .ex
     pub enrolled-block : stageNumber Points ≤ stageNumber (B .stage) → (b : ℕ) → b < blocks (o .cutting) → Enrolled s b Face × Enrolled s b Curve
     enrolled-block l b hb = block-in o own ext good lab B s I b hb (enrolled o own ext good lab B s I (omega (arith, l)) b hb)
 
+    -- the final number that a closed job hands out for a cell of a block, with the block's own map, is one of the closed table's
+    pub own-looked : stageNumber (B .stage) ≡ stageNumber Closed → (b : ℕ) → b < blocks (o .cutting) → (m : List ℕ) → m ≡ own b → (c : Triple) → hasCell (o .cutting) b c ≡ true
+        → lookStands s b m (local (s .job .told .cutting) b c) ≡ true
+    own-looked h b hb m q c has =
+        let l : stageNumber Points ≤ stageNumber (B .stage) = omega arith in
+        ap₂ (λ (z : Told) (x : List ℕ). lookStands s b x (local (z .cutting) b c)) (I .told) q
+        ∙ look-stands s b (own b) (local (o .cutting) b c)
+        (subst (λ (z : Told). local (o .cutting) b c < cells (blockExtents (z .cutting) b)) (sym (I .told)) (cell-in-block (o .cutting) good b hb c has .0))
+        (λ κ. subst (λ (z : Told). largest (blockExtents (z .cutting) b) (own b) (orderOf κ) ≤ countOf (s .tables) κ b) (sym (I .told)) (omega (arith, I .counts κ b hb (enrolled o own ext good lab B s I (omega (arith, l)) b hb))))
+        (S .final-two l .0 .within, S .final-two l .1 .within) (enrolled-block l b hb)
+
     -- ---- the refusal of a call with its blocks' maps
 
     own-refused : (c : Call) → bringsOwn B c ≡ true → refusal s c ≡ bookRefusal B c
@@ -126,15 +137,7 @@ module _ (o : Told) (own : ℕ → List ℕ) (ext : offSize 1024 (o .cutting .ex
         (λ h hb.
         let l : stageNumber Points ≤ stageNumber (B .stage) = omega arith in
         curves-stand s b (S .final-two l .1 .within) (enrolled-block l b hb .1))
-    own-refused (look b m c) e =
-        lookup-agrees o own ext good lab B s I b m c e
-        (λ h hb has q.
-        let l : stageNumber Points ≤ stageNumber (B .stage) = omega arith in
-        ap₂ (λ (z : Told) (x : List ℕ). lookStands s b x (local (z .cutting) b c)) (I .told) q
-        ∙ look-stands s b (own b) (local (o .cutting) b c)
-        (subst (λ (z : Told). local (o .cutting) b c < cells (blockExtents (z .cutting) b)) (sym (I .told)) (cell-in-block (o .cutting) good b hb c has .0))
-        (λ κ. subst (λ (z : Told). largest (blockExtents (z .cutting) b) (own b) (orderOf κ) ≤ countOf (s .tables) κ b) (sym (I .told)) (omega (arith, I .counts κ b hb (enrolled o own ext good lab B s I (omega (arith, l)) b hb))))
-        (S .final-two l .0 .within, S .final-two l .1 .within) (enrolled-block l b hb))
+    own-refused (look b m c) e = lookup-agrees o own ext good lab B s I b m c e (λ h hb has q. own-looked h b hb m q c has)
     own-refused (reading κ n) e = reading-agrees o own ext good lab B s I κ n (λ h. total-at h κ)
 
     -- ---- what an accepted call passed

@@ -68,7 +68,7 @@ six-none false h = absurd (omega arith)
 
 -- ---- the ladder
 
-first-three : (a b c : Bool) (x : ℕ) → cond a 1 (cond b 2 (cond c 3 x)) ≡ firstRefusal (cond a 1 (cond b 2 (cond c 3 0))) x
+pub first-three : (a b c : Bool) (x : ℕ) → cond a 1 (cond b 2 (cond c 3 x)) ≡ firstRefusal (cond a 1 (cond b 2 (cond c 3 0))) x
 unfolding firstRefusal
 first-three true b c x = refl
 first-three false true c x = refl
@@ -278,7 +278,7 @@ stage-is (reading κ n) = refl
 -- ---- the judge is the joiner's
 
 -- 8 decided in two steps, after 6
-in-two : (f t p o : Bool) (x : ℕ) → cond (not f) 6 (cond (not (t && (p && o))) 8 x) ≡ firstRefusal (cond (not f) 6 (cond (not (t && p)) 8 0)) (cond (not o) 8 x)
+pub in-two : (f t p o : Bool) (x : ℕ) → cond (not f) 6 (cond (not (t && (p && o))) 8 x) ≡ firstRefusal (cond (not f) 6 (cond (not (t && p)) 8 0)) (cond (not o) 8 x)
 unfolding firstRefusal
 in-two false t p o x = refl
 in-two true false p o x = refl

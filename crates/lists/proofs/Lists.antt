@@ -175,6 +175,15 @@ getD-in [] k h = absurd (omega arith)
 getD-in (x ∷ l) zero h = List·Memᴰ·head refl
 getD-in (x ∷ l) (suc k) h = List·Memᴰ·tail (getD-in l k (omega arith))
 
+-- an entry has a place
+pub in-getD : (l : List ℕ) {p : ℕ} → List·Memᴰ p l → (i : ℕ) × (i < length l) × (getD l i 0 ≡ p)
+in-getD [] m = absurd (List·Memᴰ·not-nil m)
+in-getD (y ∷ l) {p} m = go (List·Memᴰ·cases-cons m) (λ q. in-getD l q)
+  where
+    go : (p ≡ y) ⊎ List·Memᴰ p l → (List·Memᴰ p l → (i : ℕ) × (i < length l) × (getD l i 0 ≡ p)) → (i : ℕ) × (i < length (y ∷ l)) × (getD (y ∷ l) i 0 ≡ p)
+    go (inl e) ih = (0, omega arith, sym e)
+    go (inr q) ih = let r = ih q in (suc (r .0), omega (arith, r .1), r .2)
+
 pub pair-same : {a b c d : ℕ} → a ≡ c → b ≡ d → a ∷ b ∷ [] ≡ c ∷ d ∷ []
 pair-same p q = rw (p, q)
 

@@ -42,7 +42,7 @@ module _ {A : Type 0} where
   none-some f [] h = refl
   none-some f (x ∷ l) h = rw (h x (List·Memᴰ·head refl)) (none-some f l (λ y m. h y (List·Memᴰ·tail m)))
 
-  some-true : (f : A → Bool) (l : List A) {d : A} → List·Memᴰ d l → f d ≡ true → someOf f l ≡ true
+  pub some-true : (f : A → Bool) (l : List A) {d : A} → List·Memᴰ d l → f d ≡ true → someOf f l ≡ true
   some-true f [] m t = absurd (List·Memᴰ·not-nil m)
   some-true f (x ∷ l) {d} m t = go (List·Memᴰ·cases-cons m) (λ k. some-true f l k t)
     where
@@ -50,11 +50,15 @@ module _ {A : Type 0} where
       go (inl e) ih = or-left (f x) (someOf f l) (ap f (sym e) ∙ t)
       go (inr k) ih = or-right (f x) (someOf f l) (ih k)
 
-  some-where : (f : A → Bool) (l : List A) → someOf f l ≡ true → (d : A) × List·Memᴰ d l × (f d ≡ true)
+  pub some-where : (f : A → Bool) (l : List A) → someOf f l ≡ true → (d : A) × List·Memᴰ d l × (f d ≡ true)
   some-where f [] t = absurd (true≢false (sym t))
   some-where f (x ∷ l) t =
       by-test (f x) (λ q. (x, List·Memᴰ·head refl, q))
       (λ q. let r = some-where f l (rw q at t) in (r .0, List·Memᴰ·tail (r .1), r .2))
+
+  pub some-not-all : (f : A → Bool) (l : List A) → someOf f l ≡ not (allOf (λ x. not (f x)) l)
+  some-not-all f [] = refl
+  some-not-all f (x ∷ l) = by-test (f x) (λ t. rw t) (λ t. rw t (some-not-all f l))
 
   -- two lists with the same members pass the same tests
   pub some-same : (f : A → Bool) (l m : List A) → ((d : A) → List·Memᴰ d l → List·Memᴰ d m) → ((d : A) → List·Memᴰ d m → List·Memᴰ d l) → someOf f l ≡ someOf f m

@@ -26,7 +26,7 @@ use Rattle.strain_calls.specs.Adding.{isLowest}
 use Rattle.lowest.specs.Lowest.{starts, startsBy, ownCell, anyDepth}
 
 -- the lowest block that has a cell is no later than another that has it
-lowest-le : (k : Cutting) (c : Triple) (b : ℕ) → b < blocks k → hasCell k b c ≡ true → lowestBlock k c ≤ b
+pub lowest-le : (k : Cutting) (c : Triple) (b : ℕ) → b < blocks k → hasCell k b c ≡ true → lowestBlock k c ≤ b
 unfolding lowestBlock
 lowest-le k c b hb t =
     ascends-first 0 (keep (λ b′. hasCell k b′ c) (consecutive 0 (blocks k))) (ascends-keep (λ b′. hasCell k b′ c) 0 (consecutive 0 (blocks k)) (ascends-consecutive 0 (blocks k)))
@@ -41,7 +41,19 @@ ordered-by n c t i (suc d) h =
     let e : suc (i + suc d) ≡ suc (suc (i + d)) = omega arith in
     omega (arith, ordered-by n c t i d (omega arith), cut-interval n c t (suc (i + d)) (omega arith) .upward, cut-ends n c t (suc (i + d)) (omega arith), ap (lowEnd c) e)
 
-index-le : (s c d : Triple) → ((a : Axis) → coord c a ≤ coord d a) → index s c ≤ index s d
+-- the interval of a block is one of its axis
+pub listed : (k : Cutting) (c : ℕ) → c < blocks k → (a : Axis) → interval k c a < intervals (cuts k a)
+unfolding blocks
+listed k c hc a = omega (arith, interval-is k c a, block-sides-on k a, place-inside (blockSides k) c hc a)
+
+-- an interval of a good cut ends where a later one begins, or before
+pub ordered : (k : Cutting) → goodCut k ≡ true → (a : Axis) (i j : ℕ) → i < j → j < intervals (cuts k a) → highEnd (cuts k a) i ≤ lowEnd (cuts k a) j
+ordered k good a i j h l =
+    let e : suc (i + (j - suc i)) ≡ j = omega arith in
+    subst (λ (n : ℕ). highEnd (cuts k a) i ≤ lowEnd (cuts k a) n) e
+    (ordered-by (coord (k .extents) a) (cuts k a) (cut-on k good a) i (j - suc i) (omega arith))
+
+pub index-le : (s c d : Triple) → ((a : Axis) → coord c a ≤ coord d a) → index s c ≤ index s d
 unfolding index
 index-le s c d h = omega (arith, h X, mul-le-mul-right (s .x) (h Y), mul-le-mul-right (s .x * s .y) (h Z))
 
@@ -70,16 +82,6 @@ module _ (k : Cutting) (good : goodCut k ≡ true) (b : ℕ) (hb : b < blocks k)
   has-own : hasCell k b there ≡ true
   has-own = block-has-cell k good b hb (embed k b p) own
 
-  listed : (c : ℕ) → c < blocks k → (a : Axis) → interval k c a < intervals (cuts k a)
-  unfolding blocks
-  listed c hc a = omega (arith, interval-is k c a, block-sides-on k a, place-inside (blockSides k) c hc a)
-
-  ordered : (a : Axis) (i j : ℕ) → i < j → j < intervals (cuts k a) → highEnd (cuts k a) i ≤ lowEnd (cuts k a) j
-  ordered a i j h l =
-      let e : suc (i + (j - suc i)) ≡ j = omega arith in
-      subst (λ (n : ℕ). highEnd (cuts k a) i ≤ lowEnd (cuts k a) n) e
-      (ordered-by (coord (k .extents) a) (cuts k a) (cut-on k good a) i (j - suc i) (omega arith))
-
   start-on : (a : Axis) → coord (starts k b) a ≡ min 1 (interval k b a)
   unfolding starts
   start-on a = coord-each (λ a′. min 1 (interval k b a′)) a
@@ -99,7 +101,7 @@ module _ (k : Cutting) (good : goodCut k ≡ true) (b : ℕ) (hb : b < blocks k)
         let w = lowest-has-cell k good (embed k b p) (embed-inside k good b hb p hp) in
         let s : Spans (cuts k a) (interval k first a) (coord there a) = has-spans k good first (found .0) (embed k b p) (w .1) a in
         let l : interval k first a < interval k b a = leb-false _ _ t in
-        absurd (omega (arith, late a, start-on a, there-on a, s .below, ordered a (interval k first a) (interval k b a) l (listed b hb a))))
+        absurd (omega (arith, late a, start-on a, there-on a, s .below, ordered k good a (interval k first a) (interval k b a) l (listed k b hb a))))
 
     lowest-late : lowestBlock k there ≡ b
     lowest-late =
@@ -135,8 +137,8 @@ module _ (k : Cutting) (good : goodCut k ≡ true) (b : ℕ) (hb : b < blocks k)
     span-before =
         let e : suc (coord m a - 1) ≡ coord m a = omega (arith, later) in
         let f : highEnd (cuts k a) (coord m a - 1) ≡ lowEnd (cuts k a) (coord m a) =
-        cut-ends (coord (k .extents) a) (cuts k a) (cut-on k good a) (coord m a - 1) (omega (arith, later, listed b hb a, interval-is k b a)) ∙ ap (lowEnd (cuts k a)) e in
-        let u : lowEnd (cuts k a) (coord m a - 1) ≤ highEnd (cuts k a) (coord m a - 1) = cut-interval (coord (k .extents) a) (cuts k a) (cut-on k good a) (coord m a - 1) (omega (arith, later, listed b hb a, interval-is k b a)) .upward in
+        cut-ends (coord (k .extents) a) (cuts k a) (cut-on k good a) (coord m a - 1) (omega (arith, later, listed k b hb a, interval-is k b a)) ∙ ap (lowEnd (cuts k a)) e in
+        let u : lowEnd (cuts k a) (coord m a - 1) ≤ highEnd (cuts k a) (coord m a - 1) = cut-interval (coord (k .extents) a) (cuts k a) (cut-on k good a) (coord m a - 1) (omega (arith, later, listed k b hb a, interval-is k b a)) .upward in
         let x : coord there a ≡ 2 * lowEnd (cuts k a) (coord m a) + coord here a = there-on a ∙ ap (λ (n : ℕ). 2 * lowEnd (cuts k a) n + coord here a) (interval-is k b a) in
         record {
           above = omega (arith, early, start-on a);

@@ -2,9 +2,11 @@
 // exports call them. Each has a file of its own.
 mod cross;
 mod enrol;
+mod fill;
 mod look;
 mod open;
 mod point;
+mod request;
 mod row;
 mod seam;
 mod strain;

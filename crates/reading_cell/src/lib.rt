@@ -59,8 +59,8 @@ fn has_place(cx: &[u32], cy: &[u32], cz: &[u32], b: u32, x: u32, y: u32, z: u32)
     has_cell(block, x as u64, y as u64, z as u64)
 }
 
-// The lengths of the tables that a lookup is lent.
-fn lengths_of(
+// The lengths of the tables that a lookup is lent. Not an entry.
+pub fn lengths_of(
     ticks: &[u32],
     table: &[u32],
     face_numbers: &[u32],
@@ -196,8 +196,8 @@ fn position(job: Job, block: Block, x: u32, y: u32, z: u32) -> u64
     embed(job.nx, job.ny, job.nz, block, i, j, k)
 }
 
-// The final number of a cell of the block that has number n in the map. A point goes by its position alone.
-fn number_of(
+// The final number of a cell of the block that has number n in the map. A point goes by its position alone. Not an entry.
+pub fn number_of(
     job: Job,
     block: Block,
     d: Entry,
@@ -236,8 +236,8 @@ fn handed_stands(numbers: &[u32], most: u32, from: u32, n: u32) -> bool
     number_stands(numbers, most, from as usize + (n as usize - 1))
 }
 
-// Whether the final number that a cell of the block hands out is one of the closed table's. Voxels and points hand out none.
-fn number_handed(
+// Whether the final number that a cell of the block hands out is one of the closed table's. Voxels and points hand out none. Not an entry.
+pub fn number_handed(
     job: Job,
     d: Entry,
     face_numbers: &[u32],

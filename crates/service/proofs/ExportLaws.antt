@@ -36,6 +36,10 @@ use Rattle.job_numbers.specs.Numbers.{jobIn, keptNumbers}
 use Rattle.totals.specs.declared.Totals.{Totals}
 use Rattle.strain_calls.specs.Tables.{TotalTables}
 use Rattle.strain_calls.specs.Outcomes.{StrainPromise, TotalPromise}
+use Rattle.cell_calls.specs.Cells.{CellLists}
+use Rattle.cell_calls.specs.Calls.{request, fill, cellAnswer}
+use Rattle.cell_calls.specs.Outcomes.{CellStep}
+use Rattle.exports.specs.CellCalls.{ExportedRequest, ExportedFill}
 use Rattle.exports.specs.Exports.{ExportedStep, ExportedLookup, ExportedStrain, ExportedTotal, RowExported, sixOf}
 
 pub label-exported : (r : Labelled) (m w c c′ : List ℕ) (o : Outcome) → outcome r m w ≡ o → c′ ≡ storedCounts (r .refusal) (r .faces) (r .curves) (r .points) c
@@ -98,6 +102,23 @@ module _ (ns : List ℕ) (other : Stage) (cx cy cz : List ℕ) (t : Tables) (c :
 
   pub lookup-refused : r ≢ 0 → ExportedLookup ns other cx cy cz t c r v v
   lookup-refused n = record { found = found; step = looked-up; number = rw (ne-eqb r 0 n) }
+
+-- how many blocks a request finds
+module _ (ns : List ℕ) (other : Stage) (cx cy cz : List ℕ) (t : Tables) (l : CellLists) (w w′ : List ℕ) (r found n : ℕ) (j : Job) (e : j ≡ jobIn ns other)
+    (s : CellStep (stateOf j cx cy cz t) (request l w) (cellAnswer r found w′)) where
+  request-step : CellStep (stateOf (jobIn ns other) cx cy cz t) (request l w) (cellAnswer r found w′)
+  request-step = subst (λ (x : Job). CellStep (stateOf x cx cy cz t) (request l w) (cellAnswer r found w′)) e s
+
+  pub request-stored : r ≡ 0 → ExportedRequest ns other cx cy cz t l w w′ r n found
+  request-stored z = record { found = found; step = request-step; number = rw (eq-eqb r 0 z) }
+
+  pub request-refused : r ≢ 0 → ExportedRequest ns other cx cy cz t l w w′ r n n
+  request-refused z = record { found = found; step = request-step; number = rw (ne-eqb r 0 z) }
+
+-- a filling, from the job that the numbers tell
+pub fill-exported : (ns : List ℕ) (other : Stage) (cx cy cz : List ℕ) (t : Tables) (l : CellLists) (b : ℕ) (m w : List ℕ) (r : ℕ) (w′ : List ℕ) (j : Job) → j ≡ jobIn ns other
+    → CellStep (stateOf j cx cy cz t) (fill l b m w) (cellAnswer r 0 w′) → ExportedFill ns other cx cy cz t l b m w r w′
+fill-exported ns other cx cy cz t l b m w r w′ j e s = subst (λ (x : Job). CellStep (stateOf x cx cy cz t) (fill l b m w) (cellAnswer r 0 w′)) e s
 
 -- the readings' step, from the job that the numbers tell
 pub strain-exported : (ns : List ℕ) (other : Stage) (cx cy cz blocks numbers : List ℕ) (w : TotalTables) (b : ℕ) (m : List ℕ) (values : List Float) (kinds : List ℕ) (r : ℕ) (v : TotalTables) (j : Job)

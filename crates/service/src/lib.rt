@@ -10,6 +10,7 @@ use lists::read_or_zero;
 use maxima::most_components;
 use methods::Joining;
 use reader::read_record;
+use reading_blocks::Requested;
 use reading_cell::Found;
 use reading_row::Kind;
 use reading_total::Totalled;
@@ -29,6 +30,8 @@ ghost use Rattle.maxima.specs.Maxima.{mostComponents};
 ghost use Rattle.layer_printer.specs.Printing.{outcome, layerPrinting};
 ghost use Rattle.service.specs.Exports.{exported, export, exportedMost, exportMost, exportedWriting, exportWriting, exportedReading, exportReading};
 ghost use Rattle.job_numbers.specs.Numbers.{jobIn};
+ghost use Rattle.cell_calls.specs.Cells.{cellLists};
+ghost use Rattle.exports.specs.CellCalls.{ExportedRequest, ExportedFill};
 ghost use Rattle.exports.specs.Exports.{ExportedOpening, ExportedStep, ExportedLookup, ExportedStrain, ExportedTotal, RowExported, sixOf};
 ghost use Rattle.reading_row.specs.Inner.{kindOf};
 
@@ -449,6 +452,76 @@ pub extern "C" fn tugrelis_lookup(
         *number = r.number;
     }
     r.refusal
+}
+
+// Lists the blocks that a list of cells of a closed job is read from, each once, ascending; answers the refusal, 0 for none.
+#[no_mangle]
+pub extern "C" fn tugrelis_request_blocks(
+    job: &[u32; 13],
+    cx: &[u32],
+    cy: &[u32],
+    cz: &[u32],
+    xs: &[u32],
+    ys: &[u32],
+    zs: &[u32],
+    needed: &mut [u32],
+    count: &mut u32,
+) -> u32
+    ensures { λ r. ⌜ anyTables (λ t. ExportedRequest (now (job .entry)) Stage.Enrol (now (cx .entry)) (now (cy .entry)) (now (cz .entry)) t
+        (cellLists (now (xs .entry)) (now (ys .entry)) (now (zs .entry))) (now (needed .entry)) (now (needed .exit)) r (now (count .entry)) (now (count .exit))) ⌝ }
+{
+    let joining = Joining {
+        job: job_in(job, Stage::Enrol),
+    };
+    let r: Requested = joining.request_blocks(cx, cy, cz, xs, ys, zs, needed);
+    if r.refusal == 0 {
+        *count = r.count;
+    }
+    r.refusal
+}
+
+// Fills in the answers of a list of cells of a closed job that are read from one block; answers the refusal, 0 for none.
+#[no_mangle]
+pub extern "C" fn tugrelis_fill_cells(
+    job: &[u32; 13],
+    cx: &[u32],
+    cy: &[u32],
+    cz: &[u32],
+    ticks: &[u32],
+    blocks: &[u32],
+    face_numbers: &[u32],
+    curve_numbers: &[u32],
+    point_firsts: &[u64],
+    xs: &[u32],
+    ys: &[u32],
+    zs: &[u32],
+    block: u32,
+    map: &[u32],
+    answers: &mut [u32],
+) -> u32
+    ensures { λ r. ⌜ anyTables (λ t. ExportedFill (now (job .entry)) Stage.Enrol (now (cx .entry)) (now (cy .entry)) (now (cz .entry))
+        (lookLent t (now (ticks .entry)) (now (blocks .entry)) (now («face_numbers» .entry)) (now («curve_numbers» .entry)) (now («point_firsts» .entry)))
+        (cellLists (now (xs .entry)) (now (ys .entry)) (now (zs .entry))) block (now (map .entry)) (now (answers .entry)) r (now (answers .exit))) ⌝ }
+{
+    let joining = Joining {
+        job: job_in(job, Stage::Enrol),
+    };
+    joining.fill_cells(
+        cx,
+        cy,
+        cz,
+        ticks,
+        blocks,
+        face_numbers,
+        curve_numbers,
+        point_firsts,
+        xs,
+        ys,
+        zs,
+        block,
+        map,
+        answers,
+    )
 }
 
 // Adds the readings of a block to the totals of its faces; answers the refusal, 0 for none.

@@ -23,6 +23,9 @@ use Rattle.strain_calls.specs.Tables.{TotalTables}
 use Rattle.strain_calls.specs.Calls.{StrainCall, StrainAnswer}
 use Rattle.strain_calls.specs.Declines.{openingDeclines, strainDeclines}
 use Rattle.strain_calls.specs.Outcomes.{TotalsOpening, StrainStep}
+use Rattle.cell_calls.specs.Calls.{CellCall, CellAnswer}
+use Rattle.cell_calls.specs.Declines.{cellDeclines}
+use Rattle.cell_calls.specs.Outcomes.{CellStep}
 use Rattle.text.specs.Words.{wordsOf}
 use Rattle.text.specs.Request.{declinesText}
 use Rattle.parser.specs.declared.Task.{Task}
@@ -45,6 +48,8 @@ pub data PublicCall : Type 0 where
   call : State → Call → PublicCall
   -- strain or total
   about-readings : State → TotalTables → StrainCall → PublicCall
+  -- request_blocks or fill_cells
+  about-cells : State → CellCall → PublicCall
   -- the listing program with a text to read
   program : List ℕ → PublicCall
 
@@ -58,6 +63,7 @@ casesOf (print-layer e z m t) = layer-printer.declines e z m (length t)
 casesOf (opening o lent w) = openingDeclines o lent w
 casesOf (call s c) = joiner.declines s c
 casesOf (about-readings s w c) = strainDeclines s w c
+casesOf (about-cells s c) = cellDeclines s c
 casesOf (program t) = declinesText (wordsOf t)
 
 -- n is the number with which it is answered, 0 for no refusal: what is left and answered is as the `ensures` of the public entry says, and n is its refusal.
@@ -71,4 +77,5 @@ Answers (print-layer e z m t) n = (t′ : List ℕ) × (layer-printer.outcome n 
 Answers (opening o lent w) n = (s : State) × (v : TotalTables) × TotalsOpening o lent w n s v
 Answers (call s c) n = (a : Answer) × (t : State) × CallStep s c a t × (n ≡ a .refusal)
 Answers (about-readings s w c) n = (a : StrainAnswer) × (v : TotalTables) × StrainStep s w c a v × (n ≡ a .refusal)
+Answers (about-cells s c) n = (a : CellAnswer) × CellStep s c a × (n ≡ a .refusal)
 Answers (program t) n = (d : List ℕ) × (length d ≡ 512) × (finished (after (state begun d) t) .task ≡ Task.PrintRefused n)

@@ -157,7 +157,7 @@ strain-statement o lent w v s own es P lab L F =
 -- ---- statement 3, cited
 
 -- leaving out the two calls keeps what statement 3 supposes
-base-fair : (own : ℕ → List ℕ) (es : List StrainEvent) → LongFair own es → Fair own (baseCalls es)
+pub base-fair : (own : ℕ → List ℕ) (es : List StrainEvent) → LongFair own es → Fair own (baseCalls es)
 unfolding baseCalls
 base-fair own [] f = tt
 base-fair own (base e ∷ es) f = (f .0, base-fair own es (f .1))

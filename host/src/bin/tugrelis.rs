@@ -1,27 +1,33 @@
-//! Labels and joins a whole volume, or prints a layer of one of its blocks: HELP tells what the tool takes and leaves. Memory is needed for the tables and for
-//! one or two blocks at a time.
+//! Labels and joins a whole volume, prints a layer of one of its blocks, or looks up cells: HELP tells what the tool takes and leaves. Memory is needed for the
+//! tables and for one or two blocks at a time.
 use std::fs::{self, File};
 use std::io::{BufWriter, Read, Seek, SeekFrom, Write};
 use std::path::{Path, PathBuf};
 use tugrelis::error::at;
+use tugrelis::kept::{read_job, write_job};
 use tugrelis::sheet::write_sheet;
 use tugrelis::{Block, Cutting, Entries, Error, Job};
 
 const HELP: &str = "\
-Labels and joins a whole volume, or prints a layer of one of its blocks.
+Labels and joins a whole volume, prints a layer of one of its blocks, or looks up cells.
 
 usage: tugrelis VOLUME NX NY NZ FOLDER [--size N | --cut X-LIST Y-LIST Z-LIST]
        tugrelis print RECORD Z
+       tugrelis lookup FOLDER (CELL... | --cells FILE)
 
-  VOLUME      a file of little-endian 32-bit codes, x fastest; 0 is outside the specimen
+  VOLUME      a file of little-endian 32-bit codes, x fastest; 0 is outside the specimen; one that is called print or lookup is named ./print or ./lookup
   NX NY NZ    the extents of the volume in voxels
-  FOLDER      gets one record for each block, and the result sheet sheet.txt; must not exist yet
+  FOLDER      gets one record for each block, the result sheet sheet.txt, and closed.job for lookups; must not exist yet
   --size N    blocks of at most N voxels on each axis, 2 to 64; 64 if nothing is said
   --cut X-LIST Y-LIST Z-LIST
               blocks cut where the lists say: numbers parted by commas, 0 first, the last voxel last
-  print       prints a layer of a block's map; a volume that is called print is named ./print
+  print       prints a layer of a block's map
   RECORD      the block's record
   Z           the layer of cells: 0 to 2n - 2 for a block of n voxels in z
+  lookup      prints the final numbers of cells, one to a line, in their order; reads the records that are needed, each once
+  CELL        a cell's place in the volume, X,Y,Z: 0 to 2n - 2 on an axis of n voxels; as many as wanted, in any order
+  --cells FILE
+              the cells of a file, parted by blanks or line ends
   --help      prints this
   --version   prints the version
 
@@ -40,6 +46,7 @@ enum Asked {
     Tell(&'static str),
     Label(Task),
     Print { record: PathBuf, z: u32 },
+    Lookup { folder: PathBuf, cells: Vec<[u32; 3]> },
 }
 
 struct Task {
@@ -78,16 +85,36 @@ fn layer(words: &[String]) -> Result<Asked, Error> {
     Ok(Asked::Print { record: record.into(), z })
 }
 
+/// A cell, by its place in the volume.
+fn cell(word: &str) -> Result<[u32; 3], Error> {
+    list(word).ok().and_then(|place| place.try_into().ok()).map_or_else(|| usage(format!("'{word}' is no cell")), Ok)
+}
+
+/// What is looked up, by the words after `lookup`.
+fn sought(words: &[String]) -> Result<Asked, Error> {
+    let (folder, cells) = match words {
+        [folder, flag, file] if flag == "--cells" => {
+            let read = || -> Result<Vec<_>, Error> { fs::read_to_string(file)?.split_whitespace().map(cell).collect() };
+            (folder, read().map_err(at(file))?)
+        }
+        [folder, cells @ ..] if !cells.is_empty() => (folder, cells.iter().map(|word| cell(word)).collect::<Result<_, _>>()?),
+        _ => return usage("lookup takes FOLDER and cells".into()),
+    };
+    Ok(Asked::Lookup { folder: folder.into(), cells })
+}
+
 fn asked(words: &[String]) -> Result<Asked, Error> {
-    if let Some(option) = words.iter().find(|w| w.starts_with("--") && !["--size", "--cut"].contains(&w.as_str())) {
+    if let Some(option) = words.iter().find(|w| w.starts_with("--") && !["--size", "--cut", "--cells"].contains(&w.as_str())) {
         return match option.as_str() {
             "--help" => Ok(Asked::Tell(HELP)),
             "--version" => Ok(Asked::Tell(VERSION)),
             _ => usage(format!("'{option}' is no option")),
         };
     }
-    if words.first().is_some_and(|word| word == "print") {
-        return layer(&words[1..]);
+    match words {
+        [word, rest @ ..] if word == "print" => return layer(rest),
+        [word, rest @ ..] if word == "lookup" => return sought(rest),
+        _ => {}
     }
     let [volume, nx, ny, nz, folder, rest @ ..] = words else { return usage("VOLUME, NX, NY, NZ and FOLDER are needed".into()) };
     let extent = |w: &String| w.parse().or_else(|_| usage(format!("'{w}' is no extent")));
@@ -143,6 +170,10 @@ fn write_file(path: &Path, write: impl FnOnce(&mut dyn Write) -> Result<(), Erro
         Ok(fs::rename(&partial, path)?)
     };
     written().map_err(at(path.display()))
+}
+
+fn job_path(folder: &Path) -> PathBuf {
+    folder.join("closed.job")
 }
 
 fn record_path(folder: &Path, block: u32) -> PathBuf {
@@ -233,6 +264,7 @@ fn work(task: &Task, folder: &Path) -> Result<(), Error> {
     let entries = label_all(task, folder)?;
     let mut job = Job::open(task.cutting.clone(), entries)?;
     join_all(folder, &mut job)?;
+    write_file(&job_path(folder), |out| write_job(&job, out))?;
     write_file(&folder.join("sheet.txt"), |out| write_sheet(&job, out))
 }
 
@@ -260,6 +292,15 @@ fn pages(record: &Path, z: u32) -> Result<String, Error> {
     block.print(z).map_err(at(format_args!("layer {z}")))
 }
 
+/// The final numbers of cells, one to a line.
+fn numbers(folder: &Path, cells: &[[u32; 3]]) -> Result<String, Error> {
+    let path = job_path(folder);
+    let read = || read_job(&fs::read(&path)?);
+    let job = read().map_err(at(path.display()))?;
+    let numbers = job.lookup_all(cells, |block| load(folder, &job.cutting, block))?;
+    Ok(numbers.iter().map(|n| format!("{n}\n")).collect())
+}
+
 /// Writes to standard output.
 fn tell(text: &str) -> Result<(), Error> {
     let mut out = std::io::stdout();
@@ -273,6 +314,7 @@ fn run() -> Result<(), Error> {
         Asked::Tell(text) => tell(&format!("{text}\n")),
         Asked::Label(task) => label(&task),
         Asked::Print { record, z } => tell(&pages(&record, z).map_err(at(record.display()))?),
+        Asked::Lookup { folder, cells } => tell(&numbers(&folder, &cells)?),
     }
 }
 

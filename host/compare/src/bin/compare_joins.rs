@@ -1,18 +1,20 @@
 //! Compares the proved joiner with the day book of the second implementation: compare_joins SEED CASES [--spoil WHAT].
 //! A case is a random volume, a random cutting, tables of random sizes (plenty, just large enough, one too small) and a list of calls in random
-//! order, among them calls with wrong maps, wrong blocks, wrong stages, disagreeing overlaps and bad strain readings. Compared are each call's refusal, each
-//! reading's answer, totals by their bits, that a refused call leaves job and tables as they were, and the closed tables. With --spoil one answer to WHAT is changed before it
-//! is compared, which must be reported. Exits 1 if anything differs, and prints the first difference.
+//! order, among them calls with wrong maps, wrong blocks, wrong stages, disagreeing overlaps, lists of cells and bad strain readings. Compared are each call's
+//! refusal, each reading's answer, totals by their bits, that a refused call leaves job and tables as they were, the closed tables, and the answers of lists of
+//! cells with the uncut volume. With --spoil one answer to WHAT is changed before it is compared, which must be reported. Exits 1 if anything differs, and prints
+//! the first difference.
 use reference::book::{Answer, Book, Call, Kind as BookKind};
+use reference::cells::Cells as BookCells;
 use reference::cutting::Cutting as Cuts;
 use reference::label::number;
 use reference::random::{bad_reading, cuts, reading, volume, Random};
 use reference::strain::{Lists, ReadingBook, Side as BookSide};
 use std::collections::BTreeMap;
 use std::fmt::Write;
-use tugrelis::{Block, Cutting, Entries, Job, Kind, Readings, Refusal, Side, Stage, Tables};
+use tugrelis::{Block, Cells, Cutting, Entries, Job, Kind, Readings, Refusal, Side, Stage, Tables, MOST_CELLS};
 
-const WHATS: [&str; 10] = ["open", "step", "reading", "kept", "closed", "faces", "curves", "points", "strain", "total"];
+const WHATS: [&str; 12] = ["open", "step", "reading", "kept", "closed", "faces", "curves", "points", "strain", "total", "blocks", "cells"];
 
 struct Comparison {
     random: Random,
@@ -46,6 +48,12 @@ impl Comparison {
         if self.differences == 1 {
             println!("compare_joins: seed {} case {}: {what} differs: {}", self.seed, self.case, tell());
         }
+    }
+
+    /// Counts a call by what is expected of it.
+    fn count(&mut self, what: &'static str, expected: &Answer) {
+        self.calls += 1;
+        *self.given.entry((what, refusal(expected))).or_default() += 1;
     }
 
     /// A volume, a cutting and the labelled blocks. Some blocks are labelled from other codes, so that overlaps disagree.
@@ -142,11 +150,7 @@ impl Comparison {
             self.equal("kept", before == *job, &|| format!("after a refusal of {call:?}"));
             return true;
         }
-        if let Answer::Refused(n) = expected {
-            *self.given.entry((what, n)).or_default() += 1;
-        } else {
-            *self.given.entry((what, 0)).or_default() += 1;
-        }
+        *self.given.entry((what, refusal(&expected))).or_default() += 1;
         let reading = matches!(call, Call::Lookup { .. } | Call::Row { .. });
         self.equal(if reading { "reading" } else { "step" }, proved == expected, &|| {
             format!("{call:?} gave {proved:?}, the book says {expected:?}; job {:?} cutting {:?}", before.numbers(), before.cutting)
@@ -165,9 +169,7 @@ impl Comparison {
             Stage::Seam => case.cuts.seams(),
             _ => (0..case.cuts.blocks()).map(|b| (b, b)).collect(),
         };
-        for i in (1..steps.len()).rev() {
-            steps.swap(i, self.random.below(i + 1));
-        }
+        self.random.shuffle(&mut steps);
         let mut tries = 0;
         let mut at = 0;
         while at < steps.len() && tries < 4 * steps.len() + 8 {
@@ -196,9 +198,7 @@ impl Comparison {
                 return false;
             }
             if self.random.once_in(12) && !book.closed() {
-                let (mut none, lists) = (ReadingBook::new(case.cuts.blocks()), self.lists(2));
-                self.strain(job, book, &mut none, a, &one, &lists);
-                self.total(job, book, &none, 1);
+                self.too_early(case, job, book, a, &one);
             }
             if book.stage() != before {
                 return true;
@@ -208,6 +208,16 @@ impl Comparison {
             }
         }
         book.closed()
+    }
+
+    /// Calls that need a closed job.
+    fn too_early(&mut self, case: &Case, job: &mut Job, book: &Book, block: usize, map: &[u32]) {
+        let (mut none, lists) = (ReadingBook::new(case.cuts.blocks()), self.lists(2));
+        self.strain(job, book, &mut none, block, map, &lists);
+        self.total(job, book, &none, 1);
+        let cells = self.asked(case);
+        self.request(job, book, &cells);
+        self.fill(job, book, &cells, block, map, &mut vec![7; cells.xs.len()]);
     }
 
     /// Every cell from every block, every row, and readings of what is not there.
@@ -271,8 +281,7 @@ impl Comparison {
         if expected == Answer::Free && !refused {
             return false;
         }
-        let number = if let Answer::Refused(n) = expected { n } else { 0 };
-        *self.given.entry(("strain", number)).or_default() += 1;
+        *self.given.entry(("strain", refusal(&expected))).or_default() += 1;
         let same = proved == expected || expected == Answer::Free && matches!(proved, Answer::Refused(8));
         self.equal("strain", same, &|| {
             format!("block {block} with {values:x?} {kinds:?} gave {proved:?}, the book says {expected:?}; cutting {:?}", before.cutting)
@@ -288,8 +297,7 @@ impl Comparison {
         let side = |d: Side| BookSide { sum: d.sum.to_bits(), counts: [d.strains, d.clipped, d.missing] };
         let proved = job.total(number).map_or_else(|n| Answer::Refused(n.number()), |t| Answer::Totals([side(t.lower), side(t.higher)]));
         let expected = readings.total(book, number);
-        self.calls += 1;
-        *self.given.entry(("total", if let Answer::Refused(n) = expected { n } else { 0 })).or_default() += 1;
+        self.count("total", &expected);
         self.equal("total", proved == expected, &|| format!("{number} gave {proved:x?}, the book says {expected:x?}; cutting {:?}", job.cutting));
     }
 
@@ -297,9 +305,7 @@ impl Comparison {
     fn strains(&mut self, case: &Case, job: &mut Job, book: &Book) {
         let mut readings = ReadingBook::new(case.cuts.blocks());
         let mut order: Vec<usize> = (0..case.cuts.blocks()).collect();
-        for i in (1..order.len()).rev() {
-            order.swap(i, self.random.below(i + 1));
-        }
+        self.random.shuffle(&mut order);
         let faces = job.counts().faces;
         let mut at = 0;
         while at < order.len() {
@@ -323,6 +329,90 @@ impl Comparison {
         for number in 0..faces + 2 {
             self.total(job, book, &readings, number);
         }
+    }
+
+    /// Cells of the volume in any order, some of them twice; now and then one is outside, a coordinate is missing, or they are as many as a list may have or more.
+    fn asked(&mut self, case: &Case) -> Cells {
+        let random = &mut self.random;
+        let many = if random.once_in(60) { MOST_CELLS + random.below(2) } else { random.below(40) };
+        let sides = case.cuts.extents.map(|n| 2 * n - 1);
+        let mut cells: Cells = (0..many).map(|_| sides.map(|side| random.below(side) as u32)).collect();
+        match random.below(12) {
+            0 if many > 0 => {
+                let at = random.below(many);
+                cells.ys[at] = random.pick(&[sides[1] as u32, u32::MAX]);
+            }
+            1 => cells.zs.push(0),
+            2 => {
+                cells.xs.pop();
+            }
+            _ => {}
+        }
+        cells
+    }
+
+    /// Asks on both sides which blocks are needed, and gives them; none after a refusal.
+    fn request(&mut self, job: &Job, book: &Book, cells: &Cells) -> Vec<u32> {
+        let tray = vec![0; cells.xs.len()];
+        let asked = job.needed_blocks(cells);
+        let laid = |blocks: &Vec<u32>| Answer::Tray(blocks.len() as u32, [&blocks[..], &tray[blocks.len()..]].concat());
+        let proved = asked.as_ref().map_or_else(|n| Answer::Refused(n.number()), laid);
+        let expected = book.request(of_book(cells, &tray));
+        self.count("request", &expected);
+        self.equal("blocks", proved == expected, &|| format!("{cells:?} gave {proved:?}, the book says {expected:?}; cutting {:?}", job.cutting));
+        asked.unwrap_or_default()
+    }
+
+    /// Fills in answers on both sides. The book says nothing of a map that is not the block's; then the answers are set back.
+    fn fill(&mut self, job: &Job, book: &Book, cells: &Cells, block: usize, map: &[u32], answers: &mut Vec<u32>) {
+        let before = answers.clone();
+        let filled = job.fill_cells(cells, block as u32, map, answers);
+        let expected = book.fill(of_book(cells, &before), block, map);
+        self.count("fill", &expected);
+        if filled.is_err() {
+            self.equal("kept", *answers == before, &|| format!("after a refused filling of {cells:?}"));
+        }
+        let proved = filled.map_or_else(|n| Answer::Refused(n.number()), |()| Answer::Tray(0, answers.clone()));
+        if expected == Answer::Free {
+            *answers = before;
+        }
+        let same = proved == expected || expected == Answer::Free && matches!(proved, Answer::Tray(..) | Answer::Refused(8));
+        self.equal("cells", same, &|| format!("block {block} of {cells:?} gave {proved:?}, the book says {expected:?}; cutting {:?}", job.cutting));
+    }
+
+    /// Lists of cells, their blocks in random order, with other calls between; then every answer is the number of the uncut volume.
+    fn together(&mut self, case: &Case, job: &mut Job, book: &mut Book) {
+        for _ in 0..3 {
+            let cells = self.asked(case);
+            let mut blocks = self.request(job, book, &cells);
+            self.random.shuffle(&mut blocks);
+            let mut answers: Vec<u32> = cells.xs.iter().map(|_| self.random.word() as u32).collect();
+            for &block in &blocks {
+                if self.random.once_in(3) {
+                    let other = self.random.below(case.cuts.blocks() + 1);
+                    let (map, cell) = (self.map(case, other), case.cuts.outside(block as usize, 0));
+                    self.fill(job, book, &cells, other, &map, &mut answers);
+                    self.fill(job, book, &cells, block as usize, &case.maps[block as usize], &mut vec![7; cells.xs.len() + 1]);
+                    self.call(job, book, "lookup", &Call::Lookup { block: block as usize, map: &case.maps[block as usize], cell });
+                }
+                self.fill(job, book, &cells, block as usize, &case.maps[block as usize], &mut answers);
+            }
+            if blocks.is_empty() {
+                let block = self.random.below(case.cuts.blocks());
+                self.fill(job, book, &cells, block, &case.maps[block], &mut answers);
+            } else {
+                self.equal("cells", answers == book.numbers(of_book(&cells, &[])), &|| format!("{cells:?} gave {answers:?}; cutting {:?}", job.cutting));
+            }
+        }
+    }
+
+    /// Everything that a closed job is asked for; lists of cells before and after the strains.
+    fn all_of_closed(&mut self, case: &Case, job: &mut Job, book: &mut Book) {
+        self.closed += 1;
+        self.readings(case, job, book);
+        self.together(case, job, book);
+        self.strains(case, job, book);
+        self.together(case, job, book);
     }
 
     /// Tables for a job: of the stated sizes, full of another job's numbers; sometimes one of another length.
@@ -405,12 +495,23 @@ impl Comparison {
                 return;
             }
             if book.closed() {
-                self.closed += 1;
-                self.readings(&case, &mut job, &mut book);
-                return self.strains(&case, &mut job, &book);
+                return self.all_of_closed(&case, &mut job, &mut book);
             }
         }
     }
+}
+
+/// The number of a refusal, 0 for another answer.
+fn refusal(answer: &Answer) -> u32 {
+    match answer {
+        Answer::Refused(n) => *n,
+        _ => 0,
+    }
+}
+
+/// Cells and a tray as the book has them.
+fn of_book<'a>(cells: &'a Cells, tray: &'a [u32]) -> BookCells<'a> {
+    BookCells { lists: [&cells.xs, &cells.ys, &cells.zs], tray }
 }
 
 /// The refusals 1 and 2, where a list may be empty.

@@ -2,7 +2,7 @@
 //! lengths changed here and there.
 use crate::lent::{longs_mut, words_mut, Asked, What, WHATS};
 use reference::random::{bad_reading, cuts, reading, volume, Random};
-use tugrelis::{Block, Cutting, Entries, Job, Readings};
+use tugrelis::{Block, Cells, Cutting, Entries, Job, Readings, MOST_CELLS};
 
 /// Any number, mostly a small one.
 pub fn small(random: &mut Random) -> u32 {
@@ -25,6 +25,27 @@ fn beside(random: &mut Random, n: u32) -> u32 {
     }
 }
 
+/// The calls of a closed job, those with more to test more often.
+const OF_CLOSED: [What; 17] = [
+    What::Lookup,
+    What::Lookup,
+    What::Lookup,
+    What::FaceRow,
+    What::CurveRow,
+    What::PointRow,
+    What::Total,
+    What::Total,
+    What::Strain,
+    What::Strain,
+    What::Strain,
+    What::Request,
+    What::Request,
+    What::Fill,
+    What::Fill,
+    What::Fill,
+    What::Fill,
+];
+
 /// An honest job, and the call that it waits for.
 pub fn honest(random: &mut Random) -> Asked {
     let extents = [0; 3].map(|_| random.pick(&[1, 2, 2, 2, 3, 3]));
@@ -40,8 +61,9 @@ pub fn honest(random: &mut Random) -> Asked {
     let mut job = Job::open(cutting.clone(), entries(random, &cutting, &blocks)).expect("an opening");
     let (what, [lower, upper]) = advance(random, &mut job, &blocks);
     let map = |b: u32| blocks.get(b as usize).cloned().unwrap_or_default();
-    let cell =
-        [0, 1, 2].map(|a: usize| 2 * cutting.origin(lower as usize)[a] + random.below(2 * usize::from(cutting.block_extents(lower as usize)[a]) - 1) as u32);
+    let cell = cell_of(random, &cutting, lower);
+    let cells: Cells = (0..random.pick(&[0, 1, 2, 4, 8])).map(|_| any_cell(random, &cutting, lower)).collect();
+    let tray = cells.xs.iter().map(|_| small(random)).collect();
     let many = match what {
         What::FaceRow | What::Total => job.counts().faces,
         What::CurveRow => job.counts().curves,
@@ -59,7 +81,21 @@ pub fn honest(random: &mut Random) -> Asked {
         cell,
         values,
         kinds,
+        cells,
+        tray,
     }
+}
+
+/// A cell of a block, by its place in the volume.
+fn cell_of(random: &mut Random, cutting: &Cutting, block: u32) -> [u32; 3] {
+    let (origin, extents) = (cutting.origin(block as usize), cutting.block_extents(block as usize));
+    [0, 1, 2].map(|a: usize| 2 * origin[a] + random.below(2 * usize::from(extents[a]) - 1) as u32)
+}
+
+/// A cell of a block, or of any.
+fn any_cell(random: &mut Random, cutting: &Cutting, block: u32) -> [u32; 3] {
+    let from = if random.once_in(3) { random.below(cutting.blocks()) as u32 } else { block };
+    cell_of(random, cutting, from)
 }
 
 /// Good readings of a block.
@@ -100,9 +136,7 @@ fn advance(random: &mut Random, job: &mut Job, blocks: &[Vec<u32>]) -> (What, [u
             What::Seam => job.cutting.seams().iter().map(|&(b, c)| [b, c]).collect(),
             _ => (0..blocks.len() as u32).map(|b| [b, b]).collect(),
         };
-        for i in (1..steps.len()).rev() {
-            steps.swap(i, random.below(i + 1));
-        }
+        random.shuffle(&mut steps);
         // the last step of a stage as often as all others
         let stop = if until != stage || steps.is_empty() {
             usize::MAX
@@ -124,19 +158,7 @@ fn advance(random: &mut Random, job: &mut Job, blocks: &[Vec<u32>]) -> (What, [u
             }
         }
     }
-    let what = random.pick(&[
-        What::Lookup,
-        What::Lookup,
-        What::Lookup,
-        What::FaceRow,
-        What::CurveRow,
-        What::PointRow,
-        What::Total,
-        What::Total,
-        What::Strain,
-        What::Strain,
-        What::Strain,
-    ]);
+    let what = random.pick(&OF_CLOSED);
     if matches!(what, What::Total | What::Strain) {
         strain(random, job, blocks, (what == What::Strain).then_some(any));
     }
@@ -160,7 +182,7 @@ pub fn astray(random: &mut Random, s: &mut Asked) {
 pub fn spoil(random: &mut Random, s: &mut Asked) {
     for _ in 0..random.pick(&[0, 0, 1, 1, 1, 2, 3]) {
         let kind = random.below(2);
-        match random.below(24) {
+        match random.below(26) {
             0 => s.job[random.below(13)] = small(random),
             1 => tally(random, s),
             2 => {
@@ -182,6 +204,7 @@ pub fn spoil(random: &mut Random, s: &mut Asked) {
                 let value = random.pick(&[0, 1, 1, 5]);
                 change(random, &mut s.tables.came, value);
             }
+            24 | 25 => cell(random, s),
             _ => length(random, s),
         }
     }
@@ -366,16 +389,38 @@ fn bad(random: &mut Random, s: &mut Asked) {
     }
 }
 
+/// A coordinate at the volume's edge, or any; or as many cells as a list may have, or one more.
+fn cell(random: &mut Random, s: &mut Asked) {
+    let many = s.cells.xs.len();
+    if random.once_in(12) {
+        let length = MOST_CELLS + random.below(2);
+        [&mut s.cells.xs, &mut s.cells.ys, &mut s.cells.zs, &mut s.tray].into_iter().for_each(|list| {
+            let value = list.last().copied().unwrap_or(0);
+            list.resize(length, value);
+        });
+    } else if many > 0 {
+        let (at, axis) = (random.below(many), random.below(3));
+        let value = beside(random, s.job[1 + axis].wrapping_mul(2).wrapping_sub(2));
+        if let Some(c) = [&mut s.cells.xs, &mut s.cells.ys, &mut s.cells.zs][axis].get_mut(at) {
+            *c = value;
+        }
+    }
+}
+
 /// One place more or less in a table, a map or a list.
 fn length(random: &mut Random, s: &mut Asked) {
     let more = random.once_in(2);
-    match random.below(26) {
+    match random.below(30) {
         k @ 0..=13 => grow(words_mut(&mut s.tables)[k], more),
         k @ 14..=20 => grow(longs_mut(&mut s.tables)[k - 14], more),
         21 => grow(&mut s.tables.face_sums.0, more),
         22 => grow(&mut s.values, more),
         23 => grow(&mut s.kinds, more),
-        k => grow(&mut s.maps[k - 24], more),
+        24 => grow(&mut s.cells.xs, more),
+        25 => grow(&mut s.cells.ys, more),
+        26 => grow(&mut s.cells.zs, more),
+        27 => grow(&mut s.tray, more),
+        k => grow(&mut s.maps[k - 28], more),
     }
 }
 

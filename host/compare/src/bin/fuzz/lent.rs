@@ -1,13 +1,17 @@
 //! A call of the joiner: what is asked, and what is lent for it, every table between guards.
 use reference::book::{Answer, Call, Kind};
+use reference::cells::Cells as Asking;
 use reference::outcome::{roots, Outcome};
 use reference::strain::{Lists, Side, TotalTables};
-use reference::table::{State, Tables as View};
-use tugrelis::{raw, Sums, Tables};
+use reference::table::{Declined, State, Tables as View};
+use tugrelis::{raw, Cells, Sums, Tables};
 
 /// Places before and behind a lent table, and what they hold.
 pub const GUARD: usize = 3;
 const MARK: u8 = 77;
+
+/// What the place for a count holds before the call.
+const NO_COUNT: u32 = 7;
 
 #[derive(Clone, Copy, PartialEq, Eq, PartialOrd, Ord, Debug)]
 pub enum What {
@@ -22,14 +26,29 @@ pub enum What {
     PointRow,
     Total,
     Strain,
+    Request,
+    Fill,
 }
 
-pub const WHATS: [What; 11] =
-    [What::Open, What::Enrol, What::Seam, What::Crossing, What::Point, What::Lookup, What::FaceRow, What::CurveRow, What::PointRow, What::Total, What::Strain];
+pub const WHATS: [What; 13] = [
+    What::Open,
+    What::Enrol,
+    What::Seam,
+    What::Crossing,
+    What::Point,
+    What::Lookup,
+    What::FaceRow,
+    What::CurveRow,
+    What::PointRow,
+    What::Total,
+    What::Strain,
+    What::Request,
+    What::Fill,
+];
 
 impl What {
     pub fn name(self) -> &'static str {
-        ["open", "enrol", "seam", "crossing", "point", "lookup", "face row", "curve row", "point row", "total", "strain"][self as usize]
+        ["open", "enrol", "seam", "crossing", "point", "lookup", "face row", "curve row", "point row", "total", "strain", "request", "fill"][self as usize]
     }
 
     /// The tables that the call is lent, by their places in `words` and `longs`.
@@ -40,10 +59,11 @@ impl What {
             What::Seam => (&[0, 1, 2, 3], &[]),
             What::Crossing => (&[0, 1, 2, 3, 4, 5, 7, 8, 10, 11], &[0, 1, 3, 4]),
             What::Point => (&[0, 1, 8, 6, 9, 12], &[2, 5]),
-            What::Lookup => (&[0, 1, 7, 8], &[5]),
+            What::Lookup | What::Fill => (&[0, 1, 7, 8], &[5]),
             What::FaceRow | What::CurveRow | What::PointRow => (&[10, 11, 12], &[]),
             What::Total => (&[13], &[6]),
             What::Strain => (&[1, 7, 13], &[6]),
+            What::Request => (&[], &[]),
         }
     }
 
@@ -68,15 +88,18 @@ pub struct Asked {
     /// The readings of the block.
     pub values: Vec<f64>,
     pub kinds: Vec<u8>,
+    /// Cells that are looked up together, and the tray for their blocks or answers.
+    pub cells: Cells,
+    pub tray: Vec<u32>,
 }
 
 impl Asked {
-    /// The call as the day book has it; none for an opening and for the calls about readings.
+    /// The call as the day book has it; none for an opening and for the calls about readings and lists of cells.
     fn call(&self) -> Option<Call<'_>> {
         let ([block, other], [map, upper]) = (self.blocks.map(|b| b as usize), &self.maps);
         let row = |kind: Kind| Call::Row { kind, number: self.cell[0] };
         match self.what {
-            What::Open | What::Total | What::Strain => None,
+            What::Open | What::Total | What::Strain | What::Request | What::Fill => None,
             What::Enrol => Some(Call::Enrol { block, map }),
             What::Seam => Some(Call::Seam { blocks: (block, other), maps: (map, upper) }),
             What::Crossing => Some(Call::Crossing { block, map }),
@@ -102,45 +125,55 @@ impl Asked {
         self.values.iter().map(|x| x.to_bits()).collect()
     }
 
+    /// The readings of the block brought to the job, by the second implementation.
+    fn strained(&self) -> Result<TotalTables, Declined> {
+        let lists = Lists { values: &self.bits(), kinds: &self.kinds };
+        self.state().strain(&self.totals(), self.blocks[0] as usize, &self.maps[0], lists)
+    }
+
+    /// The cells looked up together as the second implementation has them.
+    fn asking(&self) -> Asking<'_> {
+        Asking { lists: [&self.cells.xs, &self.cells.ys, &self.cells.zs], tray: &self.tray }
+    }
+
     /// What an accepted opening or step leaves.
     pub fn outcome(&self) -> (Outcome, TotalTables) {
         let (state, totals) = (self.state(), self.totals());
         match (self.what, self.call()) {
             (What::Open, _) => (state.opened(), totals.zeroed()),
             (_, Some(call)) => (state.outcome(&call), totals),
-            _ => {
-                let left = state.strain(&totals, self.blocks[0] as usize, &self.maps[0], Lists { values: &self.bits(), kinds: &self.kinds });
-                (state.kept(), left.expect("an accepted step"))
-            }
+            _ => (state.kept(), self.strained().expect("an accepted step")),
         }
     }
 
     /// What the second implementation answers, and for a refusal 8 what it found.
     pub fn expected(&self) -> (Answer, String) {
-        let (state, totals) = (self.state(), self.totals());
-        let refused = |(n, stray): (u32, Option<_>)| (Answer::Refused(n), stray.map_or(String::new(), |s: reference::table::Stray| format!(" {s:?}")));
-        let Some(call) = self.call() else {
-            return match self.what {
-                What::Strain => {
-                    let left = state.strain(&totals, self.blocks[0] as usize, &self.maps[0], Lists { values: &self.bits(), kinds: &self.kinds });
-                    left.map_or_else(refused, |_| (Answer::Done, String::new()))
-                }
-                What::Total => state.total(&totals, self.cell[0]).map_or_else(refused, |sides| (Answer::Totals(sides), String::new())),
-                _ => match state.opening(&totals) {
-                    0 => (Answer::Done, String::new()),
-                    n => refused((n, None)),
-                },
-            };
+        let state = self.state();
+        let answer = match (self.what, self.call()) {
+            (What::Strain, _) => self.strained().map(|_| Answer::Done),
+            (What::Total, _) => state.total(&self.totals(), self.cell[0]).map(Answer::Totals),
+            (What::Request, _) => state.request(self.asking()),
+            (What::Fill, _) => state.fill(self.asking(), self.blocks[0] as usize, &self.maps[0]),
+            (_, Some(call)) => match state.answer(&call) {
+                Answer::Refused(8) => Err((8, Some(state.stray(&call).expect("what is stray")))),
+                answer => Ok(answer),
+            },
+            (_, None) => match state.opening(&self.totals()) {
+                0 => Ok(Answer::Done),
+                n => Err((n, None)),
+            },
         };
-        let answer = state.answer(&call);
-        let why = if answer == Answer::Refused(8) { format!(" {:?}", state.stray(&call).expect("what is stray")) } else { String::new() };
-        (answer, why)
+        match answer {
+            Ok(answer) => (answer, String::new()),
+            Err((n, why)) => (Answer::Refused(n), why.map_or(String::new(), |stray| format!(" {stray:?}"))),
+        }
     }
 
     /// How many numbers the call is lent.
     pub fn numbers(&self) -> usize {
         let (w, l) = self.what.lent();
-        let brought = self.lists.iter().chain(&self.maps).map(Vec::len).sum::<usize>();
+        let cells = [&self.cells.xs, &self.cells.ys, &self.cells.zs, &self.tray];
+        let brought = self.lists.iter().chain(&self.maps).chain(cells).map(Vec::len).sum::<usize>();
         let readings = self.values.len() + self.kinds.len() + if self.what.lent_sums() { self.tables.face_sums.0.len() } else { 0 };
         readings + brought + w.iter().map(|&i| words(&self.tables)[i].len()).sum::<usize>() + l.iter().map(|&i| longs(&self.tables)[i].len()).sum::<usize>()
     }
@@ -157,18 +190,22 @@ pub struct Lent {
     pub row: [u32; 6],
     /// The places of a total: two sums by their bits, six counts.
     pub total: ([u64; 2], [u64; 6]),
+    /// The tray for the blocks or answers of a list of cells, between guards, and the place for how many blocks are needed.
+    pub tray: Vec<u32>,
+    pub count: u32,
 }
 
 impl Lent {
     pub fn new(asked: &Asked) -> Lent {
         let (words, longs) = (words(&asked.tables).map(guarded), longs(&asked.tables).map(guarded));
         let sums = Sums(guarded(&asked.tables.face_sums.0));
-        Lent { job: asked.job, words: words.into(), longs: longs.into(), sums, number: 7, row: [7; 6], total: ([7; 2], [7; 6]) }
+        let (total, tray) = (([7; 2], [7; 6]), guarded(&asked.tray));
+        Lent { job: asked.job, words: words.into(), longs: longs.into(), sums, number: 7, row: [7; 6], total, tray, count: NO_COUNT }
     }
 
     /// Every guard holds what it held.
     pub fn guards_hold(&self) -> bool {
-        self.words.iter().all(|t| holds(t)) && self.longs.iter().all(|t| holds(t)) && holds(&self.sums.0)
+        self.words.iter().all(|t| holds(t)) && self.longs.iter().all(|t| holds(t)) && holds(&self.sums.0) && holds(&self.tray)
     }
 
     /// Makes the call; gives the number of the refusal.
@@ -180,7 +217,7 @@ impl Lent {
         let [fk, ck, pk, ff, cf, pf, counts] = &mut self.longs[..] else { unreachable!() };
         let [fk, ck, pk, ff, cf, pf, counts] = [fk, ck, pk, ff, cf, pf, counts].map(|t| part(t));
         let sums = part(&mut self.sums.0);
-        let (job, told) = (&mut self.job, &asked.job);
+        let (job, told, Cells { xs, ys, zs }) = (&mut self.job, &asked.job, &asked.cells);
         match asked.what {
             What::Open => raw::open(
                 job, told[1], told[2], told[3], told[4], told[5], told[6], cx, cy, cz, ticks, blocks, fl, cl, fk, ck, pk, fr, cr, pr, fnum, cnum, pnum, ff, cf,
@@ -201,6 +238,8 @@ impl Lent {
                 refusal
             }
             What::Strain => raw::strain(job, cx, cy, cz, blocks, fnum, came, sums, counts, b, m, &asked.values, &asked.kinds),
+            What::Request => raw::request_blocks(job, cx, cy, cz, xs, ys, zs, part(&mut self.tray), &mut self.count),
+            What::Fill => raw::fill_cells(job, cx, cy, cz, ticks, blocks, fnum, cnum, pf, xs, ys, zs, b, m, part(&mut self.tray)),
         }
     }
 
@@ -227,7 +266,7 @@ impl Lent {
         same.iter().find(|(_, same)| !same).map(|&(what, _)| what)
     }
 
-    /// The answer of a call, with the number or row that it left.
+    /// The answer of a call, with the number, row, totals or tray that it left.
     pub fn answer(&self, what: What, refusal: u32) -> Answer {
         let row =
             |places: usize| if self.row[places..].iter().all(|&n| n == 0) { Answer::Row(self.row[..places].to_vec()) } else { Answer::Row(self.row.to_vec()) };
@@ -237,9 +276,18 @@ impl Lent {
             (0, What::CurveRow) => row(4),
             (0, What::PointRow) => row(6),
             (0, What::Total) => Answer::Totals([0, 1].map(|s: usize| Side { sum: self.total.0[s], counts: [0, 1, 2].map(|k| self.total.1[3 * s + k]) })),
+            (0, What::Request) => Answer::Tray(self.count, inner(&self.tray).to_vec()),
+            // it is lent no place for a count
+            (0, What::Fill) => Answer::Tray(self.count.wrapping_sub(NO_COUNT), inner(&self.tray).to_vec()),
             (0, _) => Answer::Done,
             (n, _) => Answer::Refused(n),
         }
+    }
+
+    /// Sets back what a reading has answered, but for the guards of its tray.
+    pub fn forget_answer(&mut self, before: &Lent) {
+        (self.number, self.row, self.total, self.count) = (before.number, before.row, before.total, before.count);
+        part(&mut self.tray).copy_from_slice(inner(&before.tray));
     }
 }
 

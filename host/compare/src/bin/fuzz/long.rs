@@ -1,8 +1,8 @@
 //! Calls with long tables, made to take as long as they can: links that make one long way, blocks that have all components of their tables, maps whose
-//! every cell names another component, and tallies and entries of any size.
+//! every cell names another component, tallies and entries of any size, and long lists of cells.
 use crate::lent::{longs_mut, words_mut, Asked, What, WHATS};
 use reference::random::Random;
-use tugrelis::{Cutting, Entries, Tables};
+use tugrelis::{Cells, Cutting, Entries, Tables, MOST_CELLS};
 
 /// The entries of each table.
 const LONG: u32 = 100_000;
@@ -23,7 +23,7 @@ const LINKS: [Links; 7] = [
 /// Two blocks of 64×64×2 voxels, the job in a stage. Each block has all places of both tables, and the maps name them in any order.
 fn job(random: &mut Random, what: What) -> Asked {
     let cutting = Cutting { extents: [127, 64, 2], lists: [vec![0, 63, 126], vec![0, 63], vec![0, 1]] };
-    let stage = [0, 0, 1, 2, 3, 4, 4, 4, 4, 4, 4][what as usize];
+    let stage = [0, 0, 1, 2, 3, 4, 4, 4, 4, 4, 4, 4, 4][what as usize];
     let told = [stage, 127, 64, 2, LONG, LONG, LONG];
     let of = |reached: bool| if reached { LONG } else { 0 };
     let tallies = [of(stage > 0), of(stage > 0), of(stage > 3), of(stage > 2), of(stage > 2), of(stage > 3)];
@@ -46,17 +46,36 @@ fn job(random: &mut Random, what: What) -> Asked {
     longs_mut(&mut t).into_iter().enumerate().filter(|(i, _)| !longs.contains(i)).for_each(|(_, table)| *table = vec![]);
     let grid = reference::grid::Grid::new([64, 64, 2]);
     let mut map = || (0..grid.cells()).map(|p| if grid.order(p) == 3 { 1 } else { 1 + random.below(LONG as usize) as u32 }).collect();
+    let maps = [map(), map()];
+    let (values, kinds) = (vec![0.5; 64 * 64 * 2], vec![0; 64 * 64 * 2]);
+    let mut asked = Asked { blocks: [0, 1], maps, cell: [1, 1, 1], values, kinds, ..bare(what, numbers.try_into().expect("thirteen"), cutting.lists, t) };
+    if matches!(what, What::Request | What::Fill) {
+        looks_up(&mut asked, (0..MOST_CELLS).map(|_| [253, 127, 3].map(|side| random.below(side) as u32)).collect());
+    }
+    asked
+}
+
+/// A call that brings nothing but cut lists and tables.
+fn bare(what: What, job: [u32; 13], lists: [Vec<u32>; 3], tables: Tables) -> Asked {
     Asked {
         what,
-        job: numbers.try_into().expect("thirteen"),
-        lists: cutting.lists,
-        tables: t,
-        blocks: [0, 1],
-        maps: [map(), map()],
-        cell: [1, 1, 1],
-        values: vec![0.5; 64 * 64 * 2],
-        kinds: vec![0; 64 * 64 * 2],
+        job,
+        lists,
+        tables,
+        blocks: [0; 2],
+        maps: [vec![], vec![]],
+        cell: [1, 0, 0],
+        values: vec![],
+        kinds: vec![],
+        cells: Cells::default(),
+        tray: vec![],
     }
+}
+
+/// Gives the call these cells, and a tray with one place for each.
+fn looks_up(asked: &mut Asked, cells: Cells) {
+    asked.tray = vec![7; cells.xs.len()];
+    asked.cells = cells;
 }
 
 /// Takes each of them, with a name.
@@ -82,6 +101,35 @@ pub fn each(random: &mut Random, take: &mut dyn FnMut(&str, &Asked)) {
     }
     many_blocks(take);
     many_readings(take);
+    many_cells(random, take);
+}
+
+/// Lists of cells: as many as there may be, in one block or in all, over as many blocks as there may be; and lists that are far too long.
+fn many_cells(random: &mut Random, take: &mut dyn FnMut(&str, &Asked)) {
+    for extents in [[129, 129, 1], [1024, 17, 1]] {
+        let lists = extents.map(|n| (0..n).collect::<Vec<u32>>());
+        let (last, count) = (extents.map(|n| 2 * n - 2), lists.iter().map(|list| list.len().max(2) - 1).product());
+        let numbers = [4, extents[0], extents[1], extents[2], 0, 0, 0, 0, 0, 0, 0, 0, 0];
+        let spread = (0..MOST_CELLS).map(|_| last.map(|c| random.below(c as usize + 1) as u32));
+        for (name, block, cells) in
+            [("spread", 0, spread.collect::<Cells>()), ("last", count as u32 - 1, [last].into_iter().cycle().take(MOST_CELLS).collect())]
+        {
+            for what in [What::Request, What::Fill] {
+                let mut asked = bare(what, numbers, lists.clone(), Tables::new(count, Entries::default()));
+                asked.blocks[0] = block;
+                asked.maps[0] = vec![1, 0, 1, 0, 0, 0, 1, 0, 1];
+                looks_up(&mut asked, cells.clone());
+                take(&format!("{count} blocks, {name},"), &asked);
+            }
+        }
+    }
+    for what in [What::Request, What::Fill] {
+        let mut asked = job(random, what);
+        for cell in [[0, 0, 0], [252, 126, 2], [253, 0, 0]] {
+            looks_up(&mut asked, [cell].into_iter().cycle().take(LONG as usize).collect());
+            take(&format!("{LONG} cells at {cell:?},"), &asked);
+        }
+    }
 }
 
 /// A total of as many blocks as there may be, whose readings have all come, or all but one.
@@ -92,20 +140,7 @@ fn many_readings(take: &mut dyn FnMut(&str, &Asked)) {
         tables.came.fill(1);
         missing.into_iter().for_each(|b: usize| tables.came[b] = 0);
         let job = [4, 129, 129, 1, 1, 0, 0, 1, 0, 0, 1, 0, 0];
-        take(
-            "16,384 blocks",
-            &Asked {
-                what: What::Total,
-                job,
-                lists: [list.clone(), list.clone(), vec![0]],
-                tables,
-                blocks: [0; 2],
-                maps: [vec![], vec![]],
-                cell: [1, 0, 0],
-                values: vec![],
-                kinds: vec![],
-            },
-        );
+        take("16,384 blocks", &bare(What::Total, job, [list.clone(), list.clone(), vec![0]], tables));
     }
 }
 
@@ -153,17 +188,7 @@ fn many_blocks(take: &mut dyn FnMut(&str, &Asked)) {
             let b = missing as u32;
             let map = vec![1, 0, 1, 0, 0, 0, 1, 0, 1];
             let job = [stage as u32, 129, 129, 1, 0, 0, 0, 0, 0, 0, 0, 0, 0];
-            let asked = Asked {
-                what,
-                job,
-                lists: [list.clone(), list.clone(), vec![0]],
-                tables,
-                blocks: [b, b + 1],
-                maps: [map.clone(), map],
-                cell: [0; 3],
-                values: vec![],
-                kinds: vec![],
-            };
+            let asked = Asked { blocks: [b, b + 1], maps: [map.clone(), map], ..bare(what, job, [list.clone(), list.clone(), vec![0]], tables) };
             take(&format!("16,384 blocks, block {b},"), &asked);
         }
     }

@@ -1,8 +1,9 @@
 //! Calls every entry with arbitrary numbers for jobs, cut lists, tables, maps and records: fuzz SEED ROUNDS [--untimed] [--spoil WHAT].
 //! A round is a block labelled, written and read, with the most components of its extents told and a layer of another one printed, or some calls of a joiner's job
-//! that is honest but for numbers changed here and there. Compared with the second implementation are each call's refusal, the number, row or totals of each
-//! accepted reading, the printed pages, and job and tables after each accepted step, as far as the rules tell them. Lent tables stand between guards; after a
-//! refusal or a reading every lent place must hold what it held, and the guards always. Every refusal of every entry must have come, and every reason for 8.
+//! that is honest but for numbers changed here and there. Compared with the second implementation are each call's refusal, the number, row, totals, blocks or
+//! answers of each accepted reading, the printed pages, and job and tables after each accepted step, as far as the rules tell them. Lent tables stand between
+//! guards; after a refusal or a reading every lent place must hold what it held, and the guards always. Every refusal of every entry must have come, and every
+//! reason for 8.
 //! No call may take longer than the numbers that it is lent can explain; long tables are made for that. --untimed leaves this out: for valgrind, which
 //! sees every byte read or written (host/run). With --spoil one outcome is changed before it is looked at, which must be reported.
 //! Exits 1 if anything is not as it must be.
@@ -11,7 +12,7 @@ mod lent;
 mod long;
 
 use forged::small;
-use lent::{guarded, holds, part, Asked, Lent};
+use lent::{guarded, holds, part, Asked, Lent, What};
 use reference::book::Answer;
 use reference::pages;
 use reference::random::Random;
@@ -20,10 +21,10 @@ use std::sync::atomic::{AtomicUsize, Ordering};
 use std::time::{Duration, Instant};
 use tugrelis::{cells, raw};
 
-const SPOILS: [&str; 10] = ["refusal", "number", "row", "total", "left", "most", "print", "kept", "guards", "time"];
+const SPOILS: [&str; 12] = ["refusal", "number", "row", "total", "blocks", "cells", "left", "most", "print", "kept", "guards", "time"];
 
 /// What must come in a long run: the refusals of each entry, with the reasons for 8.
-const COME: [(&str, &str); 16] = [
+const COME: [(&str, &str); 18] = [
     ("open", "0,1,2,6"),
     ("enrol", "0,1,2,3,4,5,6,8 Tally,10"),
     ("seam", "0,1,2,3,4,5,6,8 Tally,8 Map,8 Place,8 Way,8 Below,9"),
@@ -35,6 +36,8 @@ const COME: [(&str, &str); 16] = [
     ("point row", "0,1,3,4,6,8 Tally"),
     ("total", "0,1,2,3,4,6,8 Tally,8 Total"),
     ("strain", "0,1,2,3,4,5,6,8 Tally,8 Map,8 Place,8 Final,8 Total,12"),
+    ("request", "0,1,2,3,4,6,8 Tally"),
+    ("fill", "0,1,2,3,4,6,8 Tally,8 Map,8 Place,8 Final"),
     ("label", "0,1,6"),
     ("most", "0,1"),
     ("print", "0,1,4,6"),
@@ -103,18 +106,20 @@ impl Fuzz {
             refusal ^= 1;
         }
         if expected != Answer::Done && self.spoil.is_some() {
-            self.spoil_reading(&expected, &mut after);
+            self.spoil_reading(what, &expected, &mut after);
         }
         let answer = after.answer(what, refusal);
         let of = match (&answer, &expected) {
             (Answer::Number(_), Answer::Number(_)) => "number",
             (Answer::Row(_), Answer::Row(_)) => "row",
             (Answer::Totals(_), Answer::Totals(_)) => "total",
+            (Answer::Tray(..), Answer::Tray(..)) if what == What::Request => "blocks",
+            (Answer::Tray(..), Answer::Tray(..)) => "cells",
             _ => "refusal",
         };
         self.expect(of, answer == expected, &|| format!("{name} {} answered {answer:?}, the table says {expected:?}{why}: {}", what.name(), short(asked)));
-        if matches!(expected, Answer::Number(_) | Answer::Row(_) | Answer::Totals(_)) {
-            (after.number, after.row, after.total) = (before.number, before.row, before.total);
+        if !matches!(expected, Answer::Refused(_) | Answer::Done) {
+            after.forget_answer(&before);
         }
         if expected == Answer::Done && answer == expected {
             if self.spoiled("left") {
@@ -135,7 +140,7 @@ impl Fuzz {
         self.expect("guards", after.guards_hold(), &|| format!("{name} {} wrote outside: {}", what.name(), short(asked)));
     }
 
-    fn spoil_reading(&mut self, expected: &Answer, after: &mut Lent) {
+    fn spoil_reading(&mut self, what: What, expected: &Answer, after: &mut Lent) {
         if matches!(expected, Answer::Number(_)) && self.spoiled("number") {
             after.number ^= 1;
         }
@@ -144,6 +149,11 @@ impl Fuzz {
         }
         if matches!(expected, Answer::Totals(_)) && self.spoiled("total") {
             after.total.0[1] ^= 1;
+        }
+        if let Answer::Tray(_, tray) = expected {
+            if !tray.is_empty() && self.spoiled(if what == What::Request { "blocks" } else { "cells" }) {
+                part(&mut after.tray)[tray.len() - 1] ^= 1;
+            }
         }
     }
 

@@ -1,0 +1,3 @@
+-- The definitions of the crate, in reading order.
+pub mod Book
+pub mod Statement
