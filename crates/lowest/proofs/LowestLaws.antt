@@ -41,13 +41,6 @@ ordered_by n c t i (suc d) h =
     let e : suc (i + suc d) ≡ suc (suc (i + d)) = omega arith in
     omega (arith, ordered_by n c t i d (omega arith), (cut_interval n c t (suc (i + d)) (omega arith)).upward, cut_ends n c t (suc (i + d)) (omega arith), ap (low_end c) e)
 
--- a later interval begins no earlier
-pub begins_later : (n : ℕ) (c : List ℕ) → cut_list n c ≡ true → (i d : ℕ) → i + d < intervals c → low_end c i ≤ low_end c (i + d)
-begins_later n c t i zero h = let e : i + 0 ≡ i = omega arith in omega (arith, ap (low_end c) e)
-begins_later n c t i (suc d) h =
-    let e : i + suc d ≡ suc (i + d) = omega arith in
-    omega (arith, (cut_interval n c t i (omega arith)).upward, ordered_by n c t i d (omega arith), ap (low_end c) e)
-
 -- the interval of a block is one of its axis
 pub listed : (k : Cutting) (c : ℕ) → c < blocks k → (a : Axis) → interval k c a < intervals (cuts k a)
 unfolding blocks

@@ -12,7 +12,7 @@ use Rattle.lists.proofs.Cases.{by_test}
 use Rattle.cells.specs.Box.{Triple, Axis, X, Y, Z, triple, coord, each, volume, index, place}
 use Rattle.cells.specs.Grid.{sides, cells}
 use Rattle.cells.proofs.BoxLaws.{Inside, index_place, place_index, index_inside, same_triple}
-use Rattle.cutting.specs.Cutting.{Cutting, cuts, cut_list, intervals, low_end, block_sides, blocks, most_blocks, FewBlocks, good_cut, interval, block_extents}
+use Rattle.cutting.specs.Cutting.{Cutting, cuts, intervals, low_end, block_sides, blocks, most_blocks, FewBlocks, good_cut, interval, block_extents}
 use Rattle.cutting.proofs.CutLaws.{Spans, cut_interval, cut_on, block_sides_on, interval_is, has_spans, spans_has, block_in, interval_at}
 use Rattle.cutting.proofs.SeamLaws.{cut_ends}
 use Rattle.joiner.specs.Stages.{has_cell, local, lowest_block}
@@ -22,7 +22,7 @@ use Rattle.blocks.specs.declared.Block.{Block}
 use Rattle.blocks.proofs.BlockLaws.{in_low, in_high, has_told, local_told}
 use Rattle.strain_calls.specs.Adding.{is_lowest}
 use Rattle.lowest.specs.Lowest.{starts, starts_by, own_cell, own_in, FirstInterval, InVolume}
-use Rattle.lowest.proofs.LowestLaws.{lowest_le, listed, ordered, begins_later, index_le, own_lowest}
+use Rattle.lowest.proofs.LowestLaws.{lowest_le, listed, ordered, index_le, own_lowest}
 
 -- ---- a place of the volume
 
@@ -104,7 +104,7 @@ module _ (k : Cutting) (good : good_cut k ≡ true) where
             let s : suc (coord i a) < intervals (cuts k a) = omega (arith, listed k l (lowest_there k good c v).0 a) in
             record {
               above = omega (arith, (its a).above, (cut_interval n (cuts k a) (cut_on k good a) (coord i a) (first a).within).upward, ordered k good a (coord i a) (interval k l a) h (listed k l (lowest_there k good c v).0 a));
-              below = omega (arith, (first a).next_not n (cut_on k good a) s, cut_ends n (cuts k a) (cut_on k good a) (coord i a) s);
+              below = omega (arith, (first a).next_not s, cut_ends n (cuts k a) (cut_on k good a) (coord i a) s);
             }
 
     has_first : has_cell k b c ≡ true
@@ -143,53 +143,35 @@ module _ (r : Block) (c : Triple) (t : Bool) (e : t ≡ has_in r c) where
 
 -- ---- the loop of `interval_of`
 
--- The first interval that has x is one of `size`, from interval `from` on.
-pub record Among (c : List ℕ) (x from size : ℕ) : Type 0 where
-  pub some : 0 < size
-  pub within : from + size ≤ intervals c
+-- The first interval that has x is interval `from`, or one of the `more` next ones.
+pub record Among (c : List ℕ) (x from more : ℕ) : Type 0 where
+  pub within : from + more < intervals c
   pub begun : 0 < from → 2 * low_end c from < x
-  pub next_not : (n : ℕ) → cut_list n c ≡ true → from + size < intervals c → x ≤ 2 * low_end c (from + size)
+  pub next_not : suc (from + more) < intervals c → x ≤ 2 * low_end c (suc (from + more))
 
 module _ (c : List ℕ) (x : ℕ) where
-  pub among_all : (w : ℕ) → w ≡ intervals c → Among c x 0 w
+  pub among_all : (w : ℕ) → w ≡ intervals c → Among c x 0 (w - 1)
   unfolding intervals
-  among_all w e = record { some = omega (arith, e); within = omega (arith, e); begun = λ h. absurd (omega arith); next_not = λ n t h. absurd (omega (arith, e)) }
+  among_all w e = record { within = omega (arith, e); begun = λ h. absurd (omega arith); next_not = λ h. absurd (omega (arith, e)) }
 
-  module _ (from size : ℕ) (m : Among c x from size) where
-    pub among_one : size ≤ 1 → FirstInterval c x from
+  module _ (from more : ℕ) (m : Among c x from more) where
+    pub among_one : more ≡ 0 → FirstInterval c x from
     among_one z =
-        let e : from + size ≡ suc from = omega (arith, m.some) in
-        record { within = omega (arith, m.within, m.some); begun = m.begun; next_not = rw e at m.next_not }
+        let e : from + more ≡ from = omega arith in
+        record { within = omega (arith, m.within); begun = m.begun; next_not = rw e at m.next_not }
 
-    module _ (o : 1 < size) where
-      -- where the later half begins
-      abbrev y : ℕ
-      y = low_end c (from + size / 2)
+    module _ (o : more ≡ 0 → ⊥) (y : ℕ) (e : y ≡ get_or c (from + more / 2 + 1) 0) where
+      pub among-upper : 2 * y < x → Among c x (from + more / 2 + 1) (more - more / 2 - 1)
+      unfolding low_end
+      among-upper h =
+          let s : from + more / 2 + 1 + (more - more / 2 - 1) ≡ from + more = omega (arith, o) in
+          record { within = omega (arith, m.within, o); begun = λ _. rw (← e) h; next_not = rw s m.next_not }
 
-      pub half_in : from + size / 2 < intervals c
-      half_in = omega (arith, m.within, o)
-
-      later_half : 2 * y < x → Among c x (from + size / 2) (size - size / 2)
-      later_half h =
-          let s : from + size / 2 + (size - size / 2) ≡ from + size = omega (arith, o) in
-          record { some = omega (arith, o); within = omega (arith, m.within, o); begun = λ _. h; next_not = rw s m.next_not }
-
-      -- Of an odd number of intervals the first of the later half stays too: the next one begins no earlier.
-      earlier_half : x ≤ 2 * y → Among c x from (size - size / 2)
-      earlier_half h =
-          let s : from + size / 2 + (size - size / 2 - size / 2) ≡ from + (size - size / 2) = omega (arith, o) in
-          record {
-            some = omega (arith, o);
-            within = omega (arith, m.within);
-            begun = m.begun;
-            next_not = λ n t l. omega (arith, h, rw s at (begins_later n c t (from + size / 2) (size - size / 2 - size / 2) (rw s l)));
-          }
-
-      pub among_half : (r : ℕ) → (2 * y < x → r ≡ from + size / 2) → (x ≤ 2 * y → r ≡ from) → Among c x r (size - size / 2)
-      among_half r up down =
-          by_test (ltb (2 * y) x)
-          (λ t. let h : 2 * y < x = ltb-true _ _ t in rw (up h) (later_half h))
-          (λ t. let h : x ≤ 2 * y = ltb-false _ _ t in rw (down h) (earlier_half h))
+      pub among-lower : x ≤ 2 * y → Among c x from (more / 2)
+      unfolding low_end
+      among-lower h =
+          let s : suc (from + more / 2) ≡ from + more / 2 + 1 = omega arith in
+          record { within = omega (arith, m.within); begun = m.begun; next_not = λ _. rw (s, ← e) h }
 
 -- ---- the number that `lowest_block` finds
 

@@ -1,10 +1,10 @@
 -- Which cells of a block are its own: those that no lower-numbered block has. "A face cell in an overlap counts once, with the lowest-numbered block
 -- that has it" (document 02, item 1).
 -- Assumes nothing.
-use Rattle.std.specs.Prelude.{◌≡◌, Bool, true, ◌&&◌, List, ℕ, suc, ◌-◌, ◌*◌, ◌<◌, ◌≤◌, min, leb}
+use Rattle.std.specs.Prelude.{Bool, ◌&&◌, List, ℕ, suc, ◌-◌, ◌*◌, ◌<◌, ◌≤◌, min, leb}
 use Rattle.cells.specs.Box.{Triple, Axis, triple, coord, each, place}
 use Rattle.cells.specs.Grid.{sides}
-use Rattle.cutting.specs.Cutting.{Cutting, cut_list, intervals, low_end, interval, block_extents}
+use Rattle.cutting.specs.Cutting.{Cutting, intervals, low_end, interval, block_extents}
 use Rattle.blocks.specs.Blocks.{cut_of, origin_of, has_in}
 use Rattle.blocks.specs.declared.Block.{Block}
 use Rattle.lowest.specs.declared.Start.{Start}
@@ -35,12 +35,11 @@ AnyDepth cx cy P = (nx ny nz : ℕ) (cz : List ℕ) → P (cut_of nx ny nz cx cy
 unfoldable pub own_in : Block → Triple → Triple → Bool
 own_in r s c = has_in r c && starts_by s (each (λ a. coord c a - 2 * coord (origin_of r) a))
 
--- Interval r of a cut list is the first one that has coordinate x of a cell: it begins before x, unless it is the first of all, and, in a list that keeps its rule,
--- the next one does not.
+-- Interval r of a cut list is the first one that has coordinate x of a cell: it begins before x, unless it is the first of all, and the next one does not.
 pub record FirstInterval (c : List ℕ) (x r : ℕ) : Type 0 where
   pub within : r < intervals c
   pub begun : 0 < r → 2 * low_end c r < x
-  pub next_not : (n : ℕ) → cut_list n c ≡ true → suc r < intervals c → x ≤ 2 * low_end c (suc r)
+  pub next_not : suc r < intervals c → x ≤ 2 * low_end c (suc r)
 
 -- A place of the volume.
 abbrev pub InVolume : Cutting → Triple → Type 0

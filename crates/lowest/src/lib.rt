@@ -1,7 +1,7 @@
 // Which cells count with a block: those whose place in it is at or after the block's starts. The block that a cell counts with is the lowest-numbered one that has it.
-ghost use Rattle.std.specs.Prelude.{◌≡◌, true, ◌+◌, ◌*◌, ◌≤◌, ◌<◌, min};
+ghost use Rattle.std.specs.Prelude.{◌≡◌, true, min};
 ghost use Rattle.cells.specs.Box.{triple};
-ghost use Rattle.cutting.specs.Cutting.{good_cut, intervals, low_end, FewBlocks};
+ghost use Rattle.cutting.specs.Cutting.{good_cut, FewBlocks};
 ghost use Rattle.joiner.specs.Stages.{lowest_block};
 ghost use Rattle.blocks.specs.Blocks.{AnyExtents};
 ghost use Rattle.lowest.specs.Lowest.{starts, starts_by, start_of, AnyDepth, own_in, FirstInterval, InVolume};
@@ -65,29 +65,21 @@ pub fn is_lowest(block: Block, s: Start, x: u32, y: u32, z: u32) -> bool
 
 // ---- the lowest-numbered block of a cell
 
-// Interval `from`, or the one `half` later where that begins before coordinate x of a cell.
-fn later(c: &[u32], from: usize, half: usize, x: u32) -> usize
-    requires { from + half < intervals c.now }
-    ensures { (2 * low_end c.now (from + half) < x → result ≡ from + half) × (x ≤ 2 * low_end c.now (from + half) → result ≡ from) }
-{
-    let begins = read_or_zero(c, from + half) as u64;
-    if 2 * begins < x as u64 {
-        from + half
-    } else {
-        from
-    }
-}
-
-// The first interval of a cut list that has coordinate x of a cell, by bisection of the places where intervals begin. How often it halves hangs on the list alone.
+// The first interval of a cut list that has coordinate x of a cell, by bisection of the places where intervals begin.
 fn interval_of(c: &[u32], x: u32) -> usize
     ensures { FirstInterval c.now x result }
 {
     let mut from: usize = 0;
-    let mut size = intervals(c);
-    while size > 1 {
+    let mut size = intervals(c) - 1;
+    while size != 0 {
         let half = size / 2;
-        from = later(c, from, half, x);
-        size = size - half;
+        let begins = read_or_zero(c, from + half + 1) as u64;
+        if 2 * begins < x as u64 {
+            from = from + half + 1;
+            size = size - half - 1;
+        } else {
+            size = half;
+        }
     }
     from
 }
