@@ -1,4 +1,6 @@
 // Blocks, seams and cells by the cut lists that every call lends. All but `block_count`, `local` and `embed` answer for every input.
+#![tactic(auto)]
+
 ghost use Rattle.std.specs.Prelude.{◌≡◌, true, ◌&&◌, suc, ◌+◌, ◌-◌, ◌*◌, ◌≤◌, ◌<◌, eqb, leb, ltb};
 ghost use Rattle.cells.specs.Box.{Axis, triple, coord};
 ghost use Rattle.cells.specs.Extents.{Sized};
@@ -98,7 +100,7 @@ pub fn block_count(cx: &[u32], cy: &[u32], cz: &[u32]) -> usize
 }
 
 // The interval of a block on each axis.
-#[derive(Drop)]
+#[derive(Clone, Copy)]
 struct Place {
     x: usize,
     y: usize,
@@ -145,7 +147,7 @@ fn high(c: &[u32], i: usize) -> u32
 }
 
 // The first voxel of an interval, and how many voxels it takes in: both its ends too.
-#[derive(Drop)]
+#[derive(Clone, Copy)]
 struct Side {
     first: usize,
     size: usize,
@@ -173,7 +175,7 @@ fn side_of(c: &[u32], i: usize) -> Side
 }
 
 // A block's origin and extents, in voxels.
-#[derive(Drop)]
+#[derive(Clone, Copy)]
 pub struct Block {
     pub ox: usize,
     pub oy: usize,

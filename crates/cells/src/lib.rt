@@ -1,1 +1,2 @@
 // The grid of cells and rows: definitions in specs/, laws in proofs/. No code.
+#![tactic(auto)]

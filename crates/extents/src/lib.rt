@@ -1,4 +1,6 @@
 // Extents against their limit, for every public entry that is told some.
+#![tactic(auto)]
+
 ghost use Rattle.std.specs.Prelude.{◌≡◌, ◌+◌, ltb};
 ghost use Rattle.cells.specs.Box.{triple};
 ghost use Rattle.cells.specs.Extents.{Sized, is_extent, off_size, off_place};

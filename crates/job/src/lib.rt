@@ -1,4 +1,6 @@
 // The job of a joining: what the opening was told, the stage and the tallies. It is handed from step to step by value.
+#![tactic(auto)]
+
 ghost use Rattle.std.specs.Prelude.{◌≡◌, ◌&&◌, [], ◌∷◌, ◌*◌, ◌≤◌, eqb, leb};
 ghost use Rattle.cutting.specs.Cutting.{most_blocks};
 ghost use Rattle.joiner.specs.Job.{stage_number, same_stage, tray, lengths_fit};
@@ -8,7 +10,7 @@ ghost use Rattle.job.specs.JobState.{stage_of, job_of, fresh_job, AnyCuts, NoJob
 use joiner::{NUMBERS_PER_BLOCK, TICKS_PER_BLOCK};
 
 // "A job goes through stages."
-#[derive(Drop)]
+#[derive(Clone, Copy)]
 pub enum Stage {
     Enrol,
     Seam,
@@ -19,7 +21,7 @@ pub enum Stage {
 
 // The extents of the volume and the entries of each table, as the opening was told; enrolled faces and curves and found points; faces,
 // curves and points once numbered.
-#[derive(Drop)]
+#[derive(Clone, Copy)]
 pub struct Job {
     pub stage: Stage,
     pub nx: u32,

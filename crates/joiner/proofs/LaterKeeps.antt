@@ -169,9 +169,12 @@ module _ (o : Told) (own : ℕ → List ℕ) (good : good_cut o.cutting ≡ true
         new : (x y : ℕ) → AtCrossing o.cutting s.tables b (own b) x y → CrossEdge o own B₁ t x y
         new x y a = unfold entered in record { b = b; listed = hb; ticked_in_lem = Memᴰ.head refl; at = cross_there t c₁ st₁ L₁ late₁ D.faces.roots b x y a }
 
+        later : (x y : ℕ) → CrossEdge o own B s x y → CrossEdge o own B₁ t x y
+        later x y e = unfold entered in record { b = e.b; listed = e.listed; ticked_in_lem = Memᴰ.tail e.ticked_in_lem; at = cross_there t c₁ st₁ L₁ late₁ D.faces.roots e.b x y e.at }
+
         old : (x y : ℕ) → EdgeDone o own B s Curve x y → EdgeDone o own B₁ t Curve x y
         old x y (inl e) = inl (seam_there o own good B s I every t c₁ st₁ L₁ Curve x y e)
-        old x y (inr e) = inr (unfold entered in record { b = e.b; listed = e.listed; ticked_in_lem = Memᴰ.tail e.ticked_in_lem; at = cross_there t c₁ st₁ L₁ late₁ D.faces.roots e.b x y e.at })
+        old x y (inr e) = inr (later x y e)
 
         cross_done : (x y : ℕ) (e : CrossEdge o own B₁ t x y) → Memᴰ (crossing_step e.b) (st₁ ∷ B.done)
         cross_done x y e = unfold entered in e.ticked_in_lem

@@ -1,4 +1,6 @@
 // The joiner's definitions in specs/, and statement 3 proved over them in proofs/. No code but the constants that code shares with them.
+#![tactic(auto)]
+
 use cutting::MOST_BLOCKS;
 
 // The base of a key: `key_base`.

@@ -1,5 +1,6 @@
 // The judge of a job's calls: the tests that come first, the lengths of what is lent, a block's map against the block table.
 // Each call then has its own tests.
+#![tactic(auto)]
 ghost use Rattle.std.specs.Prelude.{◌≡◌, true, ◌&&◌, ◌+◌, ◌≤◌, eqb, leb, ltb, length};
 ghost use Rattle.cells.specs.Extents.{Sized};
 ghost use Rattle.cells.specs.Grid.{cells};
@@ -26,7 +27,7 @@ use stages::is_ticked;
 use union_find::sound_ways;
 
 // What the block table tells of a block: its largest numbers, and the places of its first face and first curve.
-#[derive(Drop)]
+#[derive(Clone, Copy)]
 pub struct Entry {
     pub faces: u32,
     pub curves: u32,
@@ -36,7 +37,7 @@ pub struct Entry {
 }
 
 // The calls of a job by name.
-#[derive(Drop)]
+#[derive(Clone, Copy)]
 pub enum CallName {
     Open,
     Enrol,
@@ -48,7 +49,7 @@ pub enum CallName {
 }
 
 // The lengths of the tables of one sort. One that a call is not lent has 0.
-#[derive(Drop)]
+#[derive(Clone, Copy)]
 pub struct KindLengths {
     pub faces: usize,
     pub curves: usize,
@@ -56,7 +57,7 @@ pub struct KindLengths {
 }
 
 // The lengths of the tables that a call is lent.
-#[derive(Drop)]
+#[derive(Clone, Copy)]
 pub struct Lengths {
     pub ticks: usize,
     pub blocks: usize,

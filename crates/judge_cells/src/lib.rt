@@ -1,4 +1,5 @@
 // The tests of a list of cells that its two calls share: every cell is one of the grid, and the lists have one length.
+#![tactic(auto)]
 ghost use Rattle.std.specs.Prelude.{◌≡◌, ◌-◌, ◌*◌, min, ltb};
 ghost use Rattle.cells.specs.Box.{triple};
 ghost use Rattle.cells.specs.Grid.{sides};
@@ -11,7 +12,7 @@ use lists::read_or_zero;
 pub const MOST_CELLS: usize = 4096;
 
 // A cell by its place in the volume.
-#[derive(Drop)]
+#[derive(Clone, Copy)]
 pub struct Cell {
     pub x: u32,
     pub y: u32,

@@ -1,4 +1,5 @@
 // The tests of an enrolment: the judge's up to the lengths, then the tallies, and whether the map's faces and curves have room.
+#![tactic(auto)]
 ghost use Rattle.std.specs.Prelude.{◌≡◌, ◌+◌, ◌≤◌, ltb};
 ghost use Rattle.joiner.specs.Calls.{full};
 ghost use Rattle.job.specs.JobState.{by_kind, AnyCuts, job_of};
@@ -12,7 +13,7 @@ use pass_survey::{Survey, survey_map};
 use refusals::{STRAY_LABEL, TABLE_FULL};
 
 // The number of the refusal, and the block's largest numbers where it is 0.
-#[derive(Drop)]
+#[derive(Clone, Copy)]
 pub struct Plan {
     pub refusal: u32,
     pub faces: u32,

@@ -1,4 +1,5 @@
 // The tests of a point step: the judge's, then the final numbers of the block's curves, and whether its points have room.
+#![tactic(auto)]
 ghost use Rattle.std.specs.Prelude.{◌≡◌, length};
 ghost use Rattle.cells.specs.Extents.{Sized};
 ghost use Rattle.cells.specs.Grid.{cells};
@@ -14,7 +15,7 @@ use pass_point::count_points;
 use refusals::{STRAY_LABEL, TABLE_FULL};
 
 // The number of the refusal, and the block's points where it is 0.
-#[derive(Drop)]
+#[derive(Clone, Copy)]
 pub struct Plan {
     pub refusal: u32,
     pub points: u32,

@@ -1,4 +1,5 @@
 // The tests of a seam step: the judge's, those of the second block, and whether the blocks differ in the layer that they share.
+#![tactic(auto)]
 ghost use Rattle.std.specs.Prelude.{◌≡◌, true, ◌+◌, ◌*◌, ◌≤◌, length};
 ghost use Rattle.cells.specs.Extents.{Sized};
 ghost use Rattle.cells.specs.Grid.{cells};
@@ -24,7 +25,7 @@ use refusals::{DONE_ALREADY, LAYERS_DIFFER, NO_SUCH_PLACE, STRAY_LABEL};
 use stages::is_ticked;
 
 // The layer that the blocks share, in the map of each.
-#[derive(Drop)]
+#[derive(Clone, Copy)]
 pub struct Shared {
     pub lower: Layer,
     pub upper: Layer,

@@ -1,4 +1,5 @@
 // The tests of the readings' step: the first ones, the lengths, the map and the totals of the block's faces, the readings.
+#![tactic(auto)]
 ghost use Rattle.std.specs.Prelude.{◌≡◌, ◌≤◌, length};
 ghost use Rattle.cells.specs.Box.{triple};
 ghost use Rattle.cells.specs.Extents.{Sized};
@@ -20,7 +21,7 @@ use refusals::{BAD_READING, STRAY_LABEL, WRONG_TRAY};
 use totals::{both_stand, readings_fit};
 
 // The lengths of the map and the lists that a block brings, and of the tables.
-#[derive(Drop)]
+#[derive(Clone, Copy)]
 struct Sizes {
     cells: usize,
     values: usize,

@@ -1,4 +1,5 @@
 // The labeller of one block.
+#![tactic(auto)]
 ghost use Rattle.std.specs.Prelude.{◌≡◌, ◌≤◌, length};
 ghost use Rattle.lists.specs.Lists.{zeros};
 ghost use Rattle.cells.specs.Box.{triple};
@@ -16,7 +17,7 @@ use refusals::{OFF_SIZE, WRONG_TRAY};
 use union_find::clear;
 
 // What a labelling answers: the number of its refusal, 0 for none, and how many faces, curves and points there are.
-#[derive(Drop)]
+#[derive(Clone, Copy)]
 pub struct Labelled {
     pub refusal: u32,
     pub faces: u32,

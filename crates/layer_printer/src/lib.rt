@@ -1,4 +1,6 @@
 // One z layer of a block's map printed as pages of text. Everything is decided before the first store.
+#![tactic(auto)]
+
 ghost use Rattle.std.specs.Prelude.{◌≡◌, [], ◌∷◌, ◌+◌, ◌-◌, ◌*◌, ◌<◌, ◌≤◌, min, length, replicate};
 ghost use Rattle.lists.specs.Lists.{laid};
 ghost use Rattle.decimals.specs.Decimals.{decimal};

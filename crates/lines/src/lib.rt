@@ -1,5 +1,6 @@
 // The cells of one order, line by line, and their rows by strides. A line's strides come from the table of neighbour steps; a cell then needs no
 // division and no table.
+#![tactic(auto)]
 ghost use Rattle.std.specs.Prelude.{◌≡◌, [], ◌∷◌, ◌+◌, ◌-◌, ◌<◌, ◌≤◌, length, get_or};
 ghost use Rattle.cells.specs.Box.{triple};
 ghost use Rattle.cells.specs.Extents.{Sized};
@@ -39,7 +40,7 @@ fn last_stride(z: usize, w: usize, wh: usize) -> usize
 }
 
 // A line, for a pass over its cells with so many odd axes: they lie two apart.
-#[derive(Drop)]
+#[derive(Clone, Copy)]
 pub struct Line {
     // How many cells the line has.
     pub width: usize,
@@ -50,7 +51,7 @@ pub struct Line {
 }
 
 // A line with the strides of the odd axes of those cells. The middle one of three is the width.
-#[derive(Drop)]
+#[derive(Clone, Copy)]
 pub struct StridedLine {
     pub line: Line,
     // The first stride.

@@ -1,6 +1,6 @@
 -- A run of places of a table written one after the other, and the front of a table.
 -- Assumes nothing.
-use mathlib.Core.Path.{◌≡◌, refl, sym, ap, ap₂, ◌∙◌}
+use mathlib.Core.Path.{◌≡◌, refl, sym, ap, ap₂, subst, ◌∙◌}
 use mathlib.Core.Bool.{cond}
 use mathlib.Core.Logic.{◌≢◌}
 use mathlib.Core.List.{List, ◌++◌}
@@ -12,7 +12,7 @@ use lib.Arith.{digits_div, digits_lt, digits_mod}
 use lib.Dec.{eqb, ltb}
 use lib.ListN.{get_or, length, set, take, drop, length-set}
 use lib.Seq.{ext_get_or, take_all, get_or-set_same, get_or-set_other, get_or-take, length-take-le, set-set, set_comm}
-use borrow.Author.Tests.{eqb-true, eqb-false, ne_eqb, ltb-true, ltb-false}
+use borrow.Author.Tests.{eq-eqb, eqb-true, eqb-false, ne_eqb, ltb-true, ltb-false}
 use Rattle.lists.specs.Lists.{tabulate, zeros, overlay}
 use Rattle.lists.proofs.Cases.{by_test}
 use Rattle.lists.proofs.Lists.{length-tabulate, get_d_tabulate, tabulate_zeros, front_more}
@@ -96,7 +96,8 @@ overlay_again xs from f v (suc n) k h =
     by_test (eqb n k)
     (λ t.
     let e : n ≡ k = eqb-true n k t in
-    rw (t, ← e) (set-set (overlay xs from f n) (from + n) (f n) v ∙ ap (λ (l : List ℕ). set l (from + n) v) (overlay_same xs from f (λ i. cond (eqb i n) v (f i)) n (λ i l. let d : i ≢ n = λ q. omega arith in rw (ne_eqb i n d)))))
+    subst (λ (k' : ℕ). set (overlay xs from f (suc n)) (from + k') v ≡ overlay xs from (λ i. cond (eqb i k') v (f i)) (suc n)) e
+    (rw (eq-eqb n n refl) (set-set (overlay xs from f n) (from + n) (f n) v ∙ ap (λ (l : List ℕ). set l (from + n) v) (overlay_same xs from f (λ i. cond (eqb i n) v (f i)) n (λ i l. let d : i ≢ n = λ q. omega arith in rw (ne_eqb i n d))))))
     (λ t.
     let d : n ≢ k = eqb-false n k t in
     rw t (set_comm (overlay xs from f n) (from + n) (from + k) (f n) v (λ q. d (omega arith)) ∙ ap (λ (l : List ℕ). set l (from + n) (f n)) (overlay_again xs from f v n k (omega arith))))

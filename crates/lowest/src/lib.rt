@@ -1,4 +1,5 @@
 // Which cells count with a block: those whose place in it is at or after the block's starts. The block that a cell counts with is the lowest-numbered one that has it.
+#![tactic(auto)]
 ghost use Rattle.std.specs.Prelude.{◌≡◌, true, min};
 ghost use Rattle.cells.specs.Box.{triple};
 ghost use Rattle.cutting.specs.Cutting.{good_cut, FewBlocks};
@@ -10,7 +11,7 @@ use blocks::{Block, has_cell, intervals};
 use lists::read_or_zero;
 
 // The first coordinate of a block's own cells on each axis: 0, or 1 where another block stands before it.
-#[derive(Drop)]
+#[derive(Clone, Copy)]
 pub struct Start {
     pub x: usize,
     pub y: usize,

@@ -1,4 +1,5 @@
 // The largest block: the most faces, curves and points that a block of given extents can have.
+#![tactic(auto)]
 ghost use Rattle.std.specs.Prelude.{◌≡◌, ◌*◌, ◌≤◌};
 ghost use Rattle.cells.specs.Box.{triple};
 ghost use Rattle.cells.specs.Extents.{Sized};
@@ -8,7 +9,7 @@ use extents::off_size;
 use refusals::OFF_SIZE;
 
 // The number of the refusal, 0 for none, and the most components of each order.
-#[derive(Drop)]
+#[derive(Clone, Copy)]
 pub struct Most {
     pub refusal: u32,
     pub faces: u32,

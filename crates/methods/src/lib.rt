@@ -1,5 +1,6 @@
 // The methods of a job: each is lent what its public entry is lent, and its contract is a step of all tables, whatever the others hold. The
 // exports call them. Each has a file of its own.
+#![tactic(auto)]
 mod cross;
 mod enrol;
 mod fill;
@@ -15,13 +16,13 @@ mod total;
 use job::Job;
 
 // A job, handed from step to step by value.
-#[derive(Drop)]
+#[derive(Clone, Copy)]
 pub struct Joining {
     pub job: Job,
 }
 
 // What a step answers: the number of the refusal, 0 for none, and the job that it hands on, for the next call.
-#[derive(Drop)]
+#[derive(Clone, Copy)]
 pub struct Stepped {
     pub refusal: u32,
     pub joining: Joining,

@@ -1,5 +1,6 @@
 // Turns the text that the listing program reads into what the program is to do. The text comes in chunks, of any length in all, and is
 // read to its end whatever is in it: what is kept of it is one `Scanned` and the tray of codes. None of the functions is an entry.
+#![tactic(auto)]
 ghost use Rattle.std.specs.Prelude.{◌≡◌, ◌-◌, ◌<◌};
 ghost use Rattle.cells.specs.Box.{triple, volume};
 ghost use Rattle.cells.specs.Extents.{Sized};
@@ -16,7 +17,7 @@ const NO_NUMBER: u64 = 4294967296;
 // What has been read. `count` words are numbers that count: those before the first word that is no number, 515 at most. `broken`: a word
 // has ended that does not count. The word that has not ended has `size` bytes, where 10 stands for more too, and spells `value`. The
 // first three numbers are the extents.
-#[derive(Drop)]
+#[derive(Clone, Copy)]
 pub struct Scanned {
     count: u32,
     broken: bool,
@@ -29,7 +30,7 @@ pub struct Scanned {
 
 // What the program is to do once the text has ended: list the volume of these extents, whose codes stand in front in the tray, or print
 // the line `refused` with this number.
-#[derive(Drop)]
+#[derive(Clone, Copy)]
 pub enum Task {
     ListVolume(u16, u16, u16),
     PrintRefused(u32),

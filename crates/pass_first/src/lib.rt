@@ -1,4 +1,6 @@
 // The passes over a map for its listing: the largest number of each order, and the first cells.
+#![tactic(auto)]
+
 ghost use Rattle.std.specs.Prelude.{◌≡◌, ◌+◌, ◌<◌};
 ghost use Rattle.lists.specs.Lists.{zeros};
 ghost use Rattle.cells.specs.Box.{triple};

@@ -1,4 +1,5 @@
 // The layer that the two blocks of a seam share: compared, and the components seen from both blocks joined.
+#![tactic(auto)]
 ghost use Rattle.std.specs.Prelude.{◌≡◌, not, cond, ◌&&◌, length};
 ghost use Rattle.closure.specs.Joined.{joins};
 ghost use Rattle.cells.specs.Box.{triple};
@@ -11,7 +12,7 @@ ghost use Rattle.pass_seam.specs.Walks.{number_at, cells_differ, differ_at, laye
 use union_find::unite;
 
 // Where the cells of a layer stand in a map: column u of row v at start + u·column + typeof.v.row.
-#[derive(Drop)]
+#[derive(Clone, Copy)]
 pub struct Layer {
     pub start: u32,
     pub column: u32,

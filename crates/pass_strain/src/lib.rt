@@ -1,4 +1,5 @@
 // The pass that adds a block's readings to the totals, face cell by face cell, line by line.
+#![tactic(auto)]
 ghost use Rattle.std.specs.Prelude.{◌≡◌, ◌+◌, ◌-◌, ◌*◌, ◌/◌, ◌%◌, ◌≤◌, ◌<◌, length};
 ghost use Rattle.cells.specs.Box.{triple, place};
 ghost use Rattle.cells.specs.Extents.{Sized};
@@ -16,7 +17,7 @@ use pass_point::final_number;
 use totals::{reading_at, take_reading};
 
 // The sides of the voxels below and above a face cell: 0 lower, 1 higher, 2 for neither.
-#[derive(Drop)]
+#[derive(Clone, Copy)]
 struct Sides {
     below: usize,
     above: usize,
@@ -148,7 +149,7 @@ fn take_cell(
 }
 
 // A line of the cells: what its face cells are told by.
-#[derive(Drop)]
+#[derive(Clone, Copy)]
 pub struct FaceLine {
     pub line: Line,
     pub y: usize,
@@ -177,7 +178,7 @@ fn face_line(nx: usize, ny: usize, nz: usize, l: usize, y: usize, z: usize) -> F
 }
 
 // Where a line lies.
-#[derive(Drop)]
+#[derive(Clone, Copy)]
 struct Spot {
     y: usize,
     z: usize,

@@ -1,4 +1,5 @@
 // What every step of a job learns of a map first: the largest number of each order.
+#![tactic(auto)]
 ghost use Rattle.std.specs.Prelude.{◌≡◌, ◌+◌, ◌≤◌, ◌<◌, max, length};
 ghost use Rattle.cells.specs.Box.{triple};
 ghost use Rattle.cells.specs.Extents.{Sized};
@@ -10,7 +11,7 @@ ghost use Rattle.pass_survey.specs.Survey.{on_line, most, line_added};
 use lines::{line_count, line_with};
 
 // The largest number of a face, a curve and a point.
-#[derive(Drop)]
+#[derive(Clone, Copy)]
 pub struct Survey {
     pub faces: u32,
     pub curves: u32,

@@ -1,5 +1,6 @@
 // The listing program (document 01, "Volumes to try"). It reads a volume from standard input, to its end, and prints the listing of its
 // map, or the line of its refusal. Where reading or writing fails it says so on standard error, and prints no more.
+#![tactic(auto)]
 ghost use Rattle.std.specs.Prelude.{◌≡◌, ◌≤◌, length};
 ghost use Rattle.cells.specs.Box.{triple};
 ghost use Rattle.cells.specs.Extents.{Sized};
@@ -11,7 +12,7 @@ use parser::{Scanned, Task, finish, scan, start};
 use printer::{print_listing, print_refusal};
 
 // What has been read, whether more may come, and whether a read failed.
-#[derive(Drop)]
+#[derive(Clone, Copy)]
 struct Input {
     seen: Scanned,
     open: bool,

@@ -1,4 +1,5 @@
 // Examples of block records, written and read back, and damaged in each way that document 01 names. One line each.
+#![tactic(auto)]
 use reader::{Head, read_record};
 use writer::write_record;
 

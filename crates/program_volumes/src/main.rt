@@ -1,5 +1,6 @@
 // The volumes to try of document 01 that are not starred, and five more, as far as they can be tried without the joiner's steps: the counts
 // of each on one line, its map on another; then the cuts of an axis of 65, with the refusal of an opening and the ticks that it leaves.
+#![tactic(auto)]
 use labeller::{Labelled, label};
 use step_open::open;
 

@@ -1,4 +1,6 @@
 // The reader of block records.
+#![tactic(auto)]
+
 ghost use Rattle.std.specs.Prelude.{◌≡◌, ◌+◌, ◌*◌, ◌-◌, ◌/◌, ◌≤◌, ◌<◌, eqb, length};
 ghost use Rattle.lists.specs.Lists.{consecutive, some_of};
 ghost use Rattle.cells.specs.Box.{triple};
@@ -12,7 +14,7 @@ use extents::{grid_cells, off_place};
 use refusals::{BAD_RECORD, OFF_SIZE, WRONG_TRAY};
 
 // What a reading answers: the number of its refusal, 0 for none, and the extents and the origin of the block.
-#[derive(Drop)]
+#[derive(Clone, Copy)]
 pub struct Head {
     pub refusal: u32,
     pub nx: u16,

@@ -1,4 +1,5 @@
 // Which blocks are needed for a list of cells of a closed job.
+#![tactic(auto)]
 ghost use Rattle.std.specs.Prelude.{◌≡◌, true, ◌≤◌, ◌<◌, length};
 ghost use Rattle.lists.specs.Lists.{laid};
 ghost use Rattle.cutting.specs.Cutting.{most_blocks};
@@ -19,7 +20,7 @@ use lowest::lowest_block;
 use refusals::{NO_SUCH_PLACE, STRAY_LABEL, WRONG_TRAY};
 
 // What a request answers: the number of its refusal, 0 for none, and how many blocks are needed.
-#[derive(Drop)]
+#[derive(Clone, Copy)]
 pub struct Requested {
     pub refusal: u32,
     pub count: u32,

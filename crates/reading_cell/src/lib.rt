@@ -1,4 +1,5 @@
 // The lookup in a closed job: the final number of a cell, named by its place in the volume.
+#![tactic(auto)]
 ghost use Rattle.std.specs.Prelude.{◌≡◌, ◌&&◌, [], ◌+◌, ◌^◌, ◌<◌, ltb};
 ghost use Rattle.cells.specs.Box.{triple, index};
 ghost use Rattle.cells.specs.Grid.{sides};
@@ -22,7 +23,7 @@ use pass_point::final_number;
 use refusals::{NO_SUCH_PLACE, STRAY_LABEL};
 
 // What a lookup answers: the number of its refusal, 0 for none, and the final number of the cell.
-#[derive(Drop)]
+#[derive(Clone, Copy)]
 pub struct Found {
     pub refusal: u32,
     pub number: u32,
@@ -106,7 +107,7 @@ fn refusal(
 // ---- a point by its position
 
 // Some places of a table, from one on.
-#[derive(Drop)]
+#[derive(Clone, Copy)]
 struct Span {
     from: u32,
     size: u32,

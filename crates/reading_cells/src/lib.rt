@@ -1,4 +1,5 @@
 // The answers of a list of cells of a closed job that are read from one block.
+#![tactic(auto)]
 ghost use Rattle.std.specs.Prelude.{◌≡◌, true, ◌&&◌, get_or, length};
 ghost use Rattle.lists.specs.Lists.{consecutive, tabulate, all_of, some_of};
 ghost use Rattle.cells.specs.Box.{triple};
@@ -25,7 +26,7 @@ use reading_cell::{lengths_of, number_handed, number_of};
 use refusals::{NO_SUCH_PLACE, STRAY_LABEL, WRONG_TRAY};
 
 // The block that answers are read from: origin and extents, its starts, and what the block table tells of it.
-#[derive(Drop)]
+#[derive(Clone, Copy)]
 struct Source {
     block: Block,
     start: Start,

@@ -1,4 +1,5 @@
 // The row reading of a closed job: the row of one face, curve or point, as a part of the lent table of its kind.
+#![tactic(auto)]
 ghost use Rattle.std.specs.Prelude.{◌≡◌, ◌-◌, ◌*◌, ◌≤◌, ◌<◌, length, take, drop};
 ghost use Rattle.joiner.specs.Calls.{reading, answer};
 ghost use Rattle.joiner.specs.Outcomes.{CallStep};
@@ -11,7 +12,7 @@ use judge::{CallName, KindLengths, Lengths, NO_LENGTHS, has_number, lent_fits};
 use refusals::{NO_SUCH_PLACE, OFF_SIZE, STRAY_LABEL, WRONG_STAGE, WRONG_TRAY};
 
 // What the tables hold.
-#[derive(Drop)]
+#[derive(Clone, Copy)]
 pub enum Kind {
     Face,
     Curve,

@@ -1,4 +1,5 @@
 // The reading of a total: both sides of a face of a closed job, once the readings of all blocks have come.
+#![tactic(auto)]
 ghost use Rattle.std.specs.Prelude.{◌≡◌, ◌≤◌, ◌<◌};
 ghost use Rattle.lists.specs.Lists.{consecutive, all_of};
 ghost use Rattle.cells.specs.Box.{triple};
@@ -21,7 +22,7 @@ use stages::is_ticked;
 use totals::{Side, Totals, both_stand, totals_of};
 
 // What the reading of a total answers: the number of its refusal, 0 for none, and the totals.
-#[derive(Drop)]
+#[derive(Clone, Copy)]
 pub struct Totalled {
     pub refusal: u32,
     pub totals: Totals,

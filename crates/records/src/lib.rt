@@ -1,1 +1,2 @@
 // The block record: definitions in specs/, laws in proofs/. No code.
+#![tactic(auto)]

@@ -1,4 +1,5 @@
 // The crossing step of a job. The last one numbers faces and curves.
+#![tactic(auto)]
 ghost use Rattle.std.specs.Prelude.{[]};
 ghost use Rattle.joiner.specs.Calls.{cross, answer};
 ghost use Rattle.joiner.specs.Outcomes.{CallStep, CrossingDone};
@@ -11,7 +12,7 @@ use judge_cross::judge_crossing;
 use store_cross::{join_curves, number_both};
 
 // What a crossing step answers: the number of its refusal, 0 for none, and the job.
-#[derive(Drop)]
+#[derive(Clone, Copy)]
 pub struct Crossed {
     pub refusal: u32,
     pub job: Job,

@@ -1,4 +1,5 @@
 // The enrolment of a block: what a job takes in of its map.
+#![tactic(auto)]
 ghost use Rattle.std.specs.Prelude.{◌≡◌, [], ◌+◌, ◌*◌, ◌≤◌, ◌<◌, length};
 ghost use Rattle.lists.specs.Lists.{overlay};
 ghost use Rattle.cells.specs.Box.{triple};
@@ -19,7 +20,7 @@ use pass_enrol::{store_keys, store_rows};
 use stages::advance;
 
 // What an enrolment answers: the number of its refusal, 0 for none, and the job.
-#[derive(Drop)]
+#[derive(Clone, Copy)]
 pub struct Enrolled {
     pub refusal: u32,
     pub job: Job,

@@ -1,4 +1,5 @@
 // The opening of a job.
+#![tactic(auto)]
 ghost use Rattle.std.specs.Prelude.{◌≡◌, ◌≤◌, length};
 ghost use Rattle.lists.specs.Lists.{zeros};
 ghost use Rattle.cutting.specs.Cutting.{most_blocks};
@@ -17,7 +18,7 @@ use union_find::clear;
 use zeroing::{clear_counts, clear_sums};
 
 // What an opening answers: the number of its refusal, 0 for none, and the job.
-#[derive(Drop)]
+#[derive(Clone, Copy)]
 pub struct Opened {
     pub refusal: u32,
     pub job: Job,

@@ -1,4 +1,5 @@
 // The point step of a job.
+#![tactic(auto)]
 ghost use Rattle.std.specs.Prelude.{[], ◌*◌, ◌≤◌, length};
 ghost use Rattle.joiner.specs.Calls.{point, answer};
 ghost use Rattle.joiner.specs.Outcomes.{PointDone, CallStep};
@@ -15,7 +16,7 @@ use pass_point::store_points;
 use stages::advance;
 
 // What a point step answers: the number of its refusal, 0 for none, and the job.
-#[derive(Drop)]
+#[derive(Clone, Copy)]
 pub struct Pointed {
     pub refusal: u32,
     pub job: Job,

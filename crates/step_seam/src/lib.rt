@@ -1,4 +1,5 @@
 // The seam step of a job.
+#![tactic(auto)]
 ghost use Rattle.std.specs.Prelude.{◌≡◌, [], length};
 ghost use Rattle.closure.specs.Joined.{joins};
 ghost use Rattle.union_find.specs.Links.{root, Rooted};
@@ -18,7 +19,7 @@ use pass_seam::join_layers;
 use stages::advance;
 
 // What a seam step answers: the number of its refusal, 0 for none, and the job.
-#[derive(Drop)]
+#[derive(Clone, Copy)]
 pub struct Joined {
     pub refusal: u32,
     pub job: Job,

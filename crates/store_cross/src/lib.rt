@@ -1,4 +1,5 @@
 // What an accepted crossing step stores: the block's curves joined; with the last block faces and curves numbered.
+#![tactic(auto)]
 ghost use Rattle.std.specs.Prelude.{length};
 ghost use Rattle.blocks.specs.Blocks.{cut_of};
 ghost use Rattle.job.specs.JobState.{job_of};
@@ -13,7 +14,7 @@ use pass_cross::cross_cells;
 use stages::advance;
 
 // How many faces and curves there are once numbered.
-#[derive(Drop)]
+#[derive(Clone, Copy)]
 pub struct Totals {
     pub faces: u32,
     pub curves: u32,

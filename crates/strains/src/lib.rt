@@ -1,10 +1,12 @@
 // Readings, and the tests of a strain and of a sum of strains.
+#![tactic(auto)]
+
 ghost use Rattle.std.specs.Prelude.{◌≡◌, cond};
 ghost use Rattle.std.specs.Float.Ieee.{lt, neg};
 ghost use Rattle.strains.specs.Units.{is_units, plus_zero};
 
 // "A strain in microstrain, a clipped strain (the search ran to its end at that value), or missing."
-#[derive(Drop)]
+#[derive(Clone, Copy)]
 pub enum Reading {
     Strain(f64),
     Clipped(f64),

@@ -1,4 +1,5 @@
 // Words and numbers put into a tray of bytes: the part of a text from any place on, as much as the tray holds. None of the functions is an entry.
+#![tactic(auto)]
 ghost use Rattle.std.specs.Prelude.{◌≡◌, [], ◌∷◌, ◌++◌, ◌+◌, ◌<◌};
 ghost use Rattle.decimals.specs.Decimals.{decimal};
 ghost use Rattle.text.specs.Listing.{spaced};
@@ -7,7 +8,7 @@ ghost use Rattle.text_tray.specs.Sunk.{state, sunk};
 const SPACE: u8 = 32;
 
 // How many bytes of the text still stand before the part that is asked for, and how many are in the tray.
-#[derive(Drop)]
+#[derive(Clone, Copy)]
 pub struct Sink {
     pub skip: usize,
     pub at: usize,

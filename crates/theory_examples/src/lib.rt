@@ -1,1 +1,2 @@
 // Two larger volumes cut and joined by the model of the joiner, computed in proofs/. No code.
+#![tactic(auto)]

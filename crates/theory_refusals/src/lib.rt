@@ -1,1 +1,2 @@
 // Theorems without code: what the service never answers.
+#![tactic(auto)]

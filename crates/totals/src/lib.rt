@@ -1,4 +1,6 @@
 // The totals of faces in lent tables: two sums for each face, three counts for each sum.
+#![tactic(auto)]
+
 ghost use Rattle.std.specs.Prelude.{◌≡◌, true, ◌*◌, ◌+◌, ◌<◌, ◌^◌, get_or, length, set};
 ghost use Rattle.std.specs.Float.{binary64};
 ghost use Rattle.std.specs.Float.Ieee.{add};
@@ -116,7 +118,7 @@ pub fn readings_fit(values: &[f64], kinds: &[u8]) -> bool
 // ---- totals that are read
 
 // The sum of strains of one side of a face, and how many of its readings were strains, clipped and missing.
-#[derive(Drop)]
+#[derive(Clone, Copy)]
 pub struct Side {
     pub sum: f64,
     pub strains: u64,
@@ -125,7 +127,7 @@ pub struct Side {
 }
 
 // The totals of a face.
-#[derive(Drop)]
+#[derive(Clone, Copy)]
 pub struct Totals {
     pub lower: Side,
     pub higher: Side,

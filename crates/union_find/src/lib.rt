@@ -1,5 +1,7 @@
 // Union-find over a lent table of links: union to the smaller id, path halving.
 // A link is a distance back, so a table of any content is a forest, and every function answers for every input.
+#![tactic(auto)]
+
 ghost use Rattle.std.specs.Prelude.{◌≡◌, ◌-◌, length};
 ghost use Rattle.lists.specs.Lists.{zeros};
 ghost use Rattle.union_find.specs.Links.{parent, sound_below, sound_ways, united, Rooted, Walked, Found};
@@ -88,7 +90,7 @@ pub fn all_sound(links: &[u32], n: usize) -> bool
 }
 
 // The way from an id to its root: whether every link on it is at most its place, and how many steps it has if so.
-#[derive(Drop)]
+#[derive(Clone, Copy)]
 struct Way {
     sound: bool,
     steps: usize,

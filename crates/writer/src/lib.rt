@@ -1,4 +1,6 @@
 // The writer of block records. Everything is decided before the first store.
+#![tactic(auto)]
+
 ghost use Rattle.std.specs.Prelude.{◌≡◌, [], ◌∷◌, ◌++◌, ◌+◌, ◌*◌, ◌<◌, ◌≤◌, length, take, drop};
 ghost use Rattle.lists.specs.Lists.{laid};
 ghost use Rattle.cells.specs.Box.{triple};
@@ -11,7 +13,7 @@ use extents::{grid_cells, off_place};
 use refusals::{OFF_SIZE, WRONG_TRAY};
 
 // What a writing answers: the number of its refusal, 0 for none, and the length of the record.
-#[derive(Drop)]
+#[derive(Clone, Copy)]
 pub struct Written {
     pub refusal: u32,
     pub length: usize,

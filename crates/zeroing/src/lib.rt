@@ -1,4 +1,6 @@
 // Zeros all over a table of sums or of counts.
+#![tactic(auto)]
+
 ghost use Rattle.std.specs.Prelude.{◌≡◌, map, length};
 ghost use Rattle.lists.specs.Lists.{zeros};
 ghost use Rattle.strains.specs.Units.{plus_zero};

@@ -8,29 +8,29 @@ use Rattle.cells.proofs.ExtentLaws.{cells_are, layer_high, cells_high}
 use Rattle.extents.proofs.grid_cells.Statement.{statement}
 use Rattle.extents.proofs.grid_cells.Tie as tie
 
-mul-w : tie.Need-overflow-mul-w
-mul-w c = search rules
+overflow_mul-w : tie.Need-overflow_mul-w
+overflow_mul-w c = search rules
 
-sub-w : tie.Need-overflow-sub-w
-sub-w c = search rules
+overflow_sub-w : tie.Need-overflow_sub-w
+overflow_sub-w c = search rules
 
-mul-h : tie.Need-overflow-mul-h
-mul-h c = search rules
+overflow_mul-h : tie.Need-overflow_mul-h
+overflow_mul-h c = search rules
 
-sub-h : tie.Need-overflow-sub-h
-sub-h c = search rules
+overflow_sub-h : tie.Need-overflow_sub-h
+overflow_sub-h c = search rules
 
-mul-d : tie.Need-overflow-mul-d
-mul-d c = search rules
+overflow_mul-d : tie.Need-overflow_mul-d
+overflow_mul-d c = search rules
 
-sub-d : tie.Need-overflow-sub-d
-sub-d c = search rules
+overflow_sub-d : tie.Need-overflow_sub-d
+overflow_sub-d c = search rules
 
-mul-result : tie.Need-overflow-mul-result
-mul-result c = omega (arith, layer_high c.requires)
+overflow_mul-result : tie.Need-overflow_mul-result
+overflow_mul-result c = omega (arith, layer_high c.requires)
 
-mul-result-2 : tie.Need-overflow-mul-result-2
-mul-result-2 c = omega (arith, cells_are (triple c.args.nx c.args.ny c.args.nz), cells_high c.requires)
+overflow_mul-result-2 : tie.Need-overflow_mul-result-2
+overflow_mul-result-2 c = omega (arith, cells_are (triple c.args.nx c.args.ny c.args.nz), cells_high c.requires)
 
 returns : tie.Need-returns
 unfolding cells volume sides
@@ -38,4 +38,4 @@ returns c = refl
 
 pub grid_cells_spec : {M : Type 1} → statement M
 grid_cells_spec =
-    tie.close (tie.spec mul-w sub-w mul-h sub-h mul-d sub-d mul-result mul-result-2 returns)
+    tie.close (tie.spec overflow_mul-w overflow_sub-w overflow_mul-h overflow_sub-h overflow_mul-d overflow_sub-d overflow_mul-result overflow_mul-result-2 returns)

@@ -6,12 +6,12 @@ use Rattle.layer_printer.specs.Printed.{page_count}
 use Rattle.layer_printer.proofs.page_count.Statement.{statement}
 use Rattle.layer_printer.proofs.page_count.Tie as tie
 
-add-result : tie.Need-overflow-add-result
-add-result c = search rules
+overflow_add-result : tie.Need-overflow_add-result
+overflow_add-result c = search rules
 
 returns : tie.Need-returns
 unfolding page_count
 returns c = (refl, omega arith)
 
 pub page_count_spec : {M : Type 1} → statement M
-page_count_spec = tie.close (tie.spec add-result returns)
+page_count_spec = tie.close (tie.spec overflow_add-result returns)

@@ -9,81 +9,81 @@ use Rattle.layer_printer.proofs.PrintLaws.{Ready, ready_of, layer_cells, layer_r
 use Rattle.layer_printer.proofs.print_layer.Statement.{statement}
 use Rattle.layer_printer.proofs.print_layer.Tie as tie
 
-refusal-requires : tie.Need-refusal-requires
-refusal-requires c κs = search rules
+refusal-number-requires : tie.Need-refusal-number-requires
+refusal-number-requires c κs = search rules
 
-returns : tie.Need-returns
-returns c = print_refused _ _ _ _ _ c.before.refusal.ensures c.if1.true
+returns-then-number-ne0 : tie.Need-returns-then-number-ne0
+returns-then-number-ne0 c = print_refused _ _ _ _ _ c.before.refusal-number.ensures c.if-number-ne0.true
 
 -- what holds once nothing is refused
-ready : (c : tie.Else1) → let a = c.before.before.before.before.args in Ready (triple a.nx a.ny a.nz) a.z a.map.now (length a.tray.now)
-ready c = ready_of _ _ _ _ (sym c.before.refusal.ensures ∙ c.if1.false)
+ready : (c : tie.Else-number-ne0) → let a = c.before.before.before.before.args in Ready (triple a.nx a.ny a.nz) a.z a.map.now (length a.tray.now)
+ready c = ready_of _ _ _ _ (sym c.before.refusal-number.ensures ∙ c.if-number-ne0.false)
 
-room : (c : tie.Else1) → let a = c.before.before.before.before.args in let e = triple a.nx a.ny a.nz in layer_cells e * a.z + layer_cells e ≤ length a.map.now
+room : (c : tie.Else-number-ne0) → let a = c.before.before.before.before.args in let e = triple a.nx a.ny a.nz in layer_cells e * a.z + layer_cells e ≤ length a.map.now
 room c = let a = c.before.before.before.before.args in layer_room _ _ a.map.now (ready c).there (ready c).mapped
 
-mul-w : tie.Need-overflow-mul-w
-mul-w c = search rules
+overflow_mul-w : tie.Need-overflow_mul-w
+overflow_mul-w c = search rules
 
-sub-w : tie.Need-overflow-sub-w
-sub-w c = let r = ready c in omega (arith, r.sized)
+overflow_sub-w : tie.Need-overflow_sub-w
+overflow_sub-w c = let r = ready c in omega (arith, r.sized)
 
-mul-h : tie.Need-overflow-mul-h
-mul-h c = search rules
+overflow_mul-h : tie.Need-overflow_mul-h
+overflow_mul-h c = search rules
 
-sub-h : tie.Need-overflow-sub-h
-sub-h c = let r = ready c in omega (arith, r.sized)
+overflow_sub-h : tie.Need-overflow_sub-h
+overflow_sub-h c = let r = ready c in omega (arith, r.sized)
 
-mul-size : tie.Need-overflow-mul-size
-mul-size c = let r = room c in omega arith
+overflow_mul-size : tie.Need-overflow_mul-size
+overflow_mul-size c = let r = room c in omega arith
 
-mul-from : tie.Need-overflow-mul-from
-mul-from c = let r = room c in omega arith
+overflow_mul-from : tie.Need-overflow_mul-from
+overflow_mul-from c = let r = room c in omega arith
 
-add-put-pages : tie.Need-overflow-add-put-pages
-add-put-pages c = let r = room c.before in omega arith
+overflow_add-from : tie.Need-overflow_add-from
+overflow_add-from c = let r = room c.before in omega arith
 
-mul-put-pages : tie.Need-overflow-mul-put-pages
-mul-put-pages c = let r = room c.before in omega arith
+offset_bounds-map-from : tie.Need-offset_bounds-map-from
+offset_bounds-map-from c = let r = room c.before in omega arith
 
-sub-put-pages : tie.Need-overflow-sub-put-pages
-sub-put-pages c = search rules
+slice_bounds-put_pages-count : tie.Need-slice_bounds-put_pages-count
+slice_bounds-put_pages-count c = search rules
 
-part-put-pages-start : tie.Need-slice-bounds-put-pages-start
-part-put-pages-start c = search rules
+slice_bounds-put_pages-start : tie.Need-slice_bounds-put_pages-start
+slice_bounds-put_pages-start c = search rules
 
-part-put-pages-end : tie.Need-slice-bounds-put-pages-end
-part-put-pages-end c = let r = room c.before in omega arith
+slice_bounds-put_pages-end : tie.Need-slice_bounds-put_pages-end
+slice_bounds-put_pages-end c = let r = room c.before in omega arith
 
-put-pages-requires : tie.Need-put-pages-requires
-put-pages-requires c κs = let r = ready c.before.before in (layer_whole _ _ _ _ r, r.fits)
+put_pages-requires : tie.Need-put_pages-requires
+put_pages-requires c κs = let r = ready c.before.before in (layer_whole _ _ _ _ r, r.fits)
 
-same_length : tie.Need-same-length
-same_length c = search rules
+shape_of-tray : tie.Need-shape_of-tray
+shape_of-tray c = search rules
 
-returns-2 : tie.Need-returns-2
-returns-2 c =
+returns : tie.Need-returns
+returns c =
     let back4 = c.before.before.before.before in
     let else1 = back4.before in
-    print_accepted _ _ _ _ _ else1.before.refusal.ensures _ else1.if1.false c.before.before.put-pages.ensures
+    print_accepted _ _ _ _ _ else1.before.refusal-number.ensures _ else1.if-number-ne0.false c.before.before.put_pages.ensures
 
 pub print_layer_spec : {M : Type 1} → statement M
 print_layer_spec =
     tie.close
     (tie.spec
-    refusal-requires
-    returns
-    mul-w
-    sub-w
-    mul-h
-    sub-h
-    mul-size
-    mul-from
-    add-put-pages
-    mul-put-pages
-    sub-put-pages
-    part-put-pages-start
-    part-put-pages-end
-    put-pages-requires
-    same_length
-    returns-2)
+    refusal-number-requires
+    returns-then-number-ne0
+    overflow_mul-w
+    overflow_sub-w
+    overflow_mul-h
+    overflow_sub-h
+    overflow_mul-size
+    overflow_mul-from
+    overflow_add-from
+    offset_bounds-map-from
+    slice_bounds-put_pages-count
+    slice_bounds-put_pages-start
+    slice_bounds-put_pages-end
+    put_pages-requires
+    shape_of-tray
+    returns)

@@ -10,72 +10,72 @@ use Rattle.layer_printer.proofs.PageLaws.{places_none, places_next}
 use Rattle.layer_printer.proofs.put_cells.Statement.{statement}
 use Rattle.layer_printer.proofs.put_cells.Tie as tie
 
-abbrev invariant-loop : tie.invariant-loop
-invariant-loop tray₀ at line p n k₀ tray k = (k ≤ n) × (length tray ≡ length tray₀) × (tray ≡ laid at (first_places line p k) tray₀)
+abbrev invariant-loop-k : tie.invariant-loop-k
+invariant-loop-k tray₀ at line p n k₀ tray k = (k ≤ n) × (length tray ≡ length tray₀) × (tray ≡ laid at (first_places line p k) tray₀)
 
-abbrev decreases-loop : tie.decreases-loop
-decreases-loop tray₀ at line p n k₀ tray k = n - k
+abbrev decreases-loop-k : tie.decreases-loop-k
+decreases-loop-k tray₀ at line p n k₀ tray k = n - k
 
-loop-holds : tie.Need-loop-init invariant-loop decreases-loop
-loop-holds c = (omega arith, refl, places_none _ _ _ _ (omega arith))
+loop-k-init : tie.Need-loop-k-init invariant-loop-k decreases-loop-k
+loop-k-init c = (omega arith, refl, places_none _ _ _ _ (omega arith))
 
-mul-put-cell : tie.Need-overflow-mul-put-cell invariant-loop decreases-loop
-mul-put-cell c = search rules
+overflow_mul-k : tie.Need-overflow_mul-k invariant-loop-k decreases-loop-k
+overflow_mul-k c = search rules
 
-add-put-cell : tie.Need-overflow-add-put-cell invariant-loop decreases-loop
-add-put-cell c = search rules
+overflow_add-at : tie.Need-overflow_add-at invariant-loop-k decreases-loop-k
+overflow_add-at c = search rules
 
-mul-put-cell-2 : tie.Need-overflow-mul-put-cell-2 invariant-loop decreases-loop
-mul-put-cell-2 c = search rules
+overflow_mul-p : tie.Need-overflow_mul-p invariant-loop-k decreases-loop-k
+overflow_mul-p c = search rules
 
-add-put-cell-2 : tie.Need-overflow-add-put-cell-2 invariant-loop decreases-loop
-add-put-cell-2 c = search rules
+overflow_add-p : tie.Need-overflow_add-p invariant-loop-k decreases-loop-k
+overflow_add-p c = search rules
 
-mul-put-cell-3 : tie.Need-overflow-mul-put-cell-3 invariant-loop decreases-loop
-mul-put-cell-3 c = search rules
+offset_bounds-line-p : tie.Need-offset_bounds-line-p invariant-loop-k decreases-loop-k
+offset_bounds-line-p c = search rules
 
-shared-slice-read-put-cell : tie.Need-shared-slice-read-put-cell invariant-loop decreases-loop
-shared-slice-read-put-cell c = search rules
+bounds-line-p : tie.Need-bounds-line-p invariant-loop-k decreases-loop-k
+bounds-line-p c = search rules
 
-put-cell-requires : tie.Need-put-cell-requires invariant-loop decreases-loop
-put-cell-requires c κs = search rules
+put_cell-requires : tie.Need-put_cell-requires invariant-loop-k decreases-loop-k
+put_cell-requires c κs = search rules
 
-add-k : tie.Need-overflow-add-k invariant-loop decreases-loop
-add-k c = search rules
+overflow_add-k : tie.Need-overflow_add-k invariant-loop-k decreases-loop-k
+overflow_add-k c = search rules
 
-loop-less : tie.Need-loop-smaller invariant-loop decreases-loop
-loop-less c = search rules
+loop-k-smaller : tie.Need-loop-k-smaller invariant-loop-k decreases-loop-k
+loop-k-smaller c = search rules
 
-loop-again : tie.Need-loop-preserved invariant-loop decreases-loop
-loop-again c =
+loop-k-preserved : tie.Need-loop-k-preserved invariant-loop-k decreases-loop-k
+loop-k-preserved c =
     let back4 = c.before.before.before.before in
     let turn = back4.before.before in
-    (omega arith, omega arith, places_next _ _ _ _ _ _ _ (omega arith) (omega arith) turn.loop.invariant.2 c.before.before.put-cell.ensures)
+    (omega arith, omega arith, places_next _ _ _ _ _ _ _ (omega arith) (omega arith) turn.loop-k.invariant.2 c.before.before.put_cell.ensures)
 
-same_length : tie.Need-same-length invariant-loop decreases-loop
-same_length c = search rules
+shape_of-tray : tie.Need-shape_of-tray invariant-loop-k decreases-loop-k
+shape_of-tray c = search rules
 
-returns : tie.Need-returns invariant-loop decreases-loop
+returns : tie.Need-returns invariant-loop-k decreases-loop-k
 returns c =
-    let done : c.before.loop.k ≡ c.before.before.before.before.args.n = omega arith in
-    rw done at c.before.loop.invariant.2
+    let done : c.before.loop-k.k ≡ c.before.before.before.before.args.n = omega arith in
+    rw done at c.before.loop-k.invariant.2
 
 pub put_cells_spec : {M : Type 1} → statement M
 put_cells_spec =
     tie.close
     (tie.spec
-    invariant-loop
-    decreases-loop
-    loop-holds
-    mul-put-cell
-    add-put-cell
-    mul-put-cell-2
-    add-put-cell-2
-    mul-put-cell-3
-    shared-slice-read-put-cell
-    put-cell-requires
-    add-k
-    loop-less
-    loop-again
-    same_length
+    invariant-loop-k
+    decreases-loop-k
+    loop-k-init
+    overflow_mul-k
+    overflow_add-at
+    overflow_mul-p
+    overflow_add-p
+    offset_bounds-line-p
+    bounds-line-p
+    put_cell-requires
+    overflow_add-k
+    loop-k-smaller
+    loop-k-preserved
+    shape_of-tray
     returns)

@@ -6,35 +6,35 @@ use Rattle.lists.proofs.Laid.{laid_five}
 use Rattle.layer_printer.proofs.put_five.Statement.{statement}
 use Rattle.layer_printer.proofs.put_five.Tie as tie
 
-slice-write-tray : tie.Need-slice-write-tray
-slice-write-tray c = search rules
+bounds-tray-at : tie.Need-bounds-tray-at
+bounds-tray-at c = search rules
 
-add-tray : tie.Need-overflow-add-tray
-add-tray c = search rules
+overflow_add-tray : tie.Need-overflow_add-tray
+overflow_add-tray c = search rules
 
-slice-write-tray-2 : tie.Need-slice-write-tray-2
-slice-write-tray-2 c = simp length-set (omega arith)
+bounds-tray-at-2 : tie.Need-bounds-tray-at-2
+bounds-tray-at-2 c = simp length-set (omega arith)
 
-add-tray-2 : tie.Need-overflow-add-tray-2
-add-tray-2 c = search rules
+overflow_add-tray-2 : tie.Need-overflow_add-tray-2
+overflow_add-tray-2 c = search rules
 
-slice-write-tray-3 : tie.Need-slice-write-tray-3
-slice-write-tray-3 c = simp length-set (omega arith)
+bounds-tray-at-3 : tie.Need-bounds-tray-at-3
+bounds-tray-at-3 c = simp length-set (omega arith)
 
-add-tray-3 : tie.Need-overflow-add-tray-3
-add-tray-3 c = search rules
+overflow_add-tray-3 : tie.Need-overflow_add-tray-3
+overflow_add-tray-3 c = search rules
 
-slice-write-tray-4 : tie.Need-slice-write-tray-4
-slice-write-tray-4 c = simp length-set (omega arith)
+bounds-tray-at-4 : tie.Need-bounds-tray-at-4
+bounds-tray-at-4 c = simp length-set (omega arith)
 
-add-tray-4 : tie.Need-overflow-add-tray-4
-add-tray-4 c = search rules
+overflow_add-tray-4 : tie.Need-overflow_add-tray-4
+overflow_add-tray-4 c = search rules
 
-slice-write-tray-5 : tie.Need-slice-write-tray-5
-slice-write-tray-5 c = simp length-set (omega arith)
+bounds-tray-at-5 : tie.Need-bounds-tray-at-5
+bounds-tray-at-5 c = simp length-set (omega arith)
 
-same_length : tie.Need-same-length
-same_length c = search rules
+shape_of-tray : tie.Need-shape_of-tray
+shape_of-tray c = search rules
 
 returns : tie.Need-returns
 returns c = laid_five _ _ _ _ _ _ _ c.requires
@@ -43,14 +43,14 @@ pub put_five_spec : {M : Type 1} → statement M
 put_five_spec =
     tie.close
     (tie.spec
-    slice-write-tray
-    add-tray
-    slice-write-tray-2
-    add-tray-2
-    slice-write-tray-3
-    add-tray-3
-    slice-write-tray-4
-    add-tray-4
-    slice-write-tray-5
-    same_length
+    bounds-tray-at
+    overflow_add-tray
+    bounds-tray-at-2
+    overflow_add-tray-2
+    bounds-tray-at-3
+    overflow_add-tray-3
+    bounds-tray-at-4
+    overflow_add-tray-4
+    bounds-tray-at-5
+    shape_of-tray
     returns)

@@ -9,85 +9,85 @@ use Rattle.layer_printer.proofs.PageLaws.{lines_laid, lines_none, lines_next, li
 use Rattle.layer_printer.proofs.put_page.Statement.{statement}
 use Rattle.layer_printer.proofs.put_page.Tie as tie
 
-abbrev invariant-loop : tie.invariant-loop
-invariant-loop tray₀ at layer w h p y₀ tray y = (y ≤ h) × (length tray ≡ length tray₀) × (tray ≡ lines_laid w layer p at tray₀ y)
+abbrev invariant-loop-y : tie.invariant-loop-y
+invariant-loop-y tray₀ at layer w h p y₀ tray y = (y ≤ h) × (length tray ≡ length tray₀) × (tray ≡ lines_laid w layer p at tray₀ y)
 
-abbrev decreases-loop : tie.decreases-loop
-decreases-loop tray₀ at layer w h p y₀ tray y = h - y
+abbrev decreases-loop-y : tie.decreases-loop-y
+decreases-loop-y tray₀ at layer w h p y₀ tray y = h - y
 
-loop-holds : tie.Need-loop-init invariant-loop decreases-loop
-loop-holds c = (omega arith, refl, lines_none _ _ _ _ _ (omega arith))
+loop-y-init : tie.Need-loop-y-init invariant-loop-y decreases-loop-y
+loop-y-init c = (omega arith, refl, lines_none _ _ _ _ _ (omega arith))
 
 -- line y lies in the layer
-room : (c : tie.In-loop invariant-loop decreases-loop) → let a = c.before.before.before.before.args in let y = c.before.loop.y in a.w * y + a.w ≤ length a.layer.now
+room : (c : tie.In-loop-y invariant-loop-y decreases-loop-y) → let a = c.before.before.before.before.args in let y = c.before.loop-y.y in a.w * y + a.w ≤ length a.layer.now
 room c =
     let start = c.before.before.before.before in
-    let r = listed_room start.args.w start.args.h c.before.loop.y c.loop-test.true in
+    let r = listed_room start.args.w start.args.h c.before.loop-y.y c.loop-y-test.true in
     omega (arith, start.requires.0.there)
 
-mul-from : tie.Need-overflow-mul-from invariant-loop decreases-loop
-mul-from c = let r = room c in omega arith
+overflow_mul-from : tie.Need-overflow_mul-from invariant-loop-y decreases-loop-y
+overflow_mul-from c = let r = room c in omega arith
 
-mul-put-line : tie.Need-overflow-mul-put-line invariant-loop decreases-loop
-mul-put-line c = search rules
+overflow_mul-y : tie.Need-overflow_mul-y invariant-loop-y decreases-loop-y
+overflow_mul-y c = search rules
 
-add-put-line : tie.Need-overflow-add-put-line invariant-loop decreases-loop
-add-put-line c = search rules
+overflow_add-at : tie.Need-overflow_add-at invariant-loop-y decreases-loop-y
+overflow_add-at c = search rules
 
-add-put-line-2 : tie.Need-overflow-add-put-line-2 invariant-loop decreases-loop
-add-put-line-2 c = let r = room c.before in omega arith
+overflow_add-from : tie.Need-overflow_add-from invariant-loop-y decreases-loop-y
+overflow_add-from c = let r = room c.before in omega arith
 
-mul-put-line-2 : tie.Need-overflow-mul-put-line-2 invariant-loop decreases-loop
-mul-put-line-2 c = let r = room c.before in omega arith
+offset_bounds-layer-from : tie.Need-offset_bounds-layer-from invariant-loop-y decreases-loop-y
+offset_bounds-layer-from c = let r = room c.before in omega arith
 
-sub-put-line : tie.Need-overflow-sub-put-line invariant-loop decreases-loop
-sub-put-line c = search rules
+slice_bounds-put_line-count : tie.Need-slice_bounds-put_line-count invariant-loop-y decreases-loop-y
+slice_bounds-put_line-count c = search rules
 
-part-put-line-start : tie.Need-slice-bounds-put-line-start invariant-loop decreases-loop
-part-put-line-start c = let r = room c.before in omega arith
+slice_bounds-put_line-start : tie.Need-slice_bounds-put_line-start invariant-loop-y decreases-loop-y
+slice_bounds-put_line-start c = let r = room c.before in omega arith
 
-part-put-line-end : tie.Need-slice-bounds-put-line-end invariant-loop decreases-loop
-part-put-line-end c = let r = room c.before in omega arith
+slice_bounds-put_line-end : tie.Need-slice_bounds-put_line-end invariant-loop-y decreases-loop-y
+slice_bounds-put_line-end c = let r = room c.before in omega arith
 
-put-line-requires : tie.Need-put-line-requires invariant-loop decreases-loop
-put-line-requires c κs = search rules
+put_line-requires : tie.Need-put_line-requires invariant-loop-y decreases-loop-y
+put_line-requires c κs = search rules
 
-add-y : tie.Need-overflow-add-y invariant-loop decreases-loop
-add-y c = search rules
+overflow_add-y : tie.Need-overflow_add-y invariant-loop-y decreases-loop-y
+overflow_add-y c = search rules
 
-loop-less : tie.Need-loop-smaller invariant-loop decreases-loop
-loop-less c = search rules
+loop-y-smaller : tie.Need-loop-y-smaller invariant-loop-y decreases-loop-y
+loop-y-smaller c = search rules
 
-loop-again : tie.Need-loop-preserved invariant-loop decreases-loop
-loop-again c =
+loop-y-preserved : tie.Need-loop-y-preserved invariant-loop-y decreases-loop-y
+loop-y-preserved c =
     let back4 = c.before.before.before.before in
     let turn = back4.before.before in
-    (omega arith, omega arith, lines_next _ _ _ _ _ _ _ _ (omega arith) turn.loop.invariant.2 c.before.before.put-line.ensures)
+    (omega arith, omega arith, lines_next _ _ _ _ _ _ _ _ (omega arith) turn.loop-y.invariant.2 c.before.before.put_line.ensures)
 
-same_length : tie.Need-same-length invariant-loop decreases-loop
-same_length c = search rules
+shape_of-tray : tie.Need-shape_of-tray invariant-loop-y decreases-loop-y
+shape_of-tray c = search rules
 
-returns : tie.Need-returns invariant-loop decreases-loop
-returns c = lines_all _ _ _ _ _ _ _ _ c.before.loop.invariant.0 c.loop-test.false c.before.loop.invariant.2
+returns : tie.Need-returns invariant-loop-y decreases-loop-y
+returns c = lines_all _ _ _ _ _ _ _ _ c.before.loop-y.invariant.0 c.loop-y-test.false c.before.loop-y.invariant.2
 
 pub put_page_spec : {M : Type 1} → statement M
 put_page_spec =
     tie.close
     (tie.spec
-    invariant-loop
-    decreases-loop
-    loop-holds
-    mul-from
-    mul-put-line
-    add-put-line
-    add-put-line-2
-    mul-put-line-2
-    sub-put-line
-    part-put-line-start
-    part-put-line-end
-    put-line-requires
-    add-y
-    loop-less
-    loop-again
-    same_length
+    invariant-loop-y
+    decreases-loop-y
+    loop-y-init
+    overflow_mul-from
+    overflow_mul-y
+    overflow_add-at
+    overflow_add-from
+    offset_bounds-layer-from
+    slice_bounds-put_line-count
+    slice_bounds-put_line-start
+    slice_bounds-put_line-end
+    put_line-requires
+    overflow_add-y
+    loop-y-smaller
+    loop-y-preserved
+    shape_of-tray
     returns)

@@ -10,62 +10,62 @@ use Rattle.layer_printer.proofs.PrintLaws.{size_given, layer_given, map-given, t
 use Rattle.layer_printer.proofs.refusal.Statement.{statement}
 use Rattle.layer_printer.proofs.refusal.Tie as tie
 
-off-size-requires : tie.Need-off-size-requires
-off-size-requires c κs = search rules
+off_size-requires : tie.Need-off_size-requires
+off_size-requires c κs = search rules
 
-returns : tie.Need-returns
-returns c = size_given _ _ _ _ (sym c.before.off-size.ensures ∙ c.if1.true)
+returns-then-off_size : tie.Need-returns-then-off_size
+returns-then-off_size c = size_given _ _ _ _ (sym c.before.off_size.ensures ∙ c.if-off_size.true)
 
 -- the block has a right size, once the first test has passed
-within : (c : tie.Else1) → let a = c.before.before.before.args in off_size 64 (triple a.nx a.ny a.nz) ≡ false
-within c = sym c.before.off-size.ensures ∙ c.if1.false
+within : (c : tie.Else-off_size) → let a = c.before.before.before.args in off_size 64 (triple a.nx a.ny a.nz) ≡ false
+within c = sym c.before.off_size.ensures ∙ c.if-off_size.false
 
-sized : (c : tie.Else1) → let a = c.before.before.before.args in Sized 64 (triple a.nx a.ny a.nz)
+sized : (c : tie.Else-off_size) → let a = c.before.before.before.args in Sized 64 (triple a.nx a.ny a.nz)
 sized c = sized_of 64 _ (within c)
 
-mul-if2 : tie.Need-overflow-mul-if2
-mul-if2 c = search rules
+overflow_mul-deep : tie.Need-overflow_mul-deep
+overflow_mul-deep c = search rules
 
-sub-if2 : tie.Need-overflow-sub-if2
-sub-if2 c = let s = sized c in omega arith
+overflow_sub-deep : tie.Need-overflow_sub-deep
+overflow_sub-deep c = let s = sized c in omega arith
 
-returns-2 : tie.Need-returns-2
-returns-2 c = layer_given _ _ _ _ (within c.before) c.if2.true
+returns-then-z-deep : tie.Need-returns-then-z-deep
+returns-then-z-deep c = layer_given _ _ _ _ (within c.before) c.if-z-deep.true
 
-grid-cells-requires : tie.Need-grid-cells-requires
-grid-cells-requires c κs = sized_within (omega arith) (sized c.before)
+grid_cells-requires : tie.Need-grid_cells-requires
+grid_cells-requires c κs = sized_within (omega arith) (sized c.before)
 
-returns-3 : tie.Need-returns-3
-returns-3 c =
+returns-then-map-grid_cells : tie.Need-returns-then-map-grid_cells
+returns-then-map-grid_cells c =
     let else2 = c.before.before in
-    map-given _ _ _ _ (within else2.before) else2.if2.false (λ h. c.if3.true (h ∙ sym c.before.grid-cells.ensures))
+    map-given _ _ _ _ (within else2.before) else2.if-z-deep.false (λ h. c.if-map-grid_cells.true (h ∙ sym c.before.grid_cells.ensures))
 
-pages-length-requires : tie.Need-pages-length-requires
-pages-length-requires c κs = let s = sized c.before.before.before in (omega arith, omega arith, omega arith, omega arith)
+pages_length-requires : tie.Need-pages_length-requires
+pages_length-requires c κs = let s = sized c.before.before.before in (omega arith, omega arith, omega arith, omega arith)
 
-returns-4 : tie.Need-returns-4
-returns-4 c =
+returns-then-tray-pages_length : tie.Need-returns-then-tray-pages_length
+returns-then-tray-pages_length c =
     let else3 = c.before.before in
     let else2 = else3.before.before in
-    tray_given _ _ _ _ (within else2.before) else2.if2.false (else3.if3.false ∙ else3.before.grid-cells.ensures) _ c.before.pages_length.ensures (λ e. omega arith)
+    tray_given _ _ _ _ (within else2.before) else2.if-z-deep.false (else3.if-map-grid_cells.false ∙ else3.before.grid_cells.ensures) _ c.before.pages_length.ensures (λ e. omega arith)
 
-returns-5 : tie.Need-returns-5
-returns-5 c =
+returns : tie.Need-returns
+returns c =
     let else3 = c.before.before in
     let else2 = else3.before.before in
-    none_given _ _ _ _ (within else2.before) else2.if2.false (else3.if3.false ∙ else3.before.grid-cells.ensures) _ c.before.pages_length.ensures c.if4.false
+    none_given _ _ _ _ (within else2.before) else2.if-z-deep.false (else3.if-map-grid_cells.false ∙ else3.before.grid_cells.ensures) _ c.before.pages_length.ensures c.if-tray-pages_length.false
 
 pub refusal_spec : {M : Type 1} → statement M
 refusal_spec =
     tie.close
     (tie.spec
-    off-size-requires
-    returns
-    mul-if2
-    sub-if2
-    returns-2
-    grid-cells-requires
-    returns-3
-    pages-length-requires
-    returns-4
-    returns-5)
+    off_size-requires
+    returns-then-off_size
+    overflow_mul-deep
+    overflow_sub-deep
+    returns-then-z-deep
+    grid_cells-requires
+    returns-then-map-grid_cells
+    pages_length-requires
+    returns-then-tray-pages_length
+    returns)

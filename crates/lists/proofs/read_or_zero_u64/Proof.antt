@@ -4,17 +4,17 @@ use Rattle.lists.proofs.Lists.{past}
 use Rattle.lists.proofs.read_or_zero_u64.Statement.{statement}
 use Rattle.lists.proofs.read_or_zero_u64.Tie as tie
 
+returns-then-i-xs : tie.Need-returns-then-i-xs
+returns-then-i-xs c = search past
+
+offset_bounds-xs-i : tie.Need-offset_bounds-xs-i
+offset_bounds-xs-i c = search rules
+
+bounds-xs-i : tie.Need-bounds-xs-i
+bounds-xs-i c = search rules
+
 returns : tie.Need-returns
-returns c = search past
-
-mul-result : tie.Need-overflow-mul-result
-mul-result c = search rules
-
-shared-slice-read-result : tie.Need-shared-slice-read-result
-shared-slice-read-result c = search rules
-
-returns-2 : tie.Need-returns-2
-returns-2 c = search rules
+returns c = search rules
 
 pub read_or_zero_u64_spec : {M : Type 1} → statement M
-read_or_zero_u64_spec = tie.close (tie.spec returns mul-result shared-slice-read-result returns-2)
+read_or_zero_u64_spec = tie.close (tie.spec returns-then-i-xs offset_bounds-xs-i bounds-xs-i returns)

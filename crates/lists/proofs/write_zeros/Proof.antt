@@ -9,51 +9,51 @@ use Rattle.lists.proofs.Overlay.{overlay_none, overlay_next, overlay_end}
 use Rattle.lists.proofs.write_zeros.Statement.{statement}
 use Rattle.lists.proofs.write_zeros.Tie as tie
 
-abbrev invariant-loop : tie.invariant-loop
-invariant-loop xs₀ from n i₀ xs i = (i ≤ n) × (length xs ≡ length xs₀) × (xs ≡ overlay xs₀ from (λ _. 0) i)
+abbrev invariant-loop-i : tie.invariant-loop-i
+invariant-loop-i xs₀ from n i₀ xs i = (i ≤ n) × (length xs ≡ length xs₀) × (xs ≡ overlay xs₀ from (λ _. 0) i)
 
-abbrev decreases-loop : tie.decreases-loop
-decreases-loop xs₀ from n i₀ xs i = n - i
+abbrev decreases-loop-i : tie.decreases-loop-i
+decreases-loop-i xs₀ from n i₀ xs i = n - i
 
-loop-holds : tie.Need-loop-init invariant-loop decreases-loop
-loop-holds c = (omega arith, refl, overlay_none _ _ _)
+loop-i-init : tie.Need-loop-i-init invariant-loop-i decreases-loop-i
+loop-i-init c = (omega arith, refl, overlay_none _ _ _)
 
-add_at : tie.Need-overflow-add-at invariant-loop decreases-loop
-add_at c = search rules
+overflow_add-at : tie.Need-overflow_add-at invariant-loop-i decreases-loop-i
+overflow_add-at c = search rules
 
-mul-xs : tie.Need-overflow-mul-xs invariant-loop decreases-loop
-mul-xs c = search rules
+offset_bounds-xs-at : tie.Need-offset_bounds-xs-at invariant-loop-i decreases-loop-i
+offset_bounds-xs-at c = search rules
 
-slice-write-xs : tie.Need-slice-write-xs invariant-loop decreases-loop
-slice-write-xs c = search rules
+bounds-xs-at : tie.Need-bounds-xs-at invariant-loop-i decreases-loop-i
+bounds-xs-at c = search rules
 
-add-i : tie.Need-overflow-add-i invariant-loop decreases-loop
-add-i c = search rules
+overflow_add-i : tie.Need-overflow_add-i invariant-loop-i decreases-loop-i
+overflow_add-i c = search rules
 
-loop-less : tie.Need-loop-smaller invariant-loop decreases-loop
-loop-less c = search rules
+loop-i-smaller : tie.Need-loop-i-smaller invariant-loop-i decreases-loop-i
+loop-i-smaller c = search rules
 
-loop-again : tie.Need-loop-preserved invariant-loop decreases-loop
-loop-again c = search (rules, overlay_next)
+loop-i-preserved : tie.Need-loop-i-preserved invariant-loop-i decreases-loop-i
+loop-i-preserved c = search (rules, overlay_next)
 
-same_length : tie.Need-same-length invariant-loop decreases-loop
-same_length c = search rules
+shape_of-xs : tie.Need-shape_of-xs invariant-loop-i decreases-loop-i
+shape_of-xs c = search rules
 
-returns : tie.Need-returns invariant-loop decreases-loop
+returns : tie.Need-returns invariant-loop-i decreases-loop-i
 returns c = search overlay_end
 
 pub write_zeros_spec : {M : Type 1} → statement M
 write_zeros_spec =
     tie.close
     (tie.spec
-    invariant-loop
-    decreases-loop
-    loop-holds
-    add_at
-    mul-xs
-    slice-write-xs
-    add-i
-    loop-less
-    loop-again
-    same_length
+    invariant-loop-i
+    decreases-loop-i
+    loop-i-init
+    overflow_add-at
+    offset_bounds-xs-at
+    bounds-xs-at
+    overflow_add-i
+    loop-i-smaller
+    loop-i-preserved
+    shape_of-xs
     returns)

@@ -4,24 +4,24 @@ use Rattle.pass_first.proofs.MarkLaws.{larger_other, larger_less, larger_more}
 use Rattle.pass_first.proofs.larger_at.Statement.{statement}
 use Rattle.pass_first.proofs.larger_at.Tie as tie
 
-order-of-requires : tie.Need-order-of-requires
-order-of-requires c κs = search rules
+order_of-requires : tie.Need-order_of-requires
+order_of-requires c κs = search rules
 
-returns : tie.Need-returns
-returns c = search larger_other
+returns-then-order_of-j : tie.Need-returns-then-order_of-j
+returns-then-order_of-j c = search larger_other
 
-mul-v : tie.Need-overflow-mul-v
-mul-v c = search rules
+offset_bounds-map-p : tie.Need-offset_bounds-map-p
+offset_bounds-map-p c = search rules
 
-shared-slice-read-v : tie.Need-shared-slice-read-v
-shared-slice-read-v c = search rules
+bounds-map-p : tie.Need-bounds-map-p
+bounds-map-p c = search rules
 
-returns-2 : tie.Need-returns-2
-returns-2 c = search larger_less
+returns-then-v-m : tie.Need-returns-then-v-m
+returns-then-v-m c = search larger_less
 
-returns-3 : tie.Need-returns-3
-returns-3 c = search larger_more
+returns-else-v-m : tie.Need-returns-else-v-m
+returns-else-v-m c = search larger_more
 
 pub larger_at_spec : {M : Type 1} → statement M
 larger_at_spec =
-    tie.close (tie.spec order-of-requires returns mul-v shared-slice-read-v returns-2 returns-3)
+    tie.close (tie.spec order_of-requires returns-then-order_of-j offset_bounds-map-p bounds-map-p returns-then-v-m returns-else-v-m)

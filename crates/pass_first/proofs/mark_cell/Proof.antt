@@ -6,61 +6,61 @@ use Rattle.pass_first.proofs.MarkLaws.{marks_past, marks_none, marks_beyond, mar
 use Rattle.pass_first.proofs.mark_cell.Statement.{statement}
 use Rattle.pass_first.proofs.mark_cell.Tie as tie
 
-order-of-requires : tie.Need-order-of-requires
-order-of-requires c κs = search rules
+order_of-requires : tie.Need-order_of-requires
+order_of-requires c κs = search rules
 
-returns : tie.Need-returns
-returns c = search marks_past
+returns-then-order_of-j : tie.Need-returns-then-order_of-j
+returns-then-order_of-j c = search marks_past
 
-mul_wide : tie.Need-overflow-mul-wide
-mul_wide c = search rules
+offset_bounds-map-p : tie.Need-offset_bounds-map-p
+offset_bounds-map-p c = search rules
 
-shared-slice-read-wide : tie.Need-shared-slice-read-wide
-shared-slice-read-wide c = search rules
+bounds-map-p : tie.Need-bounds-map-p
+bounds-map-p c = search rules
 
-wide-requires : tie.Need-wide-requires
-wide-requires c κs = search rules
+wide-v-requires : tie.Need-wide-v-requires
+wide-v-requires c κs = search rules
 
-returns-2 : tie.Need-returns-2
-returns-2 c = search marks_none
+returns-then-v-eq0 : tie.Need-returns-then-v-eq0
+returns-then-v-eq0 c = search marks_none
 
-returns-3 : tie.Need-returns-3
-returns-3 c = search marks_beyond
+returns-then-v-marks : tie.Need-returns-then-v-marks
+returns-then-v-marks c = search marks_beyond
 
-cast-marks : tie.Need-overflow-cast-marks
-cast-marks c =
+overflow_cast-marks : tie.Need-overflow_cast-marks
+overflow_cast-marks c =
     let back4 = c.before.before.before.before in
     omega (arith, cells_high back4.before.before.before.before.requires.0.sized)
 
-sub-marks : tie.Need-overflow-sub-marks
-sub-marks c = search rules
+overflow_sub-marks : tie.Need-overflow_sub-marks
+overflow_sub-marks c = search rules
 
-mul-marks : tie.Need-overflow-mul-marks
-mul-marks c = search rules
+offset_bounds-marks-v : tie.Need-offset_bounds-marks-v
+offset_bounds-marks-v c = search rules
 
-slice-write-marks : tie.Need-slice-write-marks
-slice-write-marks c = search rules
+bounds-marks-v : tie.Need-bounds-marks-v
+bounds-marks-v c = search rules
 
-same_length : tie.Need-same-length
-same_length c = search rules
+shape_of-marks : tie.Need-shape_of-marks
+shape_of-marks c = search rules
 
-returns-4 : tie.Need-returns-4
-returns-4 c = search marks_set
+returns : tie.Need-returns
+returns c = search marks_set
 
 pub mark_cell_spec : {M : Type 1} → statement M
 mark_cell_spec =
     tie.close
     (tie.spec
-    order-of-requires
-    returns
-    mul_wide
-    shared-slice-read-wide
-    wide-requires
-    returns-2
-    returns-3
-    cast-marks
-    sub-marks
-    mul-marks
-    slice-write-marks
-    same_length
-    returns-4)
+    order_of-requires
+    returns-then-order_of-j
+    offset_bounds-map-p
+    bounds-map-p
+    wide-v-requires
+    returns-then-v-eq0
+    returns-then-v-marks
+    overflow_cast-marks
+    overflow_sub-marks
+    offset_bounds-marks-v
+    bounds-marks-v
+    shape_of-marks
+    returns)

@@ -8,41 +8,41 @@ use Rattle.cells.proofs.ExtentLaws.{layer_low, layer_high}
 use Rattle.pass_first.proofs.order_of.Statement.{statement}
 use Rattle.pass_first.proofs.order_of.Tie as tie
 
-mul-w : tie.Need-overflow-mul-w
-mul-w c = search rules
+overflow_mul-w : tie.Need-overflow_mul-w
+overflow_mul-w c = search rules
 
-sub-w : tie.Need-overflow-sub-w
-sub-w c = search rules
+overflow_sub-w : tie.Need-overflow_sub-w
+overflow_sub-w c = search rules
 
-mul-h : tie.Need-overflow-mul-h
-mul-h c = search rules
+overflow_mul-h : tie.Need-overflow_mul-h
+overflow_mul-h c = search rules
 
-sub-h : tie.Need-overflow-sub-h
-sub-h c = search rules
+overflow_sub-h : tie.Need-overflow_sub-h
+overflow_sub-h c = search rules
 
-rem-result : tie.Need-nonzero-rem-result
-rem-result c = search rules
+nonzero_rem-result : tie.Need-nonzero_rem-result
+nonzero_rem-result c = search rules
 
-div-result : tie.Need-nonzero-div-result
-div-result c = search rules
+nonzero_div-result : tie.Need-nonzero_div-result
+nonzero_div-result c = search rules
 
-rem-result-2 : tie.Need-nonzero-rem-result-2
-rem-result-2 c = search rules
+nonzero_rem-result-3 : tie.Need-nonzero_rem-result-3
+nonzero_rem-result-3 c = search rules
 
-add-result : tie.Need-overflow-add-result
-add-result c = search rules
+overflow_add-result : tie.Need-overflow_add-result
+overflow_add-result c = search rules
 
-mul-result : tie.Need-overflow-mul-result
-mul-result c = omega (arith, layer_high c.requires)
+overflow_mul-result : tie.Need-overflow_mul-result
+overflow_mul-result c = omega (arith, layer_high c.requires)
 
-div-result-2 : tie.Need-nonzero-div-result-2
-div-result-2 c = omega (arith, layer_low c.requires)
+nonzero_div-result-2 : tie.Need-nonzero_div-result-2
+nonzero_div-result-2 c = omega (arith, layer_low c.requires)
 
-add-result-2 : tie.Need-overflow-add-result-2
-add-result-2 c = search rules
+overflow_add-result-2 : tie.Need-overflow_add-result-2
+overflow_add-result-2 c = search rules
 
-sub-result : tie.Need-overflow-sub-result
-sub-result c = search rules
+overflow_sub-result : tie.Need-overflow_sub-result
+overflow_sub-result c = search rules
 
 returns : tie.Need-returns
 unfolding order parity place sides
@@ -52,16 +52,16 @@ pub order_of_spec : {M : Type 1} → statement M
 order_of_spec =
     tie.close
     (tie.spec
-    mul-w
-    sub-w
-    mul-h
-    sub-h
-    rem-result
-    div-result
-    rem-result-2
-    add-result
-    mul-result
-    div-result-2
-    add-result-2
-    sub-result
+    overflow_mul-w
+    overflow_sub-w
+    overflow_mul-h
+    overflow_sub-h
+    nonzero_rem-result
+    nonzero_div-result
+    nonzero_rem-result-3
+    overflow_add-result
+    overflow_mul-result
+    nonzero_div-result-2
+    overflow_add-result-2
+    overflow_sub-result
     returns)

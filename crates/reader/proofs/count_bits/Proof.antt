@@ -9,55 +9,55 @@ use Rattle.records.proofs.ReadLaws.{bit_at_lt}
 use Rattle.reader.proofs.count_bits.Statement.{statement}
 use Rattle.reader.proofs.count_bits.Tie as tie
 
-abbrev invariant-loop : tie.invariant-loop
-invariant-loop bytes n whole count₀ c₀ count c = (c ≤ n) × (count ≡ bits_before bytes c)
+abbrev invariant-loop-c : tie.invariant-loop-c
+invariant-loop-c bytes n whole count₀ c₀ count c = (c ≤ n) × (count ≡ bits_before bytes c)
 
-abbrev decreases-loop : tie.decreases-loop
-decreases-loop bytes n whole count₀ c₀ count c = n - c
+abbrev decreases-loop-c : tie.decreases-loop-c
+decreases-loop-c bytes n whole count₀ c₀ count c = n - c
 
-whole-bits-requires : tie.Need-whole-bits-requires invariant-loop decreases-loop
+whole_bits-count-requires : tie.Need-whole_bits-count-requires invariant-loop-c decreases-loop-c
 unfolding bitmap_length
-whole-bits-requires c κs = record { few = omega (arith, c.before.requires.few); bits = omega (arith, c.before.requires.bits) }
+whole_bits-count-requires c κs = record { few = omega (arith, c.before.requires.few); bits = omega (arith, c.before.requires.bits) }
 
-mul-c : tie.Need-overflow-mul-c invariant-loop decreases-loop
-mul-c c = search rules
+overflow_mul-c : tie.Need-overflow_mul-c invariant-loop-c decreases-loop-c
+overflow_mul-c c = search rules
 
-loop-holds : tie.Need-loop-init invariant-loop decreases-loop
-loop-holds c = (omega arith, c.whole-bits.ensures)
+loop-c-init : tie.Need-loop-c-init invariant-loop-c decreases-loop-c
+loop-c-init c = (omega arith, c.whole_bits-count.ensures)
 
-bit-at-requires : tie.Need-bit-at-requires invariant-loop decreases-loop
+bit_at-requires : tie.Need-bit_at-requires invariant-loop-c decreases-loop-c
 unfolding bitmap_length
-bit-at-requires c κs = let m = c.before.before.before.before.requires in omega (arith, m.few, m.bits)
+bit_at-requires c κs = let m = c.before.before.before.before.requires in omega (arith, m.few, m.bits)
 
 -- the bit of the cell
-bit : (c : tie.After-bit-at invariant-loop decreases-loop) → c.bit_at.result < 2
+bit : (c : tie.After-bit_at invariant-loop-c decreases-loop-c) → c.bit_at.result < 2
 bit c = rw c.bit_at.ensures (bit_at_lt _ _)
 
-cast-count : tie.Need-overflow-cast-count invariant-loop decreases-loop
-cast-count c = omega (arith, bit c)
+overflow_cast-count : tie.Need-overflow_cast-count invariant-loop-c decreases-loop-c
+overflow_cast-count c = omega (arith, bit c)
 
-add-count : tie.Need-overflow-add-count invariant-loop decreases-loop
-add-count c =
+overflow_add-count : tie.Need-overflow_add-count invariant-loop-c decreases-loop-c
+overflow_add-count c =
     let st4 = c.before.before.before.before in
     let st = st4.before in
-    omega (arith, bit c, bits_bound st.args.bytes.now c.before.before.loop.c, st.requires.few)
+    omega (arith, bit c, bits_bound st.args.bytes.now c.before.before.loop-c.c, st.requires.few)
 
-add-c : tie.Need-overflow-add-c invariant-loop decreases-loop
-add-c c = search rules
+overflow_add-c : tie.Need-overflow_add-c invariant-loop-c decreases-loop-c
+overflow_add-c c = search rules
 
-loop-less : tie.Need-loop-smaller invariant-loop decreases-loop
-loop-less c = search rules
+loop-c-smaller : tie.Need-loop-c-smaller invariant-loop-c decreases-loop-c
+loop-c-smaller c = search rules
 
-loop-again : tie.Need-loop-preserved invariant-loop decreases-loop
-loop-again c =
+loop-c-preserved : tie.Need-loop-c-preserved invariant-loop-c decreases-loop-c
+loop-c-preserved c =
     let r4 = c.before.before.before.before in
     let r = r4.before.args.bytes.now in
-    let l = c.before.before.loop in
+    let l = c.before.before.loop-c in
     (omega arith, omega (arith, c.bit_at.ensures, bits_more r l.c))
 
-returns : tie.Need-returns invariant-loop decreases-loop
+returns : tie.Need-returns invariant-loop-c decreases-loop-c
 returns c =
-    let l = c.before.loop in
+    let l = c.before.loop-c in
     let e : l.c ≡ c.before.before.before.before.args.n = omega arith in
     l.invariant.1 ∙ rw e
 
@@ -65,15 +65,15 @@ pub count_bits_spec : {M : Type 1} → statement M
 count_bits_spec =
     tie.close
     (tie.spec
-    invariant-loop
-    decreases-loop
-    whole-bits-requires
-    mul-c
-    loop-holds
-    bit-at-requires
-    cast-count
-    add-count
-    add-c
-    loop-less
-    loop-again
+    invariant-loop-c
+    decreases-loop-c
+    whole_bits-count-requires
+    overflow_mul-c
+    loop-c-init
+    bit_at-requires
+    overflow_cast-count
+    overflow_add-count
+    overflow_add-c
+    loop-c-smaller
+    loop-c-preserved
     returns)

@@ -6,61 +6,61 @@ use Rattle.records.proofs.BitLaws.{field_four}
 use Rattle.reader.proofs.four.Statement.{statement}
 use Rattle.reader.proofs.four.Tie as tie
 
-shared-slice-read-a : tie.Need-shared-slice-read-a
-shared-slice-read-a c = search rules
+bounds-bytes-at : tie.Need-bounds-bytes-at
+bounds-bytes-at c = search rules
 
-cast-a : tie.Need-overflow-cast-a
-cast-a c = omega (arith, c.shared-slice-known.given c.before.args.at)
+overflow_cast-a : tie.Need-overflow_cast-a
+overflow_cast-a c = omega (arith, c.shared_slice_known-1.given c.before.args.at)
 
-add-b : tie.Need-overflow-add-b
-add-b c = search rules
+overflow_add-b : tie.Need-overflow_add-b
+overflow_add-b c = search rules
 
-shared-slice-read-b : tie.Need-shared-slice-read-b
-shared-slice-read-b c = search rules
+bounds-bytes-at-2 : tie.Need-bounds-bytes-at-2
+bounds-bytes-at-2 c = search rules
 
-cast-b : tie.Need-overflow-cast-b
-cast-b c = omega (arith, c.shared-slice-known2.given (c.before.before.args.at + 1))
+overflow_cast-b : tie.Need-overflow_cast-b
+overflow_cast-b c = omega (arith, c.shared_slice_known-2-1.given (c.before.before.args.at + 1))
 
-add-c : tie.Need-overflow-add-c
-add-c c = search rules
+overflow_add-c : tie.Need-overflow_add-c
+overflow_add-c c = search rules
 
-shared-slice-read-c : tie.Need-shared-slice-read-c
-shared-slice-read-c c = search rules
+bounds-bytes-at-3 : tie.Need-bounds-bytes-at-3
+bounds-bytes-at-3 c = search rules
 
-cast-c : tie.Need-overflow-cast-c
-cast-c c = omega (arith, c.shared-slice-known3.given (c.before.before.before.args.at + 2))
+overflow_cast-c : tie.Need-overflow_cast-c
+overflow_cast-c c = omega (arith, c.shared_slice_known-3-1.given (c.before.before.before.args.at + 2))
 
-add-d : tie.Need-overflow-add-d
-add-d c = search rules
+overflow_add-d : tie.Need-overflow_add-d
+overflow_add-d c = search rules
 
-shared-slice-read-d : tie.Need-shared-slice-read-d
-shared-slice-read-d c = search rules
+bounds-bytes-at-4 : tie.Need-bounds-bytes-at-4
+bounds-bytes-at-4 c = search rules
 
-cast-d : tie.Need-overflow-cast-d
-cast-d c = omega (arith, c.shared-slice-known4.given (c.before.before.before.before.args.at + 3))
+overflow_cast-d : tie.Need-overflow_cast-d
+overflow_cast-d c = omega (arith, c.shared_slice_known-4-1.given (c.before.before.before.before.args.at + 3))
 
-mul-result : tie.Need-overflow-mul-result
-mul-result c = omega (arith, c.shared-slice-known4.given (c.before.before.before.before.args.at + 3))
+overflow_mul-result : tie.Need-overflow_mul-result
+overflow_mul-result c = omega (arith, c.shared_slice_known-4-1.given (c.before.before.before.before.args.at + 3))
 
-add-result : tie.Need-overflow-add-result
-add-result c =
-    omega (arith, c.shared-slice-known4.given (c.before.before.before.before.args.at + 3), c.shared-slice-known4.given (c.before.before.before.before.args.at + 2))
+overflow_add-result : tie.Need-overflow_add-result
+overflow_add-result c =
+    omega (arith, c.shared_slice_known-4-1.given (c.before.before.before.before.args.at + 3), c.shared_slice_known-4-1.given (c.before.before.before.before.args.at + 2))
 
-mul-result-2 : tie.Need-overflow-mul-result-2
-mul-result-2 c =
-    omega (arith, c.shared-slice-known4.given (c.before.before.before.before.args.at + 3), c.shared-slice-known4.given (c.before.before.before.before.args.at + 2))
+overflow_mul-result-2 : tie.Need-overflow_mul-result-2
+overflow_mul-result-2 c =
+    omega (arith, c.shared_slice_known-4-1.given (c.before.before.before.before.args.at + 3), c.shared_slice_known-4-1.given (c.before.before.before.before.args.at + 2))
 
-add-result-2 : tie.Need-overflow-add-result-2
-add-result-2 c =
-    omega (arith, c.shared-slice-known4.given (c.before.before.before.before.args.at + 3), c.shared-slice-known4.given (c.before.before.before.before.args.at + 2), c.shared-slice-known4.given (c.before.before.before.before.args.at + 1))
+overflow_add-result-2 : tie.Need-overflow_add-result-2
+overflow_add-result-2 c =
+    omega (arith, c.shared_slice_known-4-1.given (c.before.before.before.before.args.at + 3), c.shared_slice_known-4-1.given (c.before.before.before.before.args.at + 2), c.shared_slice_known-4-1.given (c.before.before.before.before.args.at + 1))
 
-mul-result-3 : tie.Need-overflow-mul-result-3
-mul-result-3 c =
-    omega (arith, c.shared-slice-known4.given (c.before.before.before.before.args.at + 3), c.shared-slice-known4.given (c.before.before.before.before.args.at + 2), c.shared-slice-known4.given (c.before.before.before.before.args.at + 1))
+overflow_mul-result-3 : tie.Need-overflow_mul-result-3
+overflow_mul-result-3 c =
+    omega (arith, c.shared_slice_known-4-1.given (c.before.before.before.before.args.at + 3), c.shared_slice_known-4-1.given (c.before.before.before.before.args.at + 2), c.shared_slice_known-4-1.given (c.before.before.before.before.args.at + 1))
 
-add-result-3 : tie.Need-overflow-add-result-3
-add-result-3 c =
-    omega (arith, c.shared-slice-known4.given (c.before.before.before.before.args.at + 3), c.shared-slice-known4.given (c.before.before.before.before.args.at + 2), c.shared-slice-known4.given (c.before.before.before.before.args.at + 1), c.shared-slice-known4.given c.before.before.before.before.args.at)
+overflow_add-result-3 : tie.Need-overflow_add-result-3
+overflow_add-result-3 c =
+    omega (arith, c.shared_slice_known-4-1.given (c.before.before.before.before.args.at + 3), c.shared_slice_known-4-1.given (c.before.before.before.before.args.at + 2), c.shared_slice_known-4-1.given (c.before.before.before.before.args.at + 1), c.shared_slice_known-4-1.given c.before.before.before.before.args.at)
 
 returns : tie.Need-returns
 returns c = field_four _ _ c.before.before.before.before.requires
@@ -69,21 +69,21 @@ pub four_spec : {M : Type 1} → statement M
 four_spec =
     tie.close
     (tie.spec
-    shared-slice-read-a
-    cast-a
-    add-b
-    shared-slice-read-b
-    cast-b
-    add-c
-    shared-slice-read-c
-    cast-c
-    add-d
-    shared-slice-read-d
-    cast-d
-    mul-result
-    add-result
-    mul-result-2
-    add-result-2
-    mul-result-3
-    add-result-3
+    bounds-bytes-at
+    overflow_cast-a
+    overflow_add-b
+    bounds-bytes-at-2
+    overflow_cast-b
+    overflow_add-c
+    bounds-bytes-at-3
+    overflow_cast-c
+    overflow_add-d
+    bounds-bytes-at-4
+    overflow_cast-d
+    overflow_mul-result
+    overflow_add-result
+    overflow_mul-result-2
+    overflow_add-result-2
+    overflow_mul-result-3
+    overflow_add-result-3
     returns)

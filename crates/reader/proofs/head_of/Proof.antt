@@ -25,7 +25,7 @@ two-requires-6 c κs = search rules
 returns : tie.Need-returns
 returns c =
     let back4 = c.before.before.before.before in
-    head_is _ _ _ _ _ _ _ back4.before.two.ensures c.before.before.before.before.two2.ensures c.before.before.before.two3.ensures c.before.before.two4.ensures c.before.two5.ensures c.two6.ensures
+    head_is _ _ _ _ _ _ _ back4.before.two.ensures c.before.before.before.before.two-2.ensures c.before.before.before.two-3.ensures c.before.before.two-4.ensures c.before.two-5.ensures c.two-6.ensures
 
 pub head_of_spec : {M : Type 1} → statement M
 head_of_spec =

@@ -10,80 +10,80 @@ use Rattle.reader.proofs.LoadedLaws.{read_none, read_all}
 use Rattle.reader.proofs.load.Statement.{statement}
 use Rattle.reader.proofs.load.Tie as tie
 
-abbrev invariant-loop : tie.invariant-loop
-invariant-loop bytes map₀ n at₀ whole i₀ map at i = (i ≤ whole) × (length map ≡ length map₀) × ReadTo bytes n (8 * i) at map
+abbrev invariant-loop-i : tie.invariant-loop-i
+invariant-loop-i bytes map₀ n at₀ whole i₀ map at i = (i ≤ whole) × (length map ≡ length map₀) × ReadTo bytes n (8 * i) at map
 
-abbrev decreases-loop : tie.decreases-loop
-decreases-loop bytes map₀ n at₀ whole i₀ map at i = whole - i
+abbrev decreases-loop-i : tie.decreases-loop-i
+decreases-loop-i bytes map₀ n at₀ whole i₀ map at i = whole - i
 
-add_at : tie.Need-overflow-add-at invariant-loop decreases-loop
-add_at c = search rules
+overflow_add-at : tie.Need-overflow_add-at invariant-loop-i decreases-loop-i
+overflow_add-at c = search rules
 
-add-at-2 : tie.Need-overflow-add-at-2 invariant-loop decreases-loop
-add-at-2 c = search rules
+overflow_add-at-2 : tie.Need-overflow_add-at-2 invariant-loop-i decreases-loop-i
+overflow_add-at-2 c = search rules
 
-loop-holds : tie.Need-loop-init invariant-loop decreases-loop
+loop-i-init : tie.Need-loop-i-init invariant-loop-i decreases-loop-i
 unfolding bitmap_length
-loop-holds c = (omega arith, refl, read_none _ _ _)
+loop-i-init c = (omega arith, refl, read_none _ _ _)
 
-load-byte-requires : tie.Need-load-byte-requires invariant-loop decreases-loop
-load-byte-requires c κs =
+load_byte-at-requires : tie.Need-load_byte-at-requires invariant-loop-i decreases-loop-i
+load_byte-at-requires c κs =
     let st4 = c.before.before.before.before in
     let st = st4.before in
-    let l = c.before.before.loop in
+    let l = c.before.before.loop-i in
     rw l.invariant.1 (st.requires.0, st.requires.1, omega arith, omega arith, omega arith, l.invariant.2)
 
-add-i : tie.Need-overflow-add-i invariant-loop decreases-loop
-add-i c = search rules
+overflow_add-i : tie.Need-overflow_add-i invariant-loop-i decreases-loop-i
+overflow_add-i c = search rules
 
-loop-less : tie.Need-loop-smaller invariant-loop decreases-loop
-loop-less c = search rules
+loop-i-smaller : tie.Need-loop-i-smaller invariant-loop-i decreases-loop-i
+loop-i-smaller c = search rules
 
-loop-again : tie.Need-loop-preserved invariant-loop decreases-loop
-loop-again c =
+loop-i-preserved : tie.Need-loop-i-preserved invariant-loop-i decreases-loop-i
+loop-i-preserved c =
     let l4 = c.before.before.before.before in
-    let l = l4.before.loop in
+    let l = l4.before.loop-i in
     let e : 8 * (l.i + 1) ≡ 8 * l.i + 8 = omega arith in
-    (omega arith, omega (arith, l.invariant.1), rw (e, ← l.invariant.1) c.before.before.load_byte.ensures)
+    (omega arith, omega (arith, l.invariant.1), rw (e, ← l.invariant.1) c.before.before.load_byte-at.ensures)
 
-load-byte-requires-2 : tie.Need-load-byte-requires-2 invariant-loop decreases-loop
-load-byte-requires-2 c κs =
+load_byte-requires : tie.Need-load_byte-requires invariant-loop-i decreases-loop-i
+load_byte-requires c κs =
     let st4 = c.before.before.before.before in
     let st = st4.before.before in
-    let l = c.before.before.before.loop in
+    let l = c.before.before.before.loop-i in
     let e : l.i ≡ length st.args.map.now / 8 = omega arith in
     rw l.invariant.1 (st.requires.0, st.requires.1, omega arith, omega arith, omega arith, rw e at l.invariant.2)
 
-same_length : tie.Need-same-length invariant-loop decreases-loop
-same_length c = search rules
+shape_of-map-then-n-ne0 : tie.Need-shape_of-map-then-n-ne0 invariant-loop-i decreases-loop-i
+shape_of-map-then-n-ne0 c = search rules
 
-returns : tie.Need-returns invariant-loop decreases-loop
-returns c =
+returns-then-n-ne0 : tie.Need-returns-then-n-ne0 invariant-loop-i decreases-loop-i
+returns-then-n-ne0 c =
     let l4 = c.before.before.before.before in
-    let l = l4.before.before.loop in
-    read_all _ _ _ (rw l.invariant.1 at c.before.before.load-byte2.ensures) (omega arith) (omega (arith, l.invariant.1))
+    let l = l4.before.before.loop-i in
+    read_all _ _ _ (rw l.invariant.1 at c.before.before.load_byte.ensures) (omega arith) (omega (arith, l.invariant.1))
 
-same-length-2 : tie.Need-same-length-2 invariant-loop decreases-loop
-same-length-2 c = search rules
+shape_of-map-else-n-ne0 : tie.Need-shape_of-map-else-n-ne0 invariant-loop-i decreases-loop-i
+shape_of-map-else-n-ne0 c = search rules
 
-returns-2 : tie.Need-returns-2 invariant-loop decreases-loop
-returns-2 c = let l = c.before.before.loop in read_all _ _ _ l.invariant.2 (omega arith) l.invariant.1
+returns-else-n-ne0 : tie.Need-returns-else-n-ne0 invariant-loop-i decreases-loop-i
+returns-else-n-ne0 c = let l = c.before.before.loop-i in read_all _ _ _ l.invariant.2 (omega arith) l.invariant.1
 
 pub load_spec : {M : Type 1} → statement M
 load_spec =
     tie.close
     (tie.spec
-    invariant-loop
-    decreases-loop
-    add_at
-    add-at-2
-    loop-holds
-    load-byte-requires
-    add-i
-    loop-less
-    loop-again
-    load-byte-requires-2
-    same_length
-    returns
-    same-length-2
-    returns-2)
+    invariant-loop-i
+    decreases-loop-i
+    overflow_add-at
+    overflow_add-at-2
+    loop-i-init
+    load_byte-at-requires
+    overflow_add-i
+    loop-i-smaller
+    loop-i-preserved
+    load_byte-requires
+    shape_of-map-then-n-ne0
+    returns-then-n-ne0
+    shape_of-map-else-n-ne0
+    returns-else-n-ne0)

@@ -12,102 +12,102 @@ use Rattle.reader.proofs.LoadedLaws.{listed_room, read_more}
 use Rattle.reader.proofs.load_byte.Statement.{statement}
 use Rattle.reader.proofs.load_byte.Tie as tie
 
-abbrev invariant-loop : tie.invariant-loop
-invariant-loop bytes i count at map₀ byte next₀ k₀ map next k = (k ≤ count) × (length map ≡ length map₀) × ReadTo bytes (length map₀) (8 * i + k) next map
+abbrev invariant-loop-k : tie.invariant-loop-k
+invariant-loop-k bytes i count at map₀ byte next₀ k₀ map next k = (k ≤ count) × (length map ≡ length map₀) × ReadTo bytes (length map₀) (8 * i + k) next map
 
-abbrev decreases-loop : tie.decreases-loop
-decreases-loop bytes i count at map₀ byte next₀ k₀ map next k = count - k
+abbrev decreases-loop-k : tie.decreases-loop-k
+decreases-loop-k bytes i count at map₀ byte next₀ k₀ map next k = count - k
 
-add-byte : tie.Need-overflow-add-byte invariant-loop decreases-loop
-add-byte c = search rules
+overflow_add-byte : tie.Need-overflow_add-byte invariant-loop-k decreases-loop-k
+overflow_add-byte c = search rules
 
-shared-slice-read-byte : tie.Need-shared-slice-read-byte invariant-loop decreases-loop
+bounds-bytes-i : tie.Need-bounds-bytes-i invariant-loop-k decreases-loop-k
 unfolding bitmap_length
-shared-slice-read-byte c = omega (arith, c.before.before.before.requires.0.bits)
+bounds-bytes-i c = omega (arith, c.before.before.before.requires.0.bits)
 
-loop-holds : tie.Need-loop-init invariant-loop decreases-loop
-loop-holds c =
+loop-k-init : tie.Need-loop-k-init invariant-loop-k decreases-loop-k
+loop-k-init c =
     let st = c.before.before.before in
     let e : 8 * st.args.i + 0 ≡ 8 * st.args.i = omega arith in
     (omega arith, refl, rw e st.requires.5)
 
-cast-b : tie.Need-overflow-cast-b invariant-loop decreases-loop
-cast-b c = search rules
+overflow_cast-b : tie.Need-overflow_cast-b invariant-loop-k decreases-loop-k
+overflow_cast-b c = search rules
 
-shr-b : tie.Need-overflow-shr-b invariant-loop decreases-loop
-shr-b c = search rules
+overflow_shr-b : tie.Need-overflow_shr-b invariant-loop-k decreases-loop-k
+overflow_shr-b c = search rules
 
 -- the cell of the bit, and its bit
-inside_map : (c : tie.In-loop invariant-loop decreases-loop) → let s = c.before.before.before.before in let a = s.before.args in 8 * a.i + c.before.loop.k < length a.map.now
+inside_map : (c : tie.In-loop-k invariant-loop-k decreases-loop-k) → let s = c.before.before.before.before in let a = s.before.args in 8 * a.i + c.before.loop-k.k < length a.map.now
 inside_map c =
     let back4 = c.before.before.before.before in
     omega (arith, back4.before.requires.4)
 
-bit_is : (c : tie.In-loop invariant-loop decreases-loop)
-    → let s = c.before.before.before.before in let a = s.before.args in get_or a.bytes.now (12 + a.i) 0 / 2 ^ c.before.loop.k % 2 ≡ bit_at a.bytes.now (8 * a.i + c.before.loop.k)
+bit_is : (c : tie.In-loop-k invariant-loop-k decreases-loop-k)
+    → let s = c.before.before.before.before in let a = s.before.args in get_or a.bytes.now (12 + a.i) 0 / 2 ^ c.before.loop-k.k % 2 ≡ bit_at a.bytes.now (8 * a.i + c.before.loop-k.k)
 bit_is c =
     let back4 = c.before.before.before.before in
-    sym (bit_at_byte _ _ _ (omega (arith, c.loop-test.true, back4.before.requires.3)))
+    sym (bit_at_byte _ _ _ (omega (arith, c.loop-k-test.true, back4.before.requires.3)))
 
-number-at-requires : tie.Need-number-at-requires invariant-loop decreases-loop
-number-at-requires c κs =
+number_at-requires : tie.Need-number_at-requires invariant-loop-k decreases-loop-k
+number_at-requires c κs =
     let st4 = c.before.before.before.before in
     let st = st4.before in (
       omega arith,
       omega (arith, st.requires.0.bits),
-      λ e. rw c.before.loop.invariant.2.place (listed_room _ _ _ st.requires.1 (inside_map c) (sym (bit_is c) ∙ e)),
+      λ e. rw c.before.loop-k.invariant.2.place (listed_room _ _ _ st.requires.1 (inside_map c) (sym (bit_is c) ∙ e)),
     )
 
-mul-map : tie.Need-overflow-mul-map invariant-loop decreases-loop
-mul-map c = search rules
+overflow_mul-map : tie.Need-overflow_mul-map invariant-loop-k decreases-loop-k
+overflow_mul-map c = search rules
 
-add-map : tie.Need-overflow-add-map invariant-loop decreases-loop
-add-map c = search rules
+overflow_add-map : tie.Need-overflow_add-map invariant-loop-k decreases-loop-k
+overflow_add-map c = search rules
 
-mul-map-2 : tie.Need-overflow-mul-map-2 invariant-loop decreases-loop
-mul-map-2 c = search rules
+offset_bounds-map-i : tie.Need-offset_bounds-map-i invariant-loop-k decreases-loop-k
+offset_bounds-map-i c = search rules
 
-slice-write-map : tie.Need-slice-write-map invariant-loop decreases-loop
-slice-write-map c = search rules
+bounds-map-i : tie.Need-bounds-map-i invariant-loop-k decreases-loop-k
+bounds-map-i c = search rules
 
-cast-next : tie.Need-overflow-cast-next invariant-loop decreases-loop
-cast-next c = search rules
+overflow_cast-next : tie.Need-overflow_cast-next invariant-loop-k decreases-loop-k
+overflow_cast-next c = search rules
 
-mul_next : tie.Need-overflow-mul-next invariant-loop decreases-loop
-mul_next c = search rules
+overflow_mul-next : tie.Need-overflow_mul-next invariant-loop-k decreases-loop-k
+overflow_mul-next c = search rules
 
-add-next : tie.Need-overflow-add-next invariant-loop decreases-loop
+overflow_add-next : tie.Need-overflow_add-next invariant-loop-k decreases-loop-k
 unfolding bitmap_length
-add-next c =
+overflow_add-next c =
     let st4 = c.before.before.before.before in
     let st = st4.before.before in
-    let l = c.before.before.loop in
+    let l = c.before.before.loop-k in
     omega (arith, inside_map c.before, bits_bound st.args.bytes.now (8 * st.args.i + l.k), st.requires.0.few, l.invariant.2.place)
 
-add-k : tie.Need-overflow-add-k invariant-loop decreases-loop
-add-k c = search rules
+overflow_add-k : tie.Need-overflow_add-k invariant-loop-k decreases-loop-k
+overflow_add-k c = search rules
 
-loop-less : tie.Need-loop-smaller invariant-loop decreases-loop
-loop-less c = search rules
+loop-k-smaller : tie.Need-loop-k-smaller invariant-loop-k decreases-loop-k
+loop-k-smaller c = search rules
 
-loop-again : tie.Need-loop-preserved invariant-loop decreases-loop
-loop-again c =
+loop-k-preserved : tie.Need-loop-k-preserved invariant-loop-k decreases-loop-k
+loop-k-preserved c =
     let st4 = c.before.before.before.before in
     let st = st4.before.before in
-    let l = c.before.before.loop in
+    let l = c.before.before.loop-k in
     let e : 8 * st.args.i + (l.k + 1) ≡ 8 * st.args.i + l.k + 1 = omega arith in (
       omega arith,
       simp length-set l.invariant.1,
-      rw e (read_more _ _ _ l.invariant.2 (rw l.invariant.1 (inside_map c.before)) (bit_is c.before) c.number_at_lem.ensures),
+      rw e (read_more _ _ _ l.invariant.2 (rw l.invariant.1 (inside_map c.before)) (bit_is c.before) c.number_at.ensures),
     )
 
-same_length : tie.Need-same-length invariant-loop decreases-loop
-same_length c = search rules
+shape_of-map : tie.Need-shape_of-map invariant-loop-k decreases-loop-k
+shape_of-map c = search rules
 
-returns : tie.Need-returns invariant-loop decreases-loop
+returns : tie.Need-returns invariant-loop-k decreases-loop-k
 returns c =
     let back4 = c.before.before.before.before in
-    let l = c.before.loop in
+    let l = c.before.loop-k in
     let e : l.k ≡ back4.before.args.count = omega arith in
     rw e at l.invariant.2
 
@@ -115,23 +115,23 @@ pub load_byte_spec : {M : Type 1} → statement M
 load_byte_spec =
     tie.close
     (tie.spec
-    invariant-loop
-    decreases-loop
-    add-byte
-    shared-slice-read-byte
-    loop-holds
-    cast-b
-    shr-b
-    number-at-requires
-    mul-map
-    add-map
-    mul-map-2
-    slice-write-map
-    cast-next
-    mul_next
-    add-next
-    add-k
-    loop-less
-    loop-again
-    same_length
+    invariant-loop-k
+    decreases-loop-k
+    overflow_add-byte
+    bounds-bytes-i
+    loop-k-init
+    overflow_cast-b
+    overflow_shr-b
+    number_at-requires
+    overflow_mul-map
+    overflow_add-map
+    offset_bounds-map-i
+    bounds-map-i
+    overflow_cast-next
+    overflow_mul-next
+    overflow_add-next
+    overflow_add-k
+    loop-k-smaller
+    loop-k-preserved
+    shape_of-map
     returns)

@@ -9,54 +9,54 @@ use Rattle.reader.proofs.LoadedLaws.{some_equal, PlacesAsked, places_asked_first
 use Rattle.reader.proofs.spare_set.Statement.{statement}
 use Rattle.reader.proofs.spare_set.Tie as tie
 
-abbrev invariant-loop : tie.invariant-loop
-invariant-loop bytes n end c₀ c = PlacesAsked (bit_at bytes) 1 end (some_equal (bit_at bytes) 1 (consecutive n (end - n))) c
+abbrev invariant-loop-c : tie.invariant-loop-c
+invariant-loop-c bytes n end c₀ c = PlacesAsked (bit_at bytes) 1 end (some_equal (bit_at bytes) 1 (consecutive n (end - n))) c
 
-abbrev decreases-loop : tie.decreases-loop
-decreases-loop bytes n end c₀ c = end - c
+abbrev decreases-loop-c : tie.decreases-loop-c
+decreases-loop-c bytes n end c₀ c = end - c
 
-add-end : tie.Need-overflow-add-end invariant-loop decreases-loop
-add-end c = search rules
+overflow_add-end : tie.Need-overflow_add-end invariant-loop-c decreases-loop-c
+overflow_add-end c = search rules
 
-mul-end : tie.Need-overflow-mul-end invariant-loop decreases-loop
-mul-end c = search rules
+overflow_mul-end : tie.Need-overflow_mul-end invariant-loop-c decreases-loop-c
+overflow_mul-end c = search rules
 
-loop-holds : tie.Need-loop-init invariant-loop decreases-loop
-loop-holds c = places_asked_first refl
+loop-c-init : tie.Need-loop-c-init invariant-loop-c decreases-loop-c
+loop-c-init c = places_asked_first refl
 
-bit-at-requires : tie.Need-bit-at-requires invariant-loop decreases-loop
+bit_at-requires : tie.Need-bit_at-requires invariant-loop-c decreases-loop-c
 unfolding bitmap_length
-bit-at-requires c κs = let m = c.before.before.before.requires in omega (arith, m.few, m.bits)
+bit_at-requires c κs = let m = c.before.before.before.requires in omega (arith, m.few, m.bits)
 
-returns : tie.Need-returns invariant-loop decreases-loop
+returns-then-bit_at-eq1 : tie.Need-returns-then-bit_at-eq1 invariant-loop-c decreases-loop-c
 unfolding bitmap_length
-returns c = search places_asked_found
+returns-then-bit_at-eq1 c = search places_asked_found
 
-add-c : tie.Need-overflow-add-c invariant-loop decreases-loop
-add-c c = search rules
+overflow_add-c : tie.Need-overflow_add-c invariant-loop-c decreases-loop-c
+overflow_add-c c = search rules
 
-loop-less : tie.Need-loop-smaller invariant-loop decreases-loop
-loop-less c = search rules
+loop-c-smaller : tie.Need-loop-c-smaller invariant-loop-c decreases-loop-c
+loop-c-smaller c = search rules
 
-loop-again : tie.Need-loop-preserved invariant-loop decreases-loop
-loop-again c = search places_asked_next
+loop-c-preserved : tie.Need-loop-c-preserved invariant-loop-c decreases-loop-c
+loop-c-preserved c = search places_asked_next
 
-returns-2 : tie.Need-returns-2 invariant-loop decreases-loop
+returns : tie.Need-returns invariant-loop-c decreases-loop-c
 unfolding bitmap_length
-returns-2 c = search places_asked_last
+returns c = search places_asked_last
 
 pub spare_set_spec : {M : Type 1} → statement M
 spare_set_spec =
     tie.close
     (tie.spec
-    invariant-loop
-    decreases-loop
-    add-end
-    mul-end
-    loop-holds
-    bit-at-requires
-    returns
-    add-c
-    loop-less
-    loop-again
-    returns-2)
+    invariant-loop-c
+    decreases-loop-c
+    overflow_add-end
+    overflow_mul-end
+    loop-c-init
+    bit_at-requires
+    returns-then-bit_at-eq1
+    overflow_add-c
+    loop-c-smaller
+    loop-c-preserved
+    returns)

@@ -6,26 +6,26 @@ use Rattle.records.proofs.BitLaws.{field_two}
 use Rattle.reader.proofs.two.Statement.{statement}
 use Rattle.reader.proofs.two.Tie as tie
 
-shared-slice-read-result : tie.Need-shared-slice-read-result
-shared-slice-read-result c = search rules
+bounds-bytes-at : tie.Need-bounds-bytes-at
+bounds-bytes-at c = search rules
 
-cast-result : tie.Need-overflow-cast-result
-cast-result c = omega (arith, c.shared-slice-known.given c.before.args.at)
+overflow_cast-result : tie.Need-overflow_cast-result
+overflow_cast-result c = omega (arith, c.shared_slice_known-1.given c.before.args.at)
 
-add-result : tie.Need-overflow-add-result
-add-result c = search rules
+overflow_add-result : tie.Need-overflow_add-result
+overflow_add-result c = search rules
 
-shared-slice-read-result-2 : tie.Need-shared-slice-read-result-2
-shared-slice-read-result-2 c = search rules
+bounds-bytes-at-2 : tie.Need-bounds-bytes-at-2
+bounds-bytes-at-2 c = search rules
 
-cast-result-2 : tie.Need-overflow-cast-result-2
-cast-result-2 c = omega (arith, c.shared-slice-known2.given (c.before.before.args.at + 1))
+overflow_cast-result-2 : tie.Need-overflow_cast-result-2
+overflow_cast-result-2 c = omega (arith, c.shared_slice_known-2-1.given (c.before.before.args.at + 1))
 
-mul-result : tie.Need-overflow-mul-result
-mul-result c = omega (arith, c.shared-slice-known2.given (c.before.before.args.at + 1))
+overflow_mul-result : tie.Need-overflow_mul-result
+overflow_mul-result c = omega (arith, c.shared_slice_known-2-1.given (c.before.before.args.at + 1))
 
-add-result-2 : tie.Need-overflow-add-result-2
-add-result-2 c = omega (arith, c.shared-slice-known2.given c.before.before.args.at, c.shared-slice-known2.given (c.before.before.args.at + 1))
+overflow_add-result-2 : tie.Need-overflow_add-result-2
+overflow_add-result-2 c = omega (arith, c.shared_slice_known-2-1.given c.before.before.args.at, c.shared_slice_known-2-1.given (c.before.before.args.at + 1))
 
 returns : tie.Need-returns
 returns c = field_two _ _ c.before.before.requires
@@ -34,11 +34,11 @@ pub two_spec : {M : Type 1} → statement M
 two_spec =
     tie.close
     (tie.spec
-    shared-slice-read-result
-    cast-result
-    add-result
-    shared-slice-read-result-2
-    cast-result-2
-    mul-result
-    add-result-2
+    bounds-bytes-at
+    overflow_cast-result
+    overflow_add-result
+    bounds-bytes-at-2
+    overflow_cast-result-2
+    overflow_mul-result
+    overflow_add-result-2
     returns)

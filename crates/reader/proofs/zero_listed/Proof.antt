@@ -8,53 +8,53 @@ use Rattle.reader.proofs.LoadedLaws.{some_equal, PlacesAsked, places_asked_first
 use Rattle.reader.proofs.zero_listed.Statement.{statement}
 use Rattle.reader.proofs.zero_listed.Tie as tie
 
-abbrev invariant-loop : tie.invariant-loop
-invariant-loop bytes at count k₀ k =
+abbrev invariant-loop-k : tie.invariant-loop-k
+invariant-loop-k bytes at count k₀ k =
     let number : ℕ → ℕ = λ i. field_at bytes (at + 4 * i) 4 in
     PlacesAsked number 0 count (some_equal number 0 (consecutive 0 count)) k
 
-abbrev decreases-loop : tie.decreases-loop
-decreases-loop bytes at count k₀ k = count - k
+abbrev decreases-loop-k : tie.decreases-loop-k
+decreases-loop-k bytes at count k₀ k = count - k
 
-loop-holds : tie.Need-loop-init invariant-loop decreases-loop
-loop-holds c = places_asked_first (omega arith)
+loop-k-init : tie.Need-loop-k-init invariant-loop-k decreases-loop-k
+loop-k-init c = places_asked_first (omega arith)
 
-mul-four : tie.Need-overflow-mul-four invariant-loop decreases-loop
-mul-four c = search rules
+overflow_mul-k : tie.Need-overflow_mul-k invariant-loop-k decreases-loop-k
+overflow_mul-k c = search rules
 
-add-four : tie.Need-overflow-add-four invariant-loop decreases-loop
-add-four c = search rules
+overflow_add-at : tie.Need-overflow_add-at invariant-loop-k decreases-loop-k
+overflow_add-at c = search rules
 
-four-requires : tie.Need-four-requires invariant-loop decreases-loop
+four-requires : tie.Need-four-requires invariant-loop-k decreases-loop-k
 four-requires c κs = search rules
 
-returns : tie.Need-returns invariant-loop decreases-loop
-returns c = search places_asked_found
+returns-then-four-eq0 : tie.Need-returns-then-four-eq0 invariant-loop-k decreases-loop-k
+returns-then-four-eq0 c = search places_asked_found
 
-add-k : tie.Need-overflow-add-k invariant-loop decreases-loop
-add-k c = search rules
+overflow_add-k : tie.Need-overflow_add-k invariant-loop-k decreases-loop-k
+overflow_add-k c = search rules
 
-loop-less : tie.Need-loop-smaller invariant-loop decreases-loop
-loop-less c = search rules
+loop-k-smaller : tie.Need-loop-k-smaller invariant-loop-k decreases-loop-k
+loop-k-smaller c = search rules
 
-loop-again : tie.Need-loop-preserved invariant-loop decreases-loop
-loop-again c = search places_asked_next
+loop-k-preserved : tie.Need-loop-k-preserved invariant-loop-k decreases-loop-k
+loop-k-preserved c = search places_asked_next
 
-returns-2 : tie.Need-returns-2 invariant-loop decreases-loop
-returns-2 c = search places_asked_last
+returns : tie.Need-returns invariant-loop-k decreases-loop-k
+returns c = search places_asked_last
 
 pub zero_listed_spec : {M : Type 1} → statement M
 zero_listed_spec =
     tie.close
     (tie.spec
-    invariant-loop
-    decreases-loop
-    loop-holds
-    mul-four
-    add-four
+    invariant-loop-k
+    decreases-loop-k
+    loop-k-init
+    overflow_mul-k
+    overflow_add-at
     four-requires
-    returns
-    add-k
-    loop-less
-    loop-again
-    returns-2)
+    returns-then-four-eq0
+    overflow_add-k
+    loop-k-smaller
+    loop-k-preserved
+    returns)

@@ -6,16 +6,16 @@ use Rattle.strains.proofs.Whole.{in_range, out_of_range}
 use Rattle.strains.proofs.is_strain.Statement.{statement}
 use Rattle.strains.proofs.is_strain.Tie as tie
 
-magnitude-requires : tie.Need-magnitude-requires
-magnitude-requires c κs = search rules
+magnitude-a-requires : tie.Need-magnitude-a-requires
+magnitude-a-requires c κs = search rules
 
-returns : tie.Need-returns
+returns-then-a : tie.Need-returns-then-a
 unfolding of_bits
-returns c = rw c.before.magnitude.ensures (in_range _ (rw c.before.magnitude.ensures at c.if1.true))
+returns-then-a c = rw c.before.magnitude-a.ensures (in_range _ (rw c.before.magnitude-a.ensures at c.if-a.true))
 
-returns-2 : tie.Need-returns-2
+returns-else-a : tie.Need-returns-else-a
 unfolding of_bits
-returns-2 c = sym (out_of_range _ (rw c.before.magnitude.ensures at c.if1.false))
+returns-else-a c = sym (out_of_range _ (rw c.before.magnitude-a.ensures at c.if-a.false))
 
 pub is_strain_spec : {M : Type 1} → statement M
-is_strain_spec = tie.close (tie.spec magnitude-requires returns returns-2)
+is_strain_spec = tie.close (tie.spec magnitude-a-requires returns-then-a returns-else-a)

@@ -5,13 +5,13 @@ use lib.Ieee.{of_bits, neg}
 use Rattle.strains.proofs.magnitude.Statement.{statement}
 use Rattle.strains.proofs.magnitude.Tie as tie
 
-returns : tie.Need-returns
+returns-then-x : tie.Need-returns-then-x
 unfolding of_bits
-returns c = sym (ap (λ (t : Bool). cond t (neg c.before.args.x) c.before.args.x) c.if1.true)
+returns-then-x c = sym (ap (λ (t : Bool). cond t (neg c.before.args.x) c.before.args.x) c.if-x.true)
 
-returns-2 : tie.Need-returns-2
+returns-else-x : tie.Need-returns-else-x
 unfolding of_bits
-returns-2 c = sym (ap (λ (t : Bool). cond t (neg c.before.args.x) c.before.args.x) c.if1.false)
+returns-else-x c = sym (ap (λ (t : Bool). cond t (neg c.before.args.x) c.before.args.x) c.if-x.false)
 
 pub magnitude_spec : {M : Type 1} → statement M
-magnitude_spec = tie.close (tie.spec returns returns-2)
+magnitude_spec = tie.close (tie.spec returns-then-x returns-else-x)

@@ -4,39 +4,39 @@ use borrow.Author.Rules.{rules}
 use Rattle.totals.proofs.add_strain.Statement.{statement}
 use Rattle.totals.proofs.add_strain.Tie as tie
 
-enum-known-r : tie.Need-enum-known-r
-enum-known-r c = search rules
+enum_known-r : tie.Need-enum_known-r
+enum_known-r c = search rules
 
-add-at-requires : tie.Need-add-at-requires
-add-at-requires c κs = search rules
+add_at-requires : tie.Need-add_at-requires
+add_at-requires c κs = search rules
 
-enum_told : tie.Need-enum-told
-enum_told c = search rules
+enum_told-1 : tie.Need-enum_told-1
+enum_told-1 c = search rules
 
-enum-told-2 : tie.Need-enum-told-2
-enum-told-2 c = search rules
+enum_told-in-Missing : tie.Need-enum_told-in-Missing
+enum_told-in-Missing c = search rules
 
-same_length : tie.Need-same-length
-same_length c = search rules
+shape_of-sums : tie.Need-shape_of-sums
+shape_of-sums c = search rules
 
-returns : tie.Need-returns
-returns c = search strain_sum
+returns-in-Strain : tie.Need-returns-in-Strain
+returns-in-Strain c = search strain_sum
 
-returns-2 : tie.Need-returns-2
-returns-2 c = search clipped_sum
+returns-in-Clipped : tie.Need-returns-in-Clipped
+returns-in-Clipped c = search clipped_sum
 
-returns-3 : tie.Need-returns-3
-returns-3 c = search missing_sum
+returns-in-Missing : tie.Need-returns-in-Missing
+returns-in-Missing c = search missing_sum
 
 pub add_strain_spec : {M : Type 1} → statement M
 add_strain_spec =
     tie.close
     (tie.spec
-    enum-known-r
-    add-at-requires
-    enum_told
-    enum-told-2
-    same_length
-    returns
-    returns-2
-    returns-3)
+    enum_known-r
+    add_at-requires
+    enum_told-1
+    enum_told-in-Missing
+    shape_of-sums
+    returns-in-Strain
+    returns-in-Clipped
+    returns-in-Missing)

@@ -4,28 +4,28 @@ use Rattle.totals.proofs.TotalLaws.{lower_stray, lower_stands}
 use Rattle.totals.proofs.both_stand.Statement.{statement}
 use Rattle.totals.proofs.both_stand.Tie as tie
 
-sub-s : tie.Need-overflow-sub-s
-sub-s c = search rules
+overflow_sub-s : tie.Need-overflow_sub-s
+overflow_sub-s c = search rules
 
-mul-s : tie.Need-overflow-mul-s
-mul-s c = search rules
+overflow_mul-s : tie.Need-overflow_mul-s
+overflow_mul-s c = search rules
 
-stands-at-requires : tie.Need-stands-at-requires
-stands-at-requires c κs = search rules
+stands_at-requires : tie.Need-stands_at-requires
+stands_at-requires c κs = search rules
+
+returns-then-not-stands_at : tie.Need-returns-then-not-stands_at
+returns-then-not-stands_at c = search (rules, lower_stray)
+
+overflow_add-s : tie.Need-overflow_add-s
+overflow_add-s c = search rules
+
+stands_at-requires-2 : tie.Need-stands_at-requires-2
+stands_at-requires-2 c κs = search rules
 
 returns : tie.Need-returns
-returns c = search (rules, lower_stray)
-
-add-stands-at : tie.Need-overflow-add-stands-at
-add-stands-at c = search rules
-
-stands-at-requires-2 : tie.Need-stands-at-requires-2
-stands-at-requires-2 c κs = search rules
-
-returns-2 : tie.Need-returns-2
-returns-2 c = search (rules, lower_stands)
+returns c = search (rules, lower_stands)
 
 pub both_stand_spec : {M : Type 1} → statement M
 both_stand_spec =
     tie.close
-    (tie.spec sub-s mul-s stands-at-requires returns add-stands-at stands-at-requires-2 returns-2)
+    (tie.spec overflow_sub-s overflow_mul-s stands_at-requires returns-then-not-stands_at overflow_add-s stands_at-requires-2 returns)

@@ -4,39 +4,39 @@ use borrow.Author.Rules.{rules}
 use Rattle.totals.proofs.count_at.Statement.{statement}
 use Rattle.totals.proofs.count_at.Tie as tie
 
-mul-more : tie.Need-overflow-mul-more
-mul-more c = search rules
+offset_bounds-counts-i : tie.Need-offset_bounds-counts-i
+offset_bounds-counts-i c = search rules
 
-slice-read-more : tie.Need-slice-read-more
-slice-read-more c = search rules
+bounds-counts-i : tie.Need-bounds-counts-i
+bounds-counts-i c = search rules
 
 more-requires : tie.Need-more-requires
 more-requires c κs = search rules
 
-mul-counts : tie.Need-overflow-mul-counts
-mul-counts c = search rules
+offset_bounds-counts-i-then-i-counts : tie.Need-offset_bounds-counts-i-then-i-counts
+offset_bounds-counts-i-then-i-counts c = search rules
 
-slice-write-counts : tie.Need-slice-write-counts
-slice-write-counts c = search rules
+bounds-counts-i-then-i-counts : tie.Need-bounds-counts-i-then-i-counts
+bounds-counts-i-then-i-counts c = search rules
 
-same_length : tie.Need-same-length
-same_length c = search rules
+shape_of-counts : tie.Need-shape_of-counts
+shape_of-counts c = search rules
 
-returns : tie.Need-returns
-returns c = search (rules, count_set)
+returns-then-i-counts : tie.Need-returns-then-i-counts
+returns-then-i-counts c = search (rules, count_set)
 
-returns-2 : tie.Need-returns-2
-returns-2 c = search (rules, past)
+returns-else-i-counts : tie.Need-returns-else-i-counts
+returns-else-i-counts c = search (rules, past)
 
 pub count_at_spec : {M : Type 1} → statement M
 count_at_spec =
     tie.close
     (tie.spec
-    mul-more
-    slice-read-more
+    offset_bounds-counts-i
+    bounds-counts-i
     more-requires
-    mul-counts
-    slice-write-counts
-    same_length
-    returns
-    returns-2)
+    offset_bounds-counts-i-then-i-counts
+    bounds-counts-i-then-i-counts
+    shape_of-counts
+    returns-then-i-counts
+    returns-else-i-counts)

@@ -4,14 +4,14 @@ use borrow.Author.Rules.{rules}
 use Rattle.totals.proofs.more.Statement.{statement}
 use Rattle.totals.proofs.more.Tie as tie
 
-add-result : tie.Need-overflow-add-result
-add-result c = search rules
+overflow_add-result : tie.Need-overflow_add-result
+overflow_add-result c = search rules
 
-returns : tie.Need-returns
-returns c = search (rules, more_next)
+returns-then-n-lt18446744073709551615 : tie.Need-returns-then-n-lt18446744073709551615
+returns-then-n-lt18446744073709551615 c = search (rules, more_next)
 
-returns-2 : tie.Need-returns-2
-returns-2 c = search (rules, more_most)
+returns-else-n-lt18446744073709551615 : tie.Need-returns-else-n-lt18446744073709551615
+returns-else-n-lt18446744073709551615 c = search (rules, more_most)
 
 pub more_spec : {M : Type 1} → statement M
-more_spec = tie.close (tie.spec add-result returns returns-2)
+more_spec = tie.close (tie.spec overflow_add-result returns-then-n-lt18446744073709551615 returns-else-n-lt18446744073709551615)

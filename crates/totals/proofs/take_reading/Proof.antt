@@ -5,39 +5,39 @@ use borrow.Author.Rules.{rules}
 use Rattle.totals.proofs.take_reading.Statement.{statement}
 use Rattle.totals.proofs.take_reading.Tie as tie
 
-add-strain-requires : tie.Need-add-strain-requires
-add-strain-requires c κs = search rules
+add_strain-requires : tie.Need-add_strain-requires
+add_strain-requires c κs = search rules
 
-mul-count-at : tie.Need-overflow-mul-count-at
-mul-count-at c = search rules
+overflow_mul-s : tie.Need-overflow_mul-s
+overflow_mul-s c = search rules
 
-kind-of-requires : tie.Need-kind-of-requires
-kind-of-requires c κs = search rules
+kind_of-requires : tie.Need-kind_of-requires
+kind_of-requires c κs = search rules
 
-add-count-at : tie.Need-overflow-add-count-at
-add-count-at c = omega (arith, kind_most _ _ c.kind-of.ensures)
+overflow_add-s : tie.Need-overflow_add-s
+overflow_add-s c = omega (arith, kind_most _ _ c.kind_of.ensures)
 
-count-at-requires : tie.Need-count-at-requires
-count-at-requires c κs = search rules
+count_at-requires : tie.Need-count_at-requires
+count_at-requires c κs = search rules
 
-same_length : tie.Need-same-length
-same_length c = search rules
+shape_of-sums : tie.Need-shape_of-sums
+shape_of-sums c = search rules
 
-same-length-2 : tie.Need-same-length-2
-same-length-2 c = search rules
+shape_of-counts : tie.Need-shape_of-counts
+shape_of-counts c = search rules
 
 returns : tie.Need-returns
 returns c = (search rules, search kind_counted)
 
-pub take-reading_spec : {M : Type 1} → statement M
-take-reading_spec =
+pub take_reading_spec : {M : Type 1} → statement M
+take_reading_spec =
     tie.close
     (tie.spec
-    add-strain-requires
-    mul-count-at
-    kind-of-requires
-    add-count-at
-    count-at-requires
-    same_length
-    same-length-2
+    add_strain-requires
+    overflow_mul-s
+    kind_of-requires
+    overflow_add-s
+    count_at-requires
+    shape_of-sums
+    shape_of-counts
     returns)

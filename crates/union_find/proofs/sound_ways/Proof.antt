@@ -14,16 +14,16 @@ use Rattle.union_find.proofs.SoundLaws.{depths_same, ways_stray, ways_long, ways
 use Rattle.union_find.proofs.sound_ways.Statement.{statement}
 use Rattle.union_find.proofs.sound_ways.Tie as tie
 
-abbrev invariant-loop : tie.invariant-loop
-invariant-loop links from count start n i₀ steps₀ i steps =
+abbrev invariant-loop-i : tie.invariant-loop-i
+invariant-loop-i links from count start n i₀ steps₀ i steps =
     (i ≤ n) × (steps ≤ length links) × (all_of (sound_from links) (consecutive (start + i) (n - i)) ≡ sound_range links start n) × (steps + depths links (start + i) (n - i) ≡ depths links start n)
 
-abbrev decreases-loop : tie.decreases-loop
-decreases-loop links from count start n i₀ steps₀ i steps = n - i
+abbrev decreases-loop-i : tie.decreases-loop-i
+decreases-loop-i links from count start n i₀ steps₀ i steps = n - i
 
-loop-holds : tie.Need-loop-init invariant-loop decreases-loop
+loop-i-init : tie.Need-loop-i-init invariant-loop-i decreases-loop-i
 unfolding sound_range
-loop-holds c =
+loop-i-init c =
     let a = c.before.args in (
       omega arith,
       omega arith,
@@ -31,77 +31,77 @@ loop-holds c =
       omega (arith, depths_same a.links.now (a.from + 0) (a.count - 0) a.from a.count (omega arith) (omega arith)),
     )
 
-add-walk : tie.Need-overflow-add-walk invariant-loop decreases-loop
-add-walk c = search rules
+overflow_add-start : tie.Need-overflow_add-start invariant-loop-i decreases-loop-i
+overflow_add-start c = search rules
 
-walk-requires : tie.Need-walk-requires invariant-loop decreases-loop
-walk-requires c κs = search rules
+walk-w-requires : tie.Need-walk-w-requires invariant-loop-i decreases-loop-i
+walk-w-requires c κs = search rules
 
-returns : tie.Need-returns invariant-loop decreases-loop
-returns c =
-    let l = c.before.before.before.before.loop in
-    let w = c.before.before.walk in
-    ways_stray _ _ _ (sym (test_failed (sound_from _) _ _ (omega arith) (sym w.ensures.is ∙ not-true _ c.if1.true) ∙ l.invariant.2))
+returns-then-not-w : tie.Need-returns-then-not-w invariant-loop-i decreases-loop-i
+returns-then-not-w c =
+    let l = c.before.before.before.before.loop-i in
+    let w = c.before.before.walk-w in
+    ways_stray _ _ _ (sym (test_failed (sound_from _) _ _ (omega arith) (sym w.ensures.is ∙ not-true _ c.if-not-w.true) ∙ l.invariant.2))
 
-add-steps : tie.Need-overflow-add-steps invariant-loop decreases-loop
-add-steps c =
+overflow_add-steps : tie.Need-overflow_add-steps invariant-loop-i decreases-loop-i
+overflow_add-steps c =
     let l4 = c.before.before.before.before in
-    let l = l4.before.loop in
-    let w = c.before.before.before.walk in
-    omega (arith, l.invariant.1, turn_low _ _ _ l.i l.steps l.invariant.2 l.invariant.3 (omega arith) _ _ w.ensures (not-false _ c.before.if1.false))
+    let l = l4.before.loop-i in
+    let w = c.before.before.before.walk-w in
+    omega (arith, l.invariant.1, turn_low _ _ _ l.i l.steps l.invariant.2 l.invariant.3 (omega arith) _ _ w.ensures (not-false _ c.before.if-not-w.false))
 
-add-all-sound : tie.Need-overflow-add-all-sound invariant-loop decreases-loop
-add-all-sound c = search rules
+overflow_add-start-then-steps-links : tie.Need-overflow_add-start-then-steps-links invariant-loop-i decreases-loop-i
+overflow_add-start-then-steps-links c = search rules
 
-all-sound-requires : tie.Need-all-sound-requires invariant-loop decreases-loop
-all-sound-requires c κs = search rules
+all_sound-requires : tie.Need-all_sound-requires invariant-loop-i decreases-loop-i
+all_sound-requires c κs = search rules
 
-returns-2 : tie.Need-returns-2 invariant-loop decreases-loop
-returns-2 c =
+returns-then-steps-links : tie.Need-returns-then-steps-links invariant-loop-i decreases-loop-i
+returns-then-steps-links c =
     let l4 = c.before.before.before.before in
-    let l = l4.before.before.before.loop in
-    let w = l4.before.walk in
-    let n = not-false _ c.before.before.before.if1.false in
+    let l = l4.before.before.before.loop-i in
+    let w = l4.before.walk-w in
+    let n = not-false _ c.before.before.before.if-not-w.false in
     ways_long _ _ _ (l.i + 1) (l.steps + w.result.steps)
     (turn_sound _ _ _ l.i l.steps l.invariant.2 l.invariant.3 (omega arith) _ _ w.ensures n) (turn_steps _ _ _ l.i l.steps l.invariant.2 l.invariant.3 (omega arith) _ _ w.ensures n)
-    _ c.All-sound.ensures c.before.if2.true
+    _ c.all_sound.ensures c.before.if-steps-links.true
 
-add-i : tie.Need-overflow-add-i invariant-loop decreases-loop
-add-i c = search rules
+overflow_add-i : tie.Need-overflow_add-i invariant-loop-i decreases-loop-i
+overflow_add-i c = search rules
 
-loop-less : tie.Need-loop-smaller invariant-loop decreases-loop
-loop-less c = search rules
+loop-i-smaller : tie.Need-loop-i-smaller invariant-loop-i decreases-loop-i
+loop-i-smaller c = search rules
 
-loop-again : tie.Need-loop-preserved invariant-loop decreases-loop
-loop-again c =
+loop-i-preserved : tie.Need-loop-i-preserved invariant-loop-i decreases-loop-i
+loop-i-preserved c =
     let l4 = c.before.before.before.before in
-    let l = l4.before.before.loop in
-    let w = c.before.before.before.before.walk in
-    let n = not-false w.result.sound c.before.before.if1.false in (
+    let l = l4.before.before.loop-i in
+    let w = c.before.before.before.before.walk-w in
+    let n = not-false w.result.sound c.before.before.if-not-w.false in (
       omega arith,
-      c.if2.false,
+      c.if-steps-links.false,
       turn_sound _ _ _ l.i l.steps l.invariant.2 l.invariant.3 (omega arith) _ _ w.ensures n,
       turn_steps _ _ _ l.i l.steps l.invariant.2 l.invariant.3 (omega arith) _ _ w.ensures n,
     )
 
-returns-3 : tie.Need-returns-3 invariant-loop decreases-loop
-returns-3 c = let l = c.before.loop in ways_all _ _ _ l.i l.steps l.invariant.2 l.invariant.3 (omega arith) l.invariant.1
+returns : tie.Need-returns invariant-loop-i decreases-loop-i
+returns c = let l = c.before.loop-i in ways_all _ _ _ l.i l.steps l.invariant.2 l.invariant.3 (omega arith) l.invariant.1
 
 pub sound_ways_spec : {M : Type 1} → statement M
 sound_ways_spec =
     tie.close
     (tie.spec
-    invariant-loop
-    decreases-loop
-    loop-holds
-    add-walk
-    walk-requires
-    returns
-    add-steps
-    add-all-sound
-    all-sound-requires
-    returns-2
-    add-i
-    loop-less
-    loop-again
-    returns-3)
+    invariant-loop-i
+    decreases-loop-i
+    loop-i-init
+    overflow_add-start
+    walk-w-requires
+    returns-then-not-w
+    overflow_add-steps
+    overflow_add-start-then-steps-links
+    all_sound-requires
+    returns-then-steps-links
+    overflow_add-i
+    loop-i-smaller
+    loop-i-preserved
+    returns)

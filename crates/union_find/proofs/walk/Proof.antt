@@ -11,62 +11,62 @@ use Rattle.union_find.proofs.SoundLaws.{walk_past, walk_stray, walk_root, walk_s
 use Rattle.union_find.proofs.walk.Statement.{statement}
 use Rattle.union_find.proofs.walk.Tie as tie
 
-abbrev invariant-loop : tie.invariant-loop
-invariant-loop links x steps₀ at₀ steps at = (at < length links) × (sound_from links at ≡ sound_from links x) × (steps + depth links at ≡ depth links x)
+abbrev invariant-loop-at : tie.invariant-loop-at
+invariant-loop-at links x steps₀ at₀ steps at = (at < length links) × (sound_from links at ≡ sound_from links x) × (steps + depth links at ≡ depth links x)
 
-abbrev decreases-loop : tie.decreases-loop
-decreases-loop links x steps₀ at₀ steps at = at
+abbrev decreases-loop-at : tie.decreases-loop-at
+decreases-loop-at links x steps₀ at₀ steps at = at
 
-returns : tie.Need-returns invariant-loop decreases-loop
-returns c = walk_past _ _ c.if1.true
+returns-then-x-links : tie.Need-returns-then-x-links invariant-loop-at decreases-loop-at
+returns-then-x-links c = walk_past _ _ c.if-x-links.true
 
-loop-holds : tie.Need-loop-init invariant-loop decreases-loop
-loop-holds c = (search rules, refl, omega arith)
+loop-at-init : tie.Need-loop-at-init invariant-loop-at decreases-loop-at
+loop-at-init c = (search rules, refl, omega arith)
 
-mul-d : tie.Need-overflow-mul-d invariant-loop decreases-loop
-mul-d c = search rules
+offset_bounds-links-at : tie.Need-offset_bounds-links-at invariant-loop-at decreases-loop-at
+offset_bounds-links-at c = search rules
 
-shared-slice-read-d : tie.Need-shared-slice-read-d invariant-loop decreases-loop
-shared-slice-read-d c = search rules
+bounds-links-at : tie.Need-bounds-links-at invariant-loop-at decreases-loop-at
+bounds-links-at c = search rules
 
-cast-d : tie.Need-overflow-cast-d invariant-loop decreases-loop
-cast-d c = omega (arith, c.shared-slice-known.given c.before.loop.at)
+overflow_cast-d : tie.Need-overflow_cast-d invariant-loop-at decreases-loop-at
+overflow_cast-d c = omega (arith, c.shared_slice_known-1.given c.before.loop-at.at)
 
-returns-2 : tie.Need-returns-2 invariant-loop decreases-loop
-returns-2 c = let l = c.before.before.loop in walk_stray _ _ l.at l.steps l.invariant.1 l.invariant.2 c.if2.true
+returns-then-d-at : tie.Need-returns-then-d-at invariant-loop-at decreases-loop-at
+returns-then-d-at c = let l = c.before.before.loop-at in walk_stray _ _ l.at l.steps l.invariant.1 l.invariant.2 c.if-d-at.true
 
-returns-3 : tie.Need-returns-3 invariant-loop decreases-loop
-returns-3 c = let l = c.before.before.before.loop in walk_root _ _ l.at l.steps l.invariant.1 l.invariant.2 c.if3.true
+returns-then-d-eq0 : tie.Need-returns-then-d-eq0 invariant-loop-at decreases-loop-at
+returns-then-d-eq0 c = let l = c.before.before.before.loop-at in walk_root _ _ l.at l.steps l.invariant.1 l.invariant.2 c.if-d-eq0.true
 
-add-steps : tie.Need-overflow-add-steps invariant-loop decreases-loop
-add-steps c =
-    let l = c.before.before.before.loop in
-    omega (arith, walk_few _ _ l.at l.steps l.invariant.1 l.invariant.2 c.before.if2.false c.if3.false)
+overflow_add-steps : tie.Need-overflow_add-steps invariant-loop-at decreases-loop-at
+overflow_add-steps c =
+    let l = c.before.before.before.loop-at in
+    omega (arith, walk_few _ _ l.at l.steps l.invariant.1 l.invariant.2 c.before.if-d-at.false c.if-d-eq0.false)
 
-loop-less : tie.Need-loop-smaller invariant-loop decreases-loop
-loop-less c = search rules
+loop-at-smaller : tie.Need-loop-at-smaller invariant-loop-at decreases-loop-at
+loop-at-smaller c = search rules
 
-loop-again : tie.Need-loop-preserved invariant-loop decreases-loop
-loop-again c =
-    let l = c.before.before.before.loop in (
+loop-at-preserved : tie.Need-loop-at-preserved invariant-loop-at decreases-loop-at
+loop-at-preserved c =
+    let l = c.before.before.before.loop-at in (
       omega (arith, l.invariant.0),
-      walk_sound _ _ l.at l.steps l.invariant.1 l.invariant.2 c.before.if2.false c.if3.false,
-      walk_steps _ _ l.at l.steps l.invariant.1 l.invariant.2 c.before.if2.false c.if3.false,
+      walk_sound _ _ l.at l.steps l.invariant.1 l.invariant.2 c.before.if-d-at.false c.if-d-eq0.false,
+      walk_steps _ _ l.at l.steps l.invariant.1 l.invariant.2 c.before.if-d-at.false c.if-d-eq0.false,
     )
 
 pub walk_spec : {M : Type 1} → statement M
 walk_spec =
     tie.close
     (tie.spec
-    invariant-loop
-    decreases-loop
-    returns
-    loop-holds
-    mul-d
-    shared-slice-read-d
-    cast-d
-    returns-2
-    returns-3
-    add-steps
-    loop-less
-    loop-again)
+    invariant-loop-at
+    decreases-loop-at
+    returns-then-x-links
+    loop-at-init
+    offset_bounds-links-at
+    bounds-links-at
+    overflow_cast-d
+    returns-then-d-at
+    returns-then-d-eq0
+    overflow_add-steps
+    loop-at-smaller
+    loop-at-preserved)

@@ -5,13 +5,13 @@ use Rattle.records.specs.Record.{bit}
 use Rattle.writer.proofs.bit_of.Statement.{statement}
 use Rattle.writer.proofs.bit_of.Tie as tie
 
-returns : tie.Need-returns
+returns-then-v-eq0 : tie.Need-returns-then-v-eq0
 unfolding bit
-returns c = (rw (eq-eqb _ _ c.if1.true), omega arith)
+returns-then-v-eq0 c = (rw (eq-eqb _ _ c.if-v-eq0.true), omega arith)
 
-returns-2 : tie.Need-returns-2
+returns-else-v-eq0 : tie.Need-returns-else-v-eq0
 unfolding bit
-returns-2 c = (rw (ne_eqb _ _ c.if1.false), omega arith)
+returns-else-v-eq0 c = (rw (ne_eqb _ _ c.if-v-eq0.false), omega arith)
 
 pub bit_of_spec : {M : Type 1} → statement M
-bit_of_spec = tie.close (tie.spec returns returns-2)
+bit_of_spec = tie.close (tie.spec returns-then-v-eq0 returns-else-v-eq0)

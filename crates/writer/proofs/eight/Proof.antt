@@ -33,7 +33,7 @@ returns : tie.Need-returns
 unfolding byte_of packed
 returns c =
     let back4 = c.before.before.before.before in
-    rw (c.pack8.ensures.0, c.before.pack7.ensures.0, c.before.before.pack6.ensures.0, c.before.before.before.pack5.ensures.0, c.before.before.before.before.pack4.ensures.0, back4.before.pack3.ensures.0, back4.before.before.pack2.ensures.0, back4.before.before.before.pack.ensures.0)
+    rw (c.pack-8.ensures.0, c.before.pack-7.ensures.0, c.before.before.pack-6.ensures.0, c.before.before.before.pack-5.ensures.0, c.before.before.before.before.pack-4.ensures.0, back4.before.pack-3.ensures.0, back4.before.before.pack-2.ensures.0, back4.before.before.before.pack.ensures.0)
 
 pub eight_spec : {M : Type 1} → statement M
 eight_spec =

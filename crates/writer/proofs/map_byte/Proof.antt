@@ -5,24 +5,24 @@ use Rattle.writer.proofs.WriteLaws.{byte_whole, byte_last}
 use Rattle.writer.proofs.map_byte.Statement.{statement}
 use Rattle.writer.proofs.map_byte.Tie as tie
 
-mul-p : tie.Need-overflow-mul-p
-mul-p c = search rules
+overflow_mul-p : tie.Need-overflow_mul-p
+overflow_mul-p c = search rules
 
-sub-if1 : tie.Need-overflow-sub-if1
-sub-if1 c = search rules
+overflow_sub-map : tie.Need-overflow_sub-map
+overflow_sub-map c = search rules
 
-last-byte-requires : tie.Need-last-byte-requires
-last-byte-requires c κs = search rules
+last_byte-requires : tie.Need-last_byte-requires
+last_byte-requires c κs = search rules
+
+returns-then-map-p-lt8 : tie.Need-returns-then-map-p-lt8
+returns-then-map-p-lt8 c = c.last_byte.ensures ∙ byte_last _ _ c.before.if-map-p-lt8.true
+
+whole_byte-requires : tie.Need-whole_byte-requires
+whole_byte-requires c κs = search rules
 
 returns : tie.Need-returns
-returns c = c.last_byte.ensures ∙ byte_last _ _ c.before.if1.true
+returns c = c.whole_byte.ensures ∙ byte_whole _ _
 
-whole-byte-requires : tie.Need-whole-byte-requires
-whole-byte-requires c κs = search rules
-
-returns-2 : tie.Need-returns-2
-returns-2 c = c.whole-byte.ensures ∙ byte_whole _ _
-
-pub map-byte_spec : {M : Type 1} → statement M
-map-byte_spec =
-    tie.close (tie.spec mul-p sub-if1 last-byte-requires returns whole-byte-requires returns-2)
+pub map_byte_spec : {M : Type 1} → statement M
+map_byte_spec =
+    tie.close (tie.spec overflow_mul-p overflow_sub-map last_byte-requires returns-then-map-p-lt8 whole_byte-requires returns)

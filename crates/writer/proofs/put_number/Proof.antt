@@ -12,26 +12,26 @@ use Rattle.records.proofs.FieldLaws.{length-bytes}
 use Rattle.writer.proofs.put_number.Statement.{statement}
 use Rattle.writer.proofs.put_number.Tie as tie
 
-returns : tie.Need-returns
-returns c =
-    let z = listed_zero _ c.if1.true in
+returns-then-v-eq0 : tie.Need-returns-then-v-eq0
+returns-then-v-eq0 c =
+    let z = listed_zero _ c.if-v-eq0.true in
     (rw z (omega arith), rw z (laid_none _ _ (omega arith)))
 
-put-four-requires : tie.Need-put-four-requires
-put-four-requires c κs = omega (arith, ap length (listed_one _ c.before.if1.false) ∙ length-bytes 4 _)
+put_four-requires : tie.Need-put_four-requires
+put_four-requires c κs = omega (arith, ap length (listed_one _ c.before.if-v-eq0.false) ∙ length-bytes 4 _)
 
-add-result : tie.Need-overflow-add-result
-add-result c = search rules
+overflow_add-result : tie.Need-overflow_add-result
+overflow_add-result c = search rules
 
-same_length : tie.Need-same-length
-same_length c = search rules
+shape_of-tray : tie.Need-shape_of-tray
+shape_of-tray c = search rules
 
-returns-2 : tie.Need-returns-2
-returns-2 c =
+returns : tie.Need-returns
+returns c =
     let a4 = c.before.before.before.before in
     let a = a4.before.before.args in
-    let e = listed_one _ c.before.before.before.before.if1.false in
+    let e = listed_one _ c.before.before.before.before.if-v-eq0.false in
     (omega (arith, ap length e ∙ length-bytes 4 _), c.before.before.put_four.ensures ∙ ap (λ (l : List ℕ). laid a.at l a.tray.now) (sym e))
 
 pub put_number_spec : {M : Type 1} → statement M
-put_number_spec = tie.close (tie.spec returns put-four-requires add-result same_length returns-2)
+put_number_spec = tie.close (tie.spec returns-then-v-eq0 put_four-requires overflow_add-result shape_of-tray returns)

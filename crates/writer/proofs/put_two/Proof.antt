@@ -7,23 +7,23 @@ use Rattle.lists.proofs.Laid.{laid_two}
 use Rattle.writer.proofs.put_two.Statement.{statement}
 use Rattle.writer.proofs.put_two.Tie as tie
 
-cast-tray : tie.Need-overflow-cast-tray
-cast-tray c = search rules
+overflow_cast-tray : tie.Need-overflow_cast-tray
+overflow_cast-tray c = search rules
 
-slice-write-tray : tie.Need-slice-write-tray
-slice-write-tray c = search rules
+bounds-tray-at : tie.Need-bounds-tray-at
+bounds-tray-at c = search rules
 
-cast-tray-2 : tie.Need-overflow-cast-tray-2
-cast-tray-2 c = search rules
+overflow_cast-tray-2 : tie.Need-overflow_cast-tray-2
+overflow_cast-tray-2 c = search rules
 
-add-tray : tie.Need-overflow-add-tray
-add-tray c = search rules
+overflow_add-tray : tie.Need-overflow_add-tray
+overflow_add-tray c = search rules
 
-slice-write-tray-2 : tie.Need-slice-write-tray-2
-slice-write-tray-2 c = simp length-set (omega arith)
+bounds-tray-at-2 : tie.Need-bounds-tray-at-2
+bounds-tray-at-2 c = simp length-set (omega arith)
 
-same_length : tie.Need-same-length
-same_length c = search rules
+shape_of-tray : tie.Need-shape_of-tray
+shape_of-tray c = search rules
 
 returns : tie.Need-returns
 unfolding bytes
@@ -33,10 +33,10 @@ pub put_two_spec : {M : Type 1} → statement M
 put_two_spec =
     tie.close
     (tie.spec
-    cast-tray
-    slice-write-tray
-    cast-tray-2
-    add-tray
-    slice-write-tray-2
-    same_length
+    overflow_cast-tray
+    bounds-tray-at
+    overflow_cast-tray-2
+    overflow_add-tray
+    bounds-tray-at-2
+    shape_of-tray
     returns)

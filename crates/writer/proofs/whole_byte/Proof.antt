@@ -6,74 +6,74 @@ use Rattle.writer.proofs.WriteLaws.{take-eight}
 use Rattle.writer.proofs.whole_byte.Statement.{statement}
 use Rattle.writer.proofs.whole_byte.Tie as tie
 
-mul-eight : tie.Need-overflow-mul-eight
-mul-eight c = search rules
+offset_bounds-map-p : tie.Need-offset_bounds-map-p
+offset_bounds-map-p c = search rules
 
-shared-slice-read-eight : tie.Need-shared-slice-read-eight
-shared-slice-read-eight c = search rules
+bounds-map-p : tie.Need-bounds-map-p
+bounds-map-p c = search rules
 
-add_eight : tie.Need-overflow-add-eight
-add_eight c = search rules
+overflow_add-p : tie.Need-overflow_add-p
+overflow_add-p c = search rules
 
-mul-eight-2 : tie.Need-overflow-mul-eight-2
-mul-eight-2 c = search rules
+offset_bounds-map-p-2 : tie.Need-offset_bounds-map-p-2
+offset_bounds-map-p-2 c = search rules
 
-shared-slice-read-eight-2 : tie.Need-shared-slice-read-eight-2
-shared-slice-read-eight-2 c = search rules
+bounds-map-p-2 : tie.Need-bounds-map-p-2
+bounds-map-p-2 c = search rules
 
-add-eight-2 : tie.Need-overflow-add-eight-2
-add-eight-2 c = search rules
+overflow_add-p-2 : tie.Need-overflow_add-p-2
+overflow_add-p-2 c = search rules
 
-mul-eight-3 : tie.Need-overflow-mul-eight-3
-mul-eight-3 c = search rules
+offset_bounds-map-p-3 : tie.Need-offset_bounds-map-p-3
+offset_bounds-map-p-3 c = search rules
 
-shared-slice-read-eight-3 : tie.Need-shared-slice-read-eight-3
-shared-slice-read-eight-3 c = search rules
+bounds-map-p-3 : tie.Need-bounds-map-p-3
+bounds-map-p-3 c = search rules
 
-add-eight-3 : tie.Need-overflow-add-eight-3
-add-eight-3 c = search rules
+overflow_add-p-3 : tie.Need-overflow_add-p-3
+overflow_add-p-3 c = search rules
 
-mul-eight-4 : tie.Need-overflow-mul-eight-4
-mul-eight-4 c = search rules
+offset_bounds-map-p-4 : tie.Need-offset_bounds-map-p-4
+offset_bounds-map-p-4 c = search rules
 
-shared-slice-read-eight-4 : tie.Need-shared-slice-read-eight-4
-shared-slice-read-eight-4 c = search rules
+bounds-map-p-4 : tie.Need-bounds-map-p-4
+bounds-map-p-4 c = search rules
 
-add-eight-4 : tie.Need-overflow-add-eight-4
-add-eight-4 c = search rules
+overflow_add-p-4 : tie.Need-overflow_add-p-4
+overflow_add-p-4 c = search rules
 
-mul-eight-5 : tie.Need-overflow-mul-eight-5
-mul-eight-5 c = search rules
+offset_bounds-map-p-5 : tie.Need-offset_bounds-map-p-5
+offset_bounds-map-p-5 c = search rules
 
-shared-slice-read-eight-5 : tie.Need-shared-slice-read-eight-5
-shared-slice-read-eight-5 c = search rules
+bounds-map-p-5 : tie.Need-bounds-map-p-5
+bounds-map-p-5 c = search rules
 
-add-eight-5 : tie.Need-overflow-add-eight-5
-add-eight-5 c = search rules
+overflow_add-p-5 : tie.Need-overflow_add-p-5
+overflow_add-p-5 c = search rules
 
-mul-eight-6 : tie.Need-overflow-mul-eight-6
-mul-eight-6 c = search rules
+offset_bounds-map-p-6 : tie.Need-offset_bounds-map-p-6
+offset_bounds-map-p-6 c = search rules
 
-shared-slice-read-eight-6 : tie.Need-shared-slice-read-eight-6
-shared-slice-read-eight-6 c = search rules
+bounds-map-p-6 : tie.Need-bounds-map-p-6
+bounds-map-p-6 c = search rules
 
-add-eight-6 : tie.Need-overflow-add-eight-6
-add-eight-6 c = search rules
+overflow_add-p-6 : tie.Need-overflow_add-p-6
+overflow_add-p-6 c = search rules
 
-mul-eight-7 : tie.Need-overflow-mul-eight-7
-mul-eight-7 c = search rules
+offset_bounds-map-p-7 : tie.Need-offset_bounds-map-p-7
+offset_bounds-map-p-7 c = search rules
 
-shared-slice-read-eight-7 : tie.Need-shared-slice-read-eight-7
-shared-slice-read-eight-7 c = search rules
+bounds-map-p-7 : tie.Need-bounds-map-p-7
+bounds-map-p-7 c = search rules
 
-add-eight-7 : tie.Need-overflow-add-eight-7
-add-eight-7 c = search rules
+overflow_add-p-7 : tie.Need-overflow_add-p-7
+overflow_add-p-7 c = search rules
 
-mul-eight-8 : tie.Need-overflow-mul-eight-8
-mul-eight-8 c = search rules
+offset_bounds-map-p-8 : tie.Need-offset_bounds-map-p-8
+offset_bounds-map-p-8 c = search rules
 
-shared-slice-read-eight-8 : tie.Need-shared-slice-read-eight-8
-shared-slice-read-eight-8 c = search rules
+bounds-map-p-8 : tie.Need-bounds-map-p-8
+bounds-map-p-8 c = search rules
 
 eight-requires : tie.Need-eight-requires
 eight-requires c κs = search rules
@@ -88,28 +88,28 @@ pub whole_byte_spec : {M : Type 1} → statement M
 whole_byte_spec =
     tie.close
     (tie.spec
-    mul-eight
-    shared-slice-read-eight
-    add_eight
-    mul-eight-2
-    shared-slice-read-eight-2
-    add-eight-2
-    mul-eight-3
-    shared-slice-read-eight-3
-    add-eight-3
-    mul-eight-4
-    shared-slice-read-eight-4
-    add-eight-4
-    mul-eight-5
-    shared-slice-read-eight-5
-    add-eight-5
-    mul-eight-6
-    shared-slice-read-eight-6
-    add-eight-6
-    mul-eight-7
-    shared-slice-read-eight-7
-    add-eight-7
-    mul-eight-8
-    shared-slice-read-eight-8
+    offset_bounds-map-p
+    bounds-map-p
+    overflow_add-p
+    offset_bounds-map-p-2
+    bounds-map-p-2
+    overflow_add-p-2
+    offset_bounds-map-p-3
+    bounds-map-p-3
+    overflow_add-p-3
+    offset_bounds-map-p-4
+    bounds-map-p-4
+    overflow_add-p-4
+    offset_bounds-map-p-5
+    bounds-map-p-5
+    overflow_add-p-5
+    offset_bounds-map-p-6
+    bounds-map-p-6
+    overflow_add-p-6
+    offset_bounds-map-p-7
+    bounds-map-p-7
+    overflow_add-p-7
+    offset_bounds-map-p-8
+    bounds-map-p-8
     eight-requires
     returns)

@@ -10,62 +10,62 @@ use Rattle.writer.proofs.WriteLaws.{bits_start, bits_more, bits_all}
 use Rattle.writer.proofs.write_bits.Statement.{statement}
 use Rattle.writer.proofs.write_bits.Tie as tie
 
-abbrev invariant-loop : tie.invariant-loop
-invariant-loop map tray₀ n i₀ tray i = (i ≤ n) × (length tray ≡ length tray₀) × (tray ≡ laid 12 (tabulate i (map_byte map)) tray₀)
+abbrev invariant-loop-i : tie.invariant-loop-i
+invariant-loop-i map tray₀ n i₀ tray i = (i ≤ n) × (length tray ≡ length tray₀) × (tray ≡ laid 12 (tabulate i (map_byte map)) tray₀)
 
-abbrev decreases-loop : tie.decreases-loop
-decreases-loop map tray₀ n i₀ tray i = n - i
+abbrev decreases-loop-i : tie.decreases-loop-i
+decreases-loop-i map tray₀ n i₀ tray i = n - i
 
-add-n : tie.Need-overflow-add-n invariant-loop decreases-loop
-add-n c = search rules
+overflow_add-n : tie.Need-overflow_add-n invariant-loop-i decreases-loop-i
+overflow_add-n c = search rules
 
-loop-holds : tie.Need-loop-init invariant-loop decreases-loop
-loop-holds c = (omega arith, refl, bits_start _ _ (omega arith))
+loop-i-init : tie.Need-loop-i-init invariant-loop-i decreases-loop-i
+loop-i-init c = (omega arith, refl, bits_start _ _ (omega arith))
 
-map-byte-requires : tie.Need-map-byte-requires invariant-loop decreases-loop
-map-byte-requires c κs = search rules
+map_byte-requires : tie.Need-map_byte-requires invariant-loop-i decreases-loop-i
+map_byte-requires c κs = search rules
 
-add-tray : tie.Need-overflow-add-tray invariant-loop decreases-loop
-add-tray c = search rules
+overflow_add-tray : tie.Need-overflow_add-tray invariant-loop-i decreases-loop-i
+overflow_add-tray c = search rules
 
-slice-write-tray : tie.Need-slice-write-tray invariant-loop decreases-loop
+bounds-tray-i : tie.Need-bounds-tray-i invariant-loop-i decreases-loop-i
 unfolding bitmap_length
-slice-write-tray c = omega arith
+bounds-tray-i c = omega arith
 
-add-i : tie.Need-overflow-add-i invariant-loop decreases-loop
-add-i c = search rules
+overflow_add-i : tie.Need-overflow_add-i invariant-loop-i decreases-loop-i
+overflow_add-i c = search rules
 
-loop-less : tie.Need-loop-smaller invariant-loop decreases-loop
-loop-less c = search rules
+loop-i-smaller : tie.Need-loop-i-smaller invariant-loop-i decreases-loop-i
+loop-i-smaller c = search rules
 
-loop-again : tie.Need-loop-preserved invariant-loop decreases-loop
+loop-i-preserved : tie.Need-loop-i-preserved invariant-loop-i decreases-loop-i
 unfolding bitmap_length
-loop-again c =
-    let l = c.before.before.loop in
-    (omega arith, simp length-set l.invariant.1, rw l.invariant.2 (bits_more _ _ _ _ (omega arith) c.map-byte.ensures))
+loop-i-preserved c =
+    let l = c.before.before.loop-i in
+    (omega arith, simp length-set l.invariant.1, rw l.invariant.2 (bits_more _ _ _ _ (omega arith) c.map_byte.ensures))
 
-same_length : tie.Need-same-length invariant-loop decreases-loop
-same_length c = search rules
+shape_of-tray : tie.Need-shape_of-tray invariant-loop-i decreases-loop-i
+shape_of-tray c = search rules
 
-returns : tie.Need-returns invariant-loop decreases-loop
+returns : tie.Need-returns invariant-loop-i decreases-loop-i
 unfolding bitmap_length
 returns c =
-    let l = c.before.loop in
+    let l = c.before.loop-i in
     l.invariant.2 ∙ bits_all _ _ _ (omega arith)
 
 pub write_bits_spec : {M : Type 1} → statement M
 write_bits_spec =
     tie.close
     (tie.spec
-    invariant-loop
-    decreases-loop
-    add-n
-    loop-holds
-    map-byte-requires
-    add-tray
-    slice-write-tray
-    add-i
-    loop-less
-    loop-again
-    same_length
+    invariant-loop-i
+    decreases-loop-i
+    overflow_add-n
+    loop-i-init
+    map_byte-requires
+    overflow_add-tray
+    bounds-tray-i
+    overflow_add-i
+    loop-i-smaller
+    loop-i-preserved
+    shape_of-tray
     returns)

@@ -4,14 +4,14 @@ use Rattle.lists.proofs.Overlay.{overlay_zeros}
 use Rattle.zeroing.proofs.clear_counts.Statement.{statement}
 use Rattle.zeroing.proofs.clear_counts.Tie as tie
 
-write-value-requires : tie.Need-write-value-requires
-write-value-requires c κs = search rules
+write_value-requires : tie.Need-write_value-requires
+write_value-requires c κs = search rules
 
-same_length : tie.Need-same-length
-same_length c = search rules
+shape_of-counts : tie.Need-shape_of-counts
+shape_of-counts c = search rules
 
 returns : tie.Need-returns
 returns c = search overlay_zeros
 
 pub clear_counts_spec : {M : Type 1} → statement M
-clear_counts_spec = tie.close (tie.spec write-value-requires same_length returns)
+clear_counts_spec = tie.close (tie.spec write_value-requires shape_of-counts returns)

@@ -9,52 +9,52 @@ use Rattle.zeroing.proofs.ZeroLaws.{front_with, front_none, front_more, front_al
 use Rattle.zeroing.proofs.clear_sums.Statement.{statement}
 use Rattle.zeroing.proofs.clear_sums.Tie as tie
 
-abbrev invariant-loop : tie.invariant-loop
-invariant-loop sums₀ next₀ sums next = (1 ≤ next) × (next ≤ length sums₀ + 1) × (length sums ≡ length sums₀) × (sums ≡ front_with plus_zero (next - 1) sums₀)
+abbrev invariant-loop-next : tie.invariant-loop-next
+invariant-loop-next sums₀ next₀ sums next = (1 ≤ next) × (next ≤ length sums₀ + 1) × (length sums ≡ length sums₀) × (sums ≡ front_with plus_zero (next - 1) sums₀)
 
-abbrev decreases-loop : tie.decreases-loop
-decreases-loop sums₀ next₀ sums next = length sums₀ + 1 - next
+abbrev decreases-loop-next : tie.decreases-loop-next
+decreases-loop-next sums₀ next₀ sums next = length sums₀ + 1 - next
 
-loop-holds : tie.Need-loop-init invariant-loop decreases-loop
-loop-holds c = search (rules, front_none)
+loop-next-init : tie.Need-loop-next-init invariant-loop-next decreases-loop-next
+loop-next-init c = search (rules, front_none)
 
-sub_sums : tie.Need-overflow-sub-sums invariant-loop decreases-loop
-sub_sums c = search rules
+overflow_sub-sums : tie.Need-overflow_sub-sums invariant-loop-next decreases-loop-next
+overflow_sub-sums c = search rules
 
-mul-sums : tie.Need-overflow-mul-sums invariant-loop decreases-loop
-mul-sums c = search rules
+offset_bounds-sums-next : tie.Need-offset_bounds-sums-next invariant-loop-next decreases-loop-next
+offset_bounds-sums-next c = search rules
 
-slice-write-sums : tie.Need-slice-write-sums invariant-loop decreases-loop
-slice-write-sums c = search rules
+bounds-sums-next : tie.Need-bounds-sums-next invariant-loop-next decreases-loop-next
+bounds-sums-next c = search rules
 
-add-next : tie.Need-overflow-add-next invariant-loop decreases-loop
-add-next c = search rules
+overflow_add-next : tie.Need-overflow_add-next invariant-loop-next decreases-loop-next
+overflow_add-next c = search rules
 
-loop-less : tie.Need-loop-smaller invariant-loop decreases-loop
-loop-less c = search rules
+loop-next-smaller : tie.Need-loop-next-smaller invariant-loop-next decreases-loop-next
+loop-next-smaller c = search rules
 
-loop-again : tie.Need-loop-preserved invariant-loop decreases-loop
+loop-next-preserved : tie.Need-loop-next-preserved invariant-loop-next decreases-loop-next
 unfolding of_bits
-loop-again c = search (rules, front_more)
+loop-next-preserved c = search (rules, front_more)
 
-same_length : tie.Need-same-length invariant-loop decreases-loop
-same_length c = search rules
+shape_of-sums : tie.Need-shape_of-sums invariant-loop-next decreases-loop-next
+shape_of-sums c = search rules
 
-returns : tie.Need-returns invariant-loop decreases-loop
-returns c = let l = c.before.loop in front_all plus_zero l.next _ _ l.invariant.3 l.invariant.1 l.invariant.2 c.loop-test.false
+returns : tie.Need-returns invariant-loop-next decreases-loop-next
+returns c = let l = c.before.loop-next in front_all plus_zero l.next _ _ l.invariant.3 l.invariant.1 l.invariant.2 c.loop-next-test.false
 
 pub clear_sums_spec : {M : Type 1} → statement M
 clear_sums_spec =
     tie.close
     (tie.spec
-    invariant-loop
-    decreases-loop
-    loop-holds
-    sub_sums
-    mul-sums
-    slice-write-sums
-    add-next
-    loop-less
-    loop-again
-    same_length
+    invariant-loop-next
+    decreases-loop-next
+    loop-next-init
+    overflow_sub-sums
+    offset_bounds-sums-next
+    bounds-sums-next
+    overflow_add-next
+    loop-next-smaller
+    loop-next-preserved
+    shape_of-sums
     returns)
