@@ -1,5 +1,6 @@
 // The numbers of faces, curves and points in three lent places, for the exports.
 #![tactic(auto)]
+
 ghost use Rattle.std.specs.Prelude.{◌≡◌};
 ghost use Rattle.counts.specs.Counts.{stored_counts};
 

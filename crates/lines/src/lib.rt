@@ -1,6 +1,7 @@
 // The cells of one order, line by line, and their rows by strides. A line's strides come from the table of neighbour steps; a cell then needs no
 // division and no table.
 #![tactic(auto)]
+
 ghost use Rattle.std.specs.Prelude.{◌≡◌, [], ◌∷◌, ◌+◌, ◌-◌, ◌<◌, ◌≤◌, length, get_or};
 ghost use Rattle.cells.specs.Box.{triple};
 ghost use Rattle.cells.specs.Extents.{Sized};

@@ -1,6 +1,7 @@
 // Turns the text that the listing program reads into what the program is to do. The text comes in chunks, of any length in all, and is
 // read to its end whatever is in it: what is kept of it is one `Scanned` and the tray of codes. None of the functions is an entry.
 #![tactic(auto)]
+
 ghost use Rattle.std.specs.Prelude.{◌≡◌, ◌-◌, ◌<◌};
 ghost use Rattle.cells.specs.Box.{triple, volume};
 ghost use Rattle.cells.specs.Extents.{Sized};

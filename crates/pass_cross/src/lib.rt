@@ -1,6 +1,7 @@
 // The crossing pass of the joiner: components of one order are joined at the cells where they meet, if their rows are equal.
 // A row is read through the links of the order above, as joined so far.
 #![tactic(auto)]
+
 ghost use Rattle.std.specs.Prelude.{◌≡◌, cond, [], ◌∷◌, ℕ, suc, ◌+◌, ◌-◌, ◌<◌, ◌≤◌, eqb, length, get_or, drop};
 ghost use Rattle.closure.specs.Joined.{joins};
 ghost use Rattle.union_find.specs.Links.{root, Rooted};

@@ -1,5 +1,6 @@
 // The codes of a block laid straight into its map: each at its voxel, and 0 at every other cell. Each cell is written once, whatever it held.
 #![tactic(auto)]
+
 ghost use Rattle.std.specs.Prelude.{◌≡◌, ◌+◌, ◌*◌, ◌-◌, ◌<◌, ◌≤◌, length};
 ghost use Rattle.lists.specs.Lists.{tabulate, overlay};
 ghost use Rattle.cells.specs.Box.{triple, volume};

@@ -1,5 +1,6 @@
 // The joining pass of the labeller: cells of one component are joined at the cells where they meet.
 #![tactic(auto)]
+
 ghost use Rattle.std.specs.Prelude.{◌≡◌, not, [], ◌∷◌, ℕ, suc, ◌*◌, ◌-◌, ◌<◌, ◌≤◌, length, get_or, drop};
 ghost use Rattle.lists.specs.Lists.{consecutive, keep};
 ghost use Rattle.closure.specs.Joined.{joins};

@@ -1,6 +1,7 @@
 // The numbering pass of the labeller: the cells of one order get their numbers in the order of their positions. A cell's link is needed no longer once
 // the cell has its number, so the pass leaves zeros in the table of links: the next order finds a cleared one.
 #![tactic(auto)]
+
 ghost use Rattle.std.specs.Prelude.{◌≡◌, ◌*◌, ◌-◌, ◌<◌, ◌≤◌, eqb, length};
 ghost use Rattle.lists.specs.Lists.{consecutive, keep, zeros};
 ghost use Rattle.closure.specs.Joined.{rep};

@@ -234,7 +234,7 @@ module _ (k : Cutting) (good : good_cut k ≡ true) (b c : ℕ) (a : Axis) (F : 
       where
         level_up : Shares k b c A.cell.from A.cell.to → order (block_extents k b) A.cell.from ≡ order_of κ → order (block_extents k c) A.cell.to ≡ order_of κ
         level_up S h =
-            sym (embed_order k good c F.upper_in A.cell.to S.q_in) ∙ ap (order k.extents) (sym S.one_Cell)
+            sym (embed_order k good c F.upper_in A.cell.to S.q_in) ∙ ap (order k.extents) (sym S.one_cell)
             ∙ embed_order k good b F.lower_in A.cell.from S.p_in ∙ h
 
     seam_out : {x y : ℕ} → EdgeAt m l n r (3 - order_of κ) (from_of t κ b) (from_of t κ c) size (columns_of (sides (block_extents k b)) a) (rows_of (sides (block_extents k b)) a) x y

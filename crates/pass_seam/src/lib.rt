@@ -1,5 +1,6 @@
 // The layer that the two blocks of a seam share: compared, and the components seen from both blocks joined.
 #![tactic(auto)]
+
 ghost use Rattle.std.specs.Prelude.{◌≡◌, not, cond, ◌&&◌, length};
 ghost use Rattle.closure.specs.Joined.{joins};
 ghost use Rattle.cells.specs.Box.{triple};

@@ -1,6 +1,7 @@
 // The listing of a map as text, and the line of a refusal, from any place of the text on, into a tray of any size. Nothing is refused: where
 // there is no listing, no byte is put. None of the functions is an entry.
 #![tactic(auto)]
+
 ghost use Rattle.std.specs.Prelude.{◌≡◌, ◌<◌, ◌≤◌, length, take};
 ghost use Rattle.lists.specs.Lists.{consecutive, zeros};
 ghost use Rattle.cells.specs.Box.{triple};

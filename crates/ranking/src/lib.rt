@@ -1,5 +1,6 @@
 // Numbers the components of one kind by first position: the classes of the links, the first one of each, sorted by key.
 #![tactic(auto)]
+
 ghost use Rattle.std.specs.Prelude.{◌≡◌, cond, ◌≢◌, ℕ, ◌+◌, ◌*◌, ◌≤◌, ◌<◌, length, get_or, set};
 ghost use Rattle.lists.specs.Lists.{overlay};
 ghost use Rattle.union_find.specs.Links.{root};

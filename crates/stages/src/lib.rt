@@ -1,5 +1,6 @@
 // The tick of an accepted step, and the stage of the job after it: "the next begins when the last step of the one before is done".
 #![tactic(auto)]
+
 ghost use Rattle.std.specs.Prelude.{◌≡◌, not, ◌||◌, suc, ◌+◌, ◌≤◌, ◌<◌, ltb, length};
 ghost use Rattle.cutting.specs.Cutting.{intervals, most_blocks, FewBlocks};
 ghost use Rattle.joiner.specs.Job.{Enrol, ticks_per_block};

@@ -1,5 +1,6 @@
 // Words and numbers put into a tray of bytes: the part of a text from any place on, as much as the tray holds. None of the functions is an entry.
 #![tactic(auto)]
+
 ghost use Rattle.std.specs.Prelude.{◌≡◌, [], ◌∷◌, ◌++◌, ◌+◌, ◌<◌};
 ghost use Rattle.decimals.specs.Decimals.{decimal};
 ghost use Rattle.text.specs.Listing.{spaced};

@@ -13,14 +13,14 @@ intervals-requires c κs = search rules
 intervals-requires-2 : tie.Need-intervals-requires-2
 intervals-requires-2 c κs = search rules
 
-mul-result : tie.Need-overflow-mul-result
-mul-result c = let h : c.before.intervals.result * c.intervals2.result ≤ most_blocks = search layer_few in omega arith
+overflow_mul-result : tie.Need-overflow_mul-result
+overflow_mul-result c = let h : c.before.intervals.result * c.intervals-2.result ≤ most_blocks = search layer_few in omega arith
 
 intervals-requires-3 : tie.Need-intervals-requires-3
 intervals-requires-3 c κs = search rules
 
-mul-result-2 : tie.Need-overflow-mul-result-2
-mul-result-2 c = let h : c.before.before.intervals.result * c.before.intervals2.result * c.intervals3.result ≤ most_blocks = search count_few in omega arith
+overflow_mul-result-2 : tie.Need-overflow_mul-result-2
+overflow_mul-result-2 c = let h : c.before.before.intervals.result * c.before.intervals-2.result * c.intervals-3.result ≤ most_blocks = search count_few in omega arith
 
 returns : tie.Need-returns
 returns c = λ nx ny nz. search count_is
@@ -31,7 +31,7 @@ block_count_spec =
     (tie.spec
     intervals-requires
     intervals-requires-2
-    mul-result
+    overflow_mul-result
     intervals-requires-3
-    mul-result-2
+    overflow_mul-result-2
     returns)

@@ -1,6 +1,7 @@
 -- `blocks::cut_list` meets its contract.
+use mathlib.Core.Bool.{not}
 use Prim.Native.Nat.{suc, ◌-◌, ◌≤◌}
-use mathlib.Core.Path.{◌≡◌, refl}
+use mathlib.Core.Path.{◌≡◌, refl, ap}
 use native.Mathlib.Omega.{arith}
 use lib.ListN.{get_or, drop}
 use borrow.Author.Rules.{rules}
@@ -9,94 +10,94 @@ use Rattle.blocks.proofs.CodeLaws.{cut_none, cut_first, cut_far, cut_more, cut_e
 use Rattle.blocks.proofs.cut_list.Statement.{statement}
 use Rattle.blocks.proofs.cut_list.Tie as tie
 
-abbrev invariant-loop : tie.invariant-loop
-invariant-loop n c last i₀ i = (i ≤ last) × (ascends n (get_or c 0 0) (drop 1 c) ≡ ascends n (get_or c i 0) (drop (suc i) c))
+abbrev invariant-loop-i : tie.invariant-loop-i
+invariant-loop-i n c last i₀ i = (i ≤ last) × (ascends n (get_or c 0 0) (drop 1 c) ≡ ascends n (get_or c i 0) (drop (suc i) c))
 
-abbrev decreases-loop : tie.decreases-loop
-decreases-loop n c last i₀ i = last - i
+abbrev decreases-loop-i : tie.decreases-loop-i
+decreases-loop-i n c last i₀ i = last - i
 
-returns : tie.Need-returns invariant-loop decreases-loop
-returns c = search cut_none
+returns-then-c-eq0 : tie.Need-returns-then-c-eq0 invariant-loop-i decreases-loop-i
+returns-then-c-eq0 c = search cut_none
 
-shared-slice-read-if2 : tie.Need-shared-slice-read-if2 invariant-loop decreases-loop
-shared-slice-read-if2 c = search rules
+bounds-c-0 : tie.Need-bounds-c-0 invariant-loop-i decreases-loop-i
+bounds-c-0 c = search rules
 
-returns-2 : tie.Need-returns-2 invariant-loop decreases-loop
-returns-2 c = search cut_first
+returns-then-c-ne0 : tie.Need-returns-then-c-ne0 invariant-loop-i decreases-loop-i
+returns-then-c-ne0 c = search cut_first
 
-sub-last : tie.Need-overflow-sub-last invariant-loop decreases-loop
-sub-last c = search rules
+overflow_sub-last : tie.Need-overflow_sub-last invariant-loop-i decreases-loop-i
+overflow_sub-last c = search rules
 
-loop-holds : tie.Need-loop-init invariant-loop decreases-loop
-loop-holds c = (omega arith, refl)
+loop-i-init : tie.Need-loop-i-init invariant-loop-i decreases-loop-i
+loop-i-init c = (omega arith, refl)
 
-mul-near : tie.Need-overflow-mul-near invariant-loop decreases-loop
-mul-near c = search rules
+offset_bounds-c-i : tie.Need-offset_bounds-c-i invariant-loop-i decreases-loop-i
+offset_bounds-c-i c = search rules
 
-shared-slice-read-near : tie.Need-shared-slice-read-near invariant-loop decreases-loop
-shared-slice-read-near c = search rules
+bounds-c-i : tie.Need-bounds-c-i invariant-loop-i decreases-loop-i
+bounds-c-i c = search rules
 
-add-near : tie.Need-overflow-add-near invariant-loop decreases-loop
-add-near c = search rules
+overflow_add-i : tie.Need-overflow_add-i invariant-loop-i decreases-loop-i
+overflow_add-i c = search rules
 
-mul-near-2 : tie.Need-overflow-mul-near-2 invariant-loop decreases-loop
-mul-near-2 c = search rules
+offset_bounds-c-i-in-loop-i : tie.Need-offset_bounds-c-i-in-loop-i invariant-loop-i decreases-loop-i
+offset_bounds-c-i-in-loop-i c = search rules
 
-shared-slice-read-near-2 : tie.Need-shared-slice-read-near-2 invariant-loop decreases-loop
-shared-slice-read-near-2 c = search rules
+bounds-c-i-in-loop-i : tie.Need-bounds-c-i-in-loop-i invariant-loop-i decreases-loop-i
+bounds-c-i-in-loop-i c = search rules
 
-near-requires : tie.Need-near-requires invariant-loop decreases-loop
+near-requires : tie.Need-near-requires invariant-loop-i decreases-loop-i
 near-requires c κs = search rules
 
-returns-3 : tie.Need-returns-3 invariant-loop decreases-loop
-returns-3 c = search cut_far
+returns-then-not-near : tie.Need-returns-then-not-near invariant-loop-i decreases-loop-i
+returns-then-not-near c = search cut_far
 
-add-i : tie.Need-overflow-add-i invariant-loop decreases-loop
-add-i c = search rules
+overflow_add-i-in-loop-i : tie.Need-overflow_add-i-in-loop-i invariant-loop-i decreases-loop-i
+overflow_add-i-in-loop-i c = search rules
 
-loop-less : tie.Need-loop-smaller invariant-loop decreases-loop
-loop-less c = search rules
+loop-i-smaller : tie.Need-loop-i-smaller invariant-loop-i decreases-loop-i
+loop-i-smaller c = search rules
 
-loop-again : tie.Need-loop-preserved invariant-loop decreases-loop
-loop-again c =
+loop-i-preserved : tie.Need-loop-i-preserved invariant-loop-i decreases-loop-i
+loop-i-preserved c =
     let back4 = c.before.before.before.before in
     let back8 = back4.before.before.before.before in
-    (search rules, cut_more _ back8.before.before.args.c.now back4.before.loop.i _ c.before.before.before.before.loop-test.true back4.before.loop.invariant.1 c.before.near.ensures c.if3.false)
+    (search rules, cut_more _ back8.before.before.args.c.now back4.before.loop-i.i _ c.before.before.before.before.loop-i-test.true back4.before.loop-i.invariant.1 c.before.near.ensures (ap not c.if-not-near.false))
 
-mul-ends : tie.Need-overflow-mul-ends invariant-loop decreases-loop
-mul-ends c = search rules
+offset_bounds-c-last : tie.Need-offset_bounds-c-last invariant-loop-i decreases-loop-i
+offset_bounds-c-last c = search rules
 
-shared-slice-read-ends : tie.Need-shared-slice-read-ends invariant-loop decreases-loop
-shared-slice-read-ends c = search rules
+bounds-c-last : tie.Need-bounds-c-last invariant-loop-i decreases-loop-i
+bounds-c-last c = search rules
 
-ends-requires : tie.Need-ends-requires invariant-loop decreases-loop
+ends-requires : tie.Need-ends-requires invariant-loop-i decreases-loop-i
 ends-requires c κs = search rules
 
-returns-4 : tie.Need-returns-4 invariant-loop decreases-loop
-returns-4 c = search cut_end
+returns : tie.Need-returns invariant-loop-i decreases-loop-i
+returns c = search cut_end
 
 pub cut_list_spec : {M : Type 1} → statement M
 cut_list_spec =
     tie.close
     (tie.spec
-    invariant-loop
-    decreases-loop
-    returns
-    shared-slice-read-if2
-    returns-2
-    sub-last
-    loop-holds
-    mul-near
-    shared-slice-read-near
-    add-near
-    mul-near-2
-    shared-slice-read-near-2
+    invariant-loop-i
+    decreases-loop-i
+    returns-then-c-eq0
+    bounds-c-0
+    returns-then-c-ne0
+    overflow_sub-last
+    loop-i-init
+    offset_bounds-c-i
+    bounds-c-i
+    overflow_add-i
+    offset_bounds-c-i-in-loop-i
+    bounds-c-i-in-loop-i
     near-requires
-    returns-3
-    add-i
-    loop-less
-    loop-again
-    mul-ends
-    shared-slice-read-ends
+    returns-then-not-near
+    overflow_add-i-in-loop-i
+    loop-i-smaller
+    loop-i-preserved
+    offset_bounds-c-last
+    bounds-c-last
     ends-requires
-    returns-4)
+    returns)

@@ -7,41 +7,41 @@ use Rattle.blocks.specs.Blocks.{shift_in, embed_in}
 use Rattle.blocks.proofs.embed.Statement.{statement}
 use Rattle.blocks.proofs.embed.Tie as tie
 
-mul-i : tie.Need-overflow-mul-i
+overflow_mul-i : tie.Need-overflow_mul-i
 unfolding shift_in sides
-mul-i c = omega (arith, c.before.requires.1 X)
+overflow_mul-i c = omega (arith, c.before.requires.1 X)
 
-add-i : tie.Need-overflow-add-i
+overflow_add-i : tie.Need-overflow_add-i
 unfolding shift_in sides
-add-i c = omega (arith, c.before.requires.1 X)
+overflow_add-i c = omega (arith, c.before.requires.1 X)
 
-mul-j : tie.Need-overflow-mul-j
+overflow_mul-j : tie.Need-overflow_mul-j
 unfolding shift_in sides
-mul-j c = omega (arith, c.before.before.requires.1 Y)
+overflow_mul-j c = omega (arith, c.before.before.requires.1 Y)
 
-add-j : tie.Need-overflow-add-j
+overflow_add-j : tie.Need-overflow_add-j
 unfolding shift_in sides
-add-j c = omega (arith, c.before.before.requires.1 Y)
+overflow_add-j c = omega (arith, c.before.before.requires.1 Y)
 
-mul-k : tie.Need-overflow-mul-k
+overflow_mul-k : tie.Need-overflow_mul-k
 unfolding shift_in sides
-mul-k c = omega (arith, c.before.before.before.requires.1 Z)
+overflow_mul-k c = omega (arith, c.before.before.before.requires.1 Z)
 
-add-k : tie.Need-overflow-add-k
+overflow_add-k : tie.Need-overflow_add-k
 unfolding shift_in sides
-add-k c = omega (arith, c.before.before.before.requires.1 Z)
+overflow_add-k c = omega (arith, c.before.before.before.requires.1 Z)
 
-mul-w : tie.Need-overflow-mul-w
-mul-w c = search rules
+overflow_mul-w : tie.Need-overflow_mul-w
+overflow_mul-w c = search rules
 
-sub-w : tie.Need-overflow-sub-w
-sub-w c = search rules
+overflow_sub-w : tie.Need-overflow_sub-w
+overflow_sub-w c = search rules
 
-mul-h : tie.Need-overflow-mul-h
-mul-h c = search rules
+overflow_mul-h : tie.Need-overflow_mul-h
+overflow_mul-h c = search rules
 
-sub-h : tie.Need-overflow-sub-h
-sub-h c = search rules
+overflow_sub-h : tie.Need-overflow_sub-h
+overflow_sub-h c = search rules
 
 position-requires : tie.Need-position-requires
 unfolding shift_in sides
@@ -55,15 +55,15 @@ pub embed_spec : {M : Type 1} → statement M
 embed_spec =
     tie.close
     (tie.spec
-    mul-i
-    add-i
-    mul-j
-    add-j
-    mul-k
-    add-k
-    mul-w
-    sub-w
-    mul-h
-    sub-h
+    overflow_mul-i
+    overflow_add-i
+    overflow_mul-j
+    overflow_add-j
+    overflow_mul-k
+    overflow_add-k
+    overflow_mul-w
+    overflow_sub-w
+    overflow_mul-h
+    overflow_sub-h
     position-requires
     returns)

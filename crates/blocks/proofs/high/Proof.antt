@@ -4,43 +4,43 @@ use Rattle.blocks.proofs.CodeLaws.{high_past, high_last, high_next}
 use Rattle.blocks.proofs.high.Statement.{statement}
 use Rattle.blocks.proofs.high.Tie as tie
 
+returns-then-c-i : tie.Need-returns-then-c-i
+returns-then-c-i c = search high_past
+
+overflow_sub-c : tie.Need-overflow_sub-c
+overflow_sub-c c = search rules
+
+offset_bounds-c-i : tie.Need-offset_bounds-c-i
+offset_bounds-c-i c = search rules
+
+bounds-c-i : tie.Need-bounds-c-i
+bounds-c-i c = search rules
+
+returns-then-c-i-lt2 : tie.Need-returns-then-c-i-lt2
+returns-then-c-i-lt2 c = search high_last
+
+overflow_add-result : tie.Need-overflow_add-result
+overflow_add-result c = search rules
+
+offset_bounds-c-i-2 : tie.Need-offset_bounds-c-i-2
+offset_bounds-c-i-2 c = search rules
+
+bounds-c-i-2 : tie.Need-bounds-c-i-2
+bounds-c-i-2 c = search rules
+
 returns : tie.Need-returns
-returns c = search high_past
-
-sub-if2 : tie.Need-overflow-sub-if2
-sub-if2 c = search rules
-
-mul-result : tie.Need-overflow-mul-result
-mul-result c = search rules
-
-shared-slice-read-result : tie.Need-shared-slice-read-result
-shared-slice-read-result c = search rules
-
-returns-2 : tie.Need-returns-2
-returns-2 c = search high_last
-
-add-result : tie.Need-overflow-add-result
-add-result c = search rules
-
-mul-result-2 : tie.Need-overflow-mul-result-2
-mul-result-2 c = search rules
-
-shared-slice-read-result-2 : tie.Need-shared-slice-read-result-2
-shared-slice-read-result-2 c = search rules
-
-returns-3 : tie.Need-returns-3
-returns-3 c = search high_next
+returns c = search high_next
 
 pub high_spec : {M : Type 1} → statement M
 high_spec =
     tie.close
     (tie.spec
-    returns
-    sub-if2
-    mul-result
-    shared-slice-read-result
-    returns-2
-    add-result
-    mul-result-2
-    shared-slice-read-result-2
-    returns-3)
+    returns-then-c-i
+    overflow_sub-c
+    offset_bounds-c-i
+    bounds-c-i
+    returns-then-c-i-lt2
+    overflow_add-result
+    offset_bounds-c-i-2
+    bounds-c-i-2
+    returns)

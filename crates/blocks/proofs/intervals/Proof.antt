@@ -5,16 +5,16 @@ use Rattle.cutting.specs.Cutting.{intervals}
 use Rattle.blocks.proofs.intervals.Statement.{statement}
 use Rattle.blocks.proofs.intervals.Tie as tie
 
-sub-result : tie.Need-overflow-sub-result
-sub-result c = search rules
+overflow_sub-result : tie.Need-overflow_sub-result
+overflow_sub-result c = search rules
 
-returns : tie.Need-returns
+returns-then-n-lt2 : tie.Need-returns-then-n-lt2
 unfolding intervals
-returns c = omega arith
+returns-then-n-lt2 c = omega arith
 
-returns-2 : tie.Need-returns-2
+returns-else-n-lt2 : tie.Need-returns-else-n-lt2
 unfolding intervals
-returns-2 c = omega arith
+returns-else-n-lt2 c = omega arith
 
 pub intervals_spec : {M : Type 1} → statement M
-intervals_spec = tie.close (tie.spec sub-result returns returns-2)
+intervals_spec = tie.close (tie.spec overflow_sub-result returns-then-n-lt2 returns-else-n-lt2)

@@ -8,35 +8,35 @@ use Rattle.blocks.proofs.BlockLaws.{in_low, in_high}
 use Rattle.blocks.proofs.local.Statement.{statement}
 use Rattle.blocks.proofs.local.Tie as tie
 
-mul-i : tie.Need-overflow-mul-i
-mul-i c = omega (arith, in_low _ _ c.before.requires.0 X)
+overflow_mul-i : tie.Need-overflow_mul-i
+overflow_mul-i c = omega (arith, in_low _ _ c.before.requires.0 X)
 
-sub-i : tie.Need-overflow-sub-i
-sub-i c = omega (arith, in_low _ _ c.before.requires.0 X)
+overflow_sub-i : tie.Need-overflow_sub-i
+overflow_sub-i c = omega (arith, in_low _ _ c.before.requires.0 X)
 
-mul-j : tie.Need-overflow-mul-j
-mul-j c = omega (arith, in_low _ _ c.before.before.requires.0 Y)
+overflow_mul-j : tie.Need-overflow_mul-j
+overflow_mul-j c = omega (arith, in_low _ _ c.before.before.requires.0 Y)
 
-sub-j : tie.Need-overflow-sub-j
-sub-j c = omega (arith, in_low _ _ c.before.before.requires.0 Y)
+overflow_sub-j : tie.Need-overflow_sub-j
+overflow_sub-j c = omega (arith, in_low _ _ c.before.before.requires.0 Y)
 
-mul-k : tie.Need-overflow-mul-k
-mul-k c = omega (arith, in_low _ _ c.before.before.before.requires.0 Z)
+overflow_mul-k : tie.Need-overflow_mul-k
+overflow_mul-k c = omega (arith, in_low _ _ c.before.before.before.requires.0 Z)
 
-sub-k : tie.Need-overflow-sub-k
-sub-k c = omega (arith, in_low _ _ c.before.before.before.requires.0 Z)
+overflow_sub-k : tie.Need-overflow_sub-k
+overflow_sub-k c = omega (arith, in_low _ _ c.before.before.before.requires.0 Z)
 
-mul-position : tie.Need-overflow-mul-position
-mul-position c = search rules
+overflow_mul-block : tie.Need-overflow_mul-block
+overflow_mul-block c = search rules
 
-sub-position : tie.Need-overflow-sub-position
-sub-position c = search rules
+overflow_sub-block : tie.Need-overflow_sub-block
+overflow_sub-block c = search rules
 
-mul-position-2 : tie.Need-overflow-mul-position-2
-mul-position-2 c = search rules
+overflow_mul-block-2 : tie.Need-overflow_mul-block-2
+overflow_mul-block-2 c = search rules
 
-sub-position-2 : tie.Need-overflow-sub-position-2
-sub-position-2 c = search rules
+overflow_sub-block-2 : tie.Need-overflow_sub-block-2
+overflow_sub-block-2 c = search rules
 
 position-requires : tie.Need-position-requires
 unfolding sides
@@ -52,15 +52,15 @@ pub local_spec : {M : Type 1} → statement M
 local_spec =
     tie.close
     (tie.spec
-    mul-i
-    sub-i
-    mul-j
-    sub-j
-    mul-k
-    sub-k
-    mul-position
-    sub-position
-    mul-position-2
-    sub-position-2
+    overflow_mul-i
+    overflow_sub-i
+    overflow_mul-j
+    overflow_sub-j
+    overflow_mul-k
+    overflow_sub-k
+    overflow_mul-block
+    overflow_sub-block
+    overflow_mul-block-2
+    overflow_sub-block-2
     position-requires
     returns)

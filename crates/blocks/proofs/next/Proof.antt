@@ -4,14 +4,14 @@ use Rattle.blocks.proofs.CodeLaws.{next_up, next_not}
 use Rattle.blocks.proofs.next.Statement.{statement}
 use Rattle.blocks.proofs.next.Tie as tie
 
-sub-result : tie.Need-overflow-sub-result
-sub-result c = search rules
+overflow_sub-result : tie.Need-overflow_sub-result
+overflow_sub-result c = search rules
+
+returns-then-i-j : tie.Need-returns-then-i-j
+returns-then-i-j c = search next_up
 
 returns : tie.Need-returns
-returns c = search next_up
-
-returns-2 : tie.Need-returns-2
-returns-2 c = search next_not
+returns c = search next_not
 
 pub next_spec : {M : Type 1} → statement M
-next_spec = tie.close (tie.spec sub-result returns returns-2)
+next_spec = tie.close (tie.spec overflow_sub-result returns-then-i-j returns)

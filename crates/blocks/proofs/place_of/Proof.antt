@@ -5,31 +5,31 @@ use Rattle.blocks.proofs.CodeLaws.{place_is}
 use Rattle.blocks.proofs.place_of.Statement.{statement}
 use Rattle.blocks.proofs.place_of.Tie as tie
 
-intervals-requires : tie.Need-intervals-requires
-intervals-requires c κs = search rules
+intervals-w-requires : tie.Need-intervals-w-requires
+intervals-w-requires c κs = search rules
 
-intervals-requires-2 : tie.Need-intervals-requires-2
-intervals-requires-2 c κs = search rules
+intervals-h-requires : tie.Need-intervals-h-requires
+intervals-h-requires c κs = search rules
 
-rem-t6 : tie.Need-nonzero-rem-t6
+nonzero_rem-result : tie.Need-nonzero_rem-result
 unfolding intervals
-rem-t6 c = search rules
+nonzero_rem-result c = search rules
 
-div-t7 : tie.Need-nonzero-div-t7
+nonzero_div-result : tie.Need-nonzero_div-result
 unfolding intervals
-div-t7 c = search rules
+nonzero_div-result c = search rules
 
-rem-t8 : tie.Need-nonzero-rem-t8
+nonzero_rem-result-2 : tie.Need-nonzero_rem-result-2
 unfolding intervals
-rem-t8 c = search rules
+nonzero_rem-result-2 c = search rules
 
-div-t9 : tie.Need-nonzero-div-t9
+nonzero_div-result-2 : tie.Need-nonzero_div-result-2
 unfolding intervals
-div-t9 c = search rules
+nonzero_div-result-2 c = search rules
 
-div-t10 : tie.Need-nonzero-div-t10
+nonzero_div-result-3 : tie.Need-nonzero_div-result-3
 unfolding intervals
-div-t10 c = search rules
+nonzero_div-result-3 c = search rules
 
 returns : tie.Need-returns
 returns c = search place_is
@@ -37,4 +37,4 @@ returns c = search place_is
 pub place_of_spec : {M : Type 1} → statement M
 place_of_spec =
     tie.close
-    (tie.spec intervals-requires intervals-requires-2 rem-t6 div-t7 rem-t8 div-t9 div-t10 returns)
+    (tie.spec intervals-w-requires intervals-h-requires nonzero_rem-result nonzero_div-result nonzero_rem-result-2 nonzero_div-result-2 nonzero_div-result-3 returns)

@@ -4,35 +4,35 @@ use Rattle.blocks.proofs.CodeLaws.{axis_x, axis_y, axis_z}
 use Rattle.blocks.proofs.seam_axis.Statement.{statement}
 use Rattle.blocks.proofs.seam_axis.Tie as tie
 
-place-of-requires : tie.Need-place-of-requires
-place-of-requires c κs = search rules
+place_of-p-requires : tie.Need-place_of-p-requires
+place_of-p-requires c κs = search rules
 
-place-of-requires-2 : tie.Need-place-of-requires-2
-place-of-requires-2 c κs = search rules
+place_of-q-requires : tie.Need-place_of-q-requires
+place_of-q-requires c κs = search rules
 
 next-requires : tie.Need-next-requires
 next-requires c κs = search rules
 
-returns : tie.Need-returns
-returns c = λ nx ny nz. search axis_x
+returns-then-next : tie.Need-returns-then-next
+returns-then-next c = λ nx ny nz. search axis_x
 
 next-requires-2 : tie.Need-next-requires-2
 next-requires-2 c κs = search rules
 
-returns-2 : tie.Need-returns-2
-returns-2 c = λ nx ny nz. search axis_y
+returns-then-next-2 : tie.Need-returns-then-next-2
+returns-then-next-2 c = λ nx ny nz. search axis_y
 
-returns-3 : tie.Need-returns-3
-returns-3 c = λ nx ny nz. search axis_z
+returns-else-next-2 : tie.Need-returns-else-next-2
+returns-else-next-2 c = λ nx ny nz. search axis_z
 
 pub seam_axis_spec : {M : Type 1} → statement M
 seam_axis_spec =
     tie.close
     (tie.spec
-    place-of-requires
-    place-of-requires-2
+    place_of-p-requires
+    place_of-q-requires
     next-requires
-    returns
+    returns-then-next
     next-requires-2
-    returns-2
-    returns-3)
+    returns-then-next-2
+    returns-else-next-2)

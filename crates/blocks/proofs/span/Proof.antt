@@ -4,17 +4,17 @@ use borrow.Author.Rules.{rules}
 use Rattle.blocks.proofs.span.Statement.{statement}
 use Rattle.blocks.proofs.span.Tie as tie
 
+returns-then-h-l : tie.Need-returns-then-h-l
+returns-then-h-l c = omega arith
+
+overflow_cast-result-3 : tie.Need-overflow_cast-result-3
+overflow_cast-result-3 c = search rules
+
+overflow_add-result : tie.Need-overflow_add-result
+overflow_add-result c = search rules
+
 returns : tie.Need-returns
 returns c = omega arith
 
-cast-t7 : tie.Need-overflow-cast-t7
-cast-t7 c = search rules
-
-add-t8 : tie.Need-overflow-add-t8
-add-t8 c = search rules
-
-returns-2 : tie.Need-returns-2
-returns-2 c = omega arith
-
 pub span_spec : {M : Type 1} → statement M
-span_spec = tie.close (tie.spec returns cast-t7 add-t8 returns-2)
+span_spec = tie.close (tie.spec returns-then-h-l overflow_cast-result-3 overflow_add-result returns)

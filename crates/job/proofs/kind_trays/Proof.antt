@@ -4,8 +4,8 @@ use Rattle.joiner.specs.Job.{lengths_fit}
 use Rattle.job.proofs.kind_trays.Statement.{statement}
 use Rattle.job.proofs.kind_trays.Tie as tie
 
-places-requires : tie.Need-places-requires
-places-requires c κs = search rules
+places-m-requires : tie.Need-places-m-requires
+places-m-requires c κs = search rules
 
 also-requires : tie.Need-also-requires
 also-requires c κs = search rules
@@ -30,7 +30,7 @@ pub kind_trays_spec : {M : Type 1} → statement M
 kind_trays_spec =
     tie.close
     (tie.spec
-    places-requires
+    places-m-requires
     also-requires
     also-requires-2
     also-requires-3

@@ -3,47 +3,47 @@ use borrow.Author.Rules.{rules}
 use Rattle.job.proofs.stage_number.Statement.{statement}
 use Rattle.job.proofs.stage_number.Tie as tie
 
-enum_told : tie.Need-enum-told
-enum_told c = search rules
+enum_told-1 : tie.Need-enum_told-1
+enum_told-1 c = search rules
 
-enum-told-2 : tie.Need-enum-told-2
-enum-told-2 c = search rules
+enum_told-in-Seam : tie.Need-enum_told-in-Seam
+enum_told-in-Seam c = search rules
 
-enum-told-3 : tie.Need-enum-told-3
-enum-told-3 c = search rules
+enum_told-in-Crossing : tie.Need-enum_told-in-Crossing
+enum_told-in-Crossing c = search rules
 
-enum-told-4 : tie.Need-enum-told-4
-enum-told-4 c = search rules
+enum_told-in-Points : tie.Need-enum_told-in-Points
+enum_told-in-Points c = search rules
 
-enum-told-5 : tie.Need-enum-told-5
-enum-told-5 c = search rules
+enum_told-in-Closed : tie.Need-enum_told-in-Closed
+enum_told-in-Closed c = search rules
 
-returns : tie.Need-returns
-returns c = search rules
+returns-in-Enrol : tie.Need-returns-in-Enrol
+returns-in-Enrol c = search rules
 
-returns-2 : tie.Need-returns-2
-returns-2 c = search rules
+returns-in-Seam : tie.Need-returns-in-Seam
+returns-in-Seam c = search rules
 
-returns-3 : tie.Need-returns-3
-returns-3 c = search rules
+returns-in-Crossing : tie.Need-returns-in-Crossing
+returns-in-Crossing c = search rules
 
-returns-4 : tie.Need-returns-4
-returns-4 c = search rules
+returns-in-Points : tie.Need-returns-in-Points
+returns-in-Points c = search rules
 
-returns-5 : tie.Need-returns-5
-returns-5 c = search rules
+returns-in-Closed : tie.Need-returns-in-Closed
+returns-in-Closed c = search rules
 
 pub stage_number_spec : {M : Type 1} → statement M
 stage_number_spec =
     tie.close
     (tie.spec
-    enum_told
-    enum-told-2
-    enum-told-3
-    enum-told-4
-    enum-told-5
-    returns
-    returns-2
-    returns-3
-    returns-4
-    returns-5)
+    enum_told-1
+    enum_told-in-Seam
+    enum_told-in-Crossing
+    enum_told-in-Points
+    enum_told-in-Closed
+    returns-in-Enrol
+    returns-in-Seam
+    returns-in-Crossing
+    returns-in-Points
+    returns-in-Closed)

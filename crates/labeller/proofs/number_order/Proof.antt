@@ -18,7 +18,7 @@ number-cells-requires c κs =
     let joined = c.before.before.before.before in
     let lent = joined.before in
     let st = lent.before.before.before.before in
-    (st.requires.0, st.requires.1, st.requires.3, joined_spanning _ _ st.requires.2 _ joined.join_Cells.ensures)
+    (st.requires.0, st.requires.1, st.requires.3, joined_spanning _ _ st.requires.2 _ joined.join_cells.ensures)
 
 same_length : tie.Need-same-length
 same_length c = search rules

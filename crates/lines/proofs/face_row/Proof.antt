@@ -9,21 +9,21 @@ use Rattle.lines.proofs.LineLaws.{below_read, above_read, row_odds}
 use Rattle.lines.proofs.face_row.Statement.{statement}
 use Rattle.lines.proofs.face_row.Tie as tie
 
-below-requires : tie.Need-below-requires
-below-requires c κs = search (rules, below_read, Memᴰ.head)
+below-u-requires : tie.Need-below-u-requires
+below-u-requires c κs = search (rules, below_read, Memᴰ.head)
 
-above-requires : tie.Need-above-requires
-above-requires c κs = search (above_read, Memᴰ.head)
+above-v-requires : tie.Need-above-v-requires
+above-v-requires c κs = search (above_read, Memᴰ.head)
 
-row-of-two-requires : tie.Need-row-of-two-requires
-row-of-two-requires c κs = search rules
+row_of_two-requires : tie.Need-row_of_two-requires
+row_of_two-requires c κs = search rules
 
 returns : tie.Need-returns
 unfolding around
 returns c =
     let a = c.before.before.before.before.args in
     let e = triple a.nx a.ny a.nz in
-    c.row-of-two.ensures ∙ rw (c.before.before.below.ensures, c.before.above.ensures) (sym (row_odds e a.map.now a.p (a.a ∷ []) c.before.before.before.before.requires.2))
+    c.row_of_two.ensures ∙ rw (c.before.before.below-u.ensures, c.before.above-v.ensures) (sym (row_odds e a.map.now a.p (a.a ∷ []) c.before.before.before.before.requires.2))
 
 pub face_row_spec : {M : Type 1} → statement M
-face_row_spec = tie.close (tie.spec below-requires above-requires row-of-two-requires returns)
+face_row_spec = tie.close (tie.spec below-u-requires above-v-requires row_of_two-requires returns)

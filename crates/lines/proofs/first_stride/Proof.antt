@@ -4,14 +4,14 @@ use Rattle.lines.specs.Lines.{first_stride}
 use Rattle.lines.proofs.first_stride.Statement.{statement}
 use Rattle.lines.proofs.first_stride.Tie as tie
 
-mul-stride : tie.Need-overflow-mul-stride
-mul-stride c = search rules
+overflow_mul-y : tie.Need-overflow_mul-y
+overflow_mul-y c = search rules
 
-add-stride : tie.Need-overflow-add-stride
-add-stride c = search rules
+overflow_add-x : tie.Need-overflow_add-x
+overflow_add-x c = search rules
 
-add-stride-2 : tie.Need-overflow-add-stride-2
-add-stride-2 c = search rules
+overflow_add-x-2 : tie.Need-overflow_add-x-2
+overflow_add-x-2 c = search rules
 
 stride-requires : tie.Need-stride-requires
 stride-requires c κs = search rules
@@ -21,4 +21,4 @@ unfolding first_stride
 returns c = c.stride.ensures
 
 pub first_stride_spec : {M : Type 1} → statement M
-first_stride_spec = tie.close (tie.spec mul-stride add-stride add-stride-2 stride-requires returns)
+first_stride_spec = tie.close (tie.spec overflow_mul-y overflow_add-x overflow_add-x-2 stride-requires returns)

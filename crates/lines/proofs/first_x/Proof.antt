@@ -7,24 +7,24 @@ use Rattle.lines.specs.Lines.{first_x}
 use Rattle.lines.proofs.first_x.Statement.{statement}
 use Rattle.lines.proofs.first_x.Tie as tie
 
-returns : tie.Need-returns
+returns-then-n-q : tie.Need-returns-then-n-q
 unfolding first_x
-returns c = rw (eq-eqb _ _ c.if1.true)
+returns-then-n-q c = rw (eq-eqb _ _ c.if-n-q.true)
 
-sub-if3 : tie.Need-overflow-sub-if3
-sub-if3 c = search rules
+overflow_sub-n : tie.Need-overflow_sub-n
+overflow_sub-n c = search rules
 
-returns-2 : tie.Need-returns-2
+returns-then-n-q-eq1 : tie.Need-returns-then-n-q-eq1
 unfolding first_x
-returns-2 c = rw (ne_eqb _ _ c.before.before.if1.false, eq-eqb c.before.before.before.args.n (suc c.before.before.before.args.q) (omega arith))
+returns-then-n-q-eq1 c = rw (ne_eqb _ _ c.before.before.if-n-q.false, eq-eqb c.before.before.before.args.n (suc c.before.before.before.args.q) (omega arith))
 
-returns-3 : tie.Need-returns-3
+returns-else-n-q-eq1 : tie.Need-returns-else-n-q-eq1
 unfolding first_x
-returns-3 c = rw (ne_eqb _ _ c.before.before.if1.false, ne_eqb c.before.before.before.args.n (suc c.before.before.before.args.q) (λ e. c.if3.false (omega arith)))
+returns-else-n-q-eq1 c = rw (ne_eqb _ _ c.before.before.if-n-q.false, ne_eqb c.before.before.before.args.n (suc c.before.before.before.args.q) (λ e. c.if-n-q-eq1.false (omega arith)))
 
-returns-4 : tie.Need-returns-4
+returns-else-n-q-2 : tie.Need-returns-else-n-q-2
 unfolding first_x
-returns-4 c = rw (ne_eqb _ _ c.before.if1.false, ne_eqb c.before.before.args.n (suc c.before.before.args.q) (λ e. omega arith))
+returns-else-n-q-2 c = rw (ne_eqb _ _ c.before.if-n-q.false, ne_eqb c.before.before.args.n (suc c.before.before.args.q) (λ e. omega arith))
 
 pub first_x_spec : {M : Type 1} → statement M
-first_x_spec = tie.close (tie.spec returns sub-if3 returns-2 returns-3 returns-4)
+first_x_spec = tie.close (tie.spec returns-then-n-q overflow_sub-n returns-then-n-q-eq1 returns-else-n-q-eq1 returns-else-n-q-2)

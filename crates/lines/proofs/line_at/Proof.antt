@@ -6,24 +6,24 @@ use Rattle.lines.specs.Lines.{line_y, line_z}
 use Rattle.lines.proofs.line_at.Statement.{statement}
 use Rattle.lines.proofs.line_at.Tie as tie
 
-mul-h : tie.Need-overflow-mul-h
-mul-h c = search rules
+overflow_mul-h : tie.Need-overflow_mul-h
+overflow_mul-h c = search rules
 
-sub-h : tie.Need-overflow-sub-h
-sub-h c = search rules
+overflow_sub-h : tie.Need-overflow_sub-h
+overflow_sub-h c = search rules
 
-rem-line-with : tie.Need-nonzero-rem-line-with
-rem-line-with c = search rules
+nonzero_rem-l : tie.Need-nonzero_rem-l
+nonzero_rem-l c = search rules
 
-div-line-with : tie.Need-nonzero-div-line-with
-div-line-with c = search rules
+nonzero_div-l : tie.Need-nonzero_div-l
+nonzero_div-l c = search rules
 
-add-line-with : tie.Need-overflow-add-line-with
-add-line-with c = search rules
+overflow_add-l : tie.Need-overflow_add-l
+overflow_add-l c = search rules
 
-line-with-requires : tie.Need-line-with-requires
+line_with-requires : tie.Need-line_with-requires
 unfolding sides line_y line_z
-line-with-requires c κs = let p = c.requires in (p.0, p.1, refl)
+line_with-requires c κs = let p = c.requires in (p.0, p.1, refl)
 
 returns : tie.Need-returns
 returns c = search rules
@@ -31,4 +31,4 @@ returns c = search rules
 pub line_at_spec : {M : Type 1} → statement M
 line_at_spec =
     tie.close
-    (tie.spec mul-h sub-h rem-line-with div-line-with add-line-with line-with-requires returns)
+    (tie.spec overflow_mul-h overflow_sub-h nonzero_rem-l nonzero_div-l overflow_add-l line_with-requires returns)

@@ -8,25 +8,25 @@ use Rattle.lines.proofs.LineLaws.{lines_high}
 use Rattle.lines.proofs.line_count.Statement.{statement}
 use Rattle.lines.proofs.line_count.Tie as tie
 
-mul-result : tie.Need-overflow-mul-result
-mul-result c = search rules
+overflow_mul-result : tie.Need-overflow_mul-result
+overflow_mul-result c = search rules
 
-sub-result : tie.Need-overflow-sub-result
-sub-result c = search rules
+overflow_sub-result : tie.Need-overflow_sub-result
+overflow_sub-result c = search rules
 
-mul-result-2 : tie.Need-overflow-mul-result-2
-mul-result-2 c = search rules
+overflow_mul-result-2 : tie.Need-overflow_mul-result-2
+overflow_mul-result-2 c = search rules
 
-sub-result-2 : tie.Need-overflow-sub-result-2
-sub-result-2 c = search rules
+overflow_sub-result-2 : tie.Need-overflow_sub-result-2
+overflow_sub-result-2 c = search rules
 
-mul-result-3 : tie.Need-overflow-mul-result-3
+overflow_mul-result-3 : tie.Need-overflow_mul-result-3
 unfolding line_count sides
-mul-result-3 c = omega (arith, lines_high c.requires)
+overflow_mul-result-3 c = omega (arith, lines_high c.requires)
 
 returns : tie.Need-returns
 unfolding line_count sides
 returns c = refl
 
 pub line_count_spec : {M : Type 1} → statement M
-line_count_spec = tie.close (tie.spec mul-result sub-result mul-result-2 sub-result-2 mul-result-3 returns)
+line_count_spec = tie.close (tie.spec overflow_mul-result overflow_sub-result overflow_mul-result-2 overflow_sub-result-2 overflow_mul-result-3 returns)

@@ -7,22 +7,22 @@ use Rattle.lines.proofs.WalkLaws.{line_fits}
 use Rattle.lines.proofs.line_with.Statement.{statement}
 use Rattle.lines.proofs.line_with.Tie as tie
 
-mul-w : tie.Need-overflow-mul-w
-mul-w c = search rules
+overflow_mul-w : tie.Need-overflow_mul-w
+overflow_mul-w c = search rules
 
-sub-w : tie.Need-overflow-sub-w
-sub-w c = search rules
+overflow_sub-w : tie.Need-overflow_sub-w
+overflow_sub-w c = search rules
 
-mul-t8 : tie.Need-overflow-mul-t8
+overflow_mul-result : tie.Need-overflow_mul-result
 unfolding sides
-mul-t8 c = omega (arith, line_fits c.requires.0 c.requires.1)
+overflow_mul-result c = omega (arith, line_fits c.requires.0 c.requires.1)
 
-first-x-requires : tie.Need-first-x-requires
-first-x-requires c κs = search rules
+first_x-requires : tie.Need-first_x-requires
+first_x-requires c κs = search rules
 
 returns : tie.Need-returns
 unfolding sides
-returns c = record { width = refl; base = refl; start = rw (← c.before.requires.2) c.first-x.ensures }
+returns c = record { width = refl; base = refl; start = rw (← c.before.requires.2) c.first_x.ensures }
 
 pub line_with_spec : {M : Type 1} → statement M
-line_with_spec = tie.close (tie.spec mul-w sub-w mul-t8 first-x-requires returns)
+line_with_spec = tie.close (tie.spec overflow_mul-w overflow_sub-w overflow_mul-result first_x-requires returns)

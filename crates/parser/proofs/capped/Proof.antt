@@ -5,13 +5,13 @@ use Prim.Native.Nat.{◌^◌}
 use Rattle.parser.proofs.capped.Statement.{statement}
 use Rattle.parser.proofs.capped.Tie as tie
 
+returns-then-x-lt-NO_NUMBER : tie.Need-returns-then-x-lt-NO_NUMBER
+unfolding capped
+returns-then-x-lt-NO_NUMBER c = rw (lt-ltb _ (2 ^ 32) c.if-x-lt-NO_NUMBER.true)
+
 returns : tie.Need-returns
 unfolding capped
-returns c = rw (lt-ltb _ (2 ^ 32) c.if1.true)
-
-returns-2 : tie.Need-returns-2
-unfolding capped
-returns-2 c = rw (le-ltb _ (2 ^ 32) c.if1.false)
+returns c = rw (le-ltb _ (2 ^ 32) c.if-x-lt-NO_NUMBER.false)
 
 pub capped_spec : {M : Type 1} → statement M
-capped_spec = tie.close (tie.spec returns returns-2)
+capped_spec = tie.close (tie.spec returns-then-x-lt-NO_NUMBER returns)

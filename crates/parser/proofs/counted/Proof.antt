@@ -3,8 +3,8 @@ use borrow.Author.Rules.{rules}
 use Rattle.parser.proofs.counted.Statement.{statement}
 use Rattle.parser.proofs.counted.Tie as tie
 
-add-t3 : tie.Need-overflow-add-t3
-add-t3 c = search rules
+overflow_add-result : tie.Need-overflow_add-result
+overflow_add-result c = search rules
 
 extent-requires : tie.Need-extent-requires
 extent-requires c κs = search rules
@@ -16,8 +16,8 @@ extent-requires-3 : tie.Need-extent-requires-3
 extent-requires-3 c κs = search rules
 
 returns : tie.Need-returns
-returns c = rw (c.before.before.extent.ensures, c.before.extent2.ensures, c.extent3.ensures)
+returns c = rw (c.before.before.extent.ensures, c.before.extent-2.ensures, c.extent-3.ensures)
 
 pub counted_spec : {M : Type 1} → statement M
 counted_spec =
-    tie.close (tie.spec add-t3 extent-requires extent-requires-2 extent-requires-3 returns)
+    tie.close (tie.spec overflow_add-result extent-requires extent-requires-2 extent-requires-3 returns)

@@ -6,47 +6,47 @@ use Rattle.extents.proofs.SizeLaws.{sized_of}
 use Rattle.parser.proofs.is_whole.Statement.{statement}
 use Rattle.parser.proofs.is_whole.Tie as tie
 
-returns : tie.Need-returns
-returns c = search whole_broken
+returns-then-s : tie.Need-returns-then-s
+returns-then-s c = search whole_broken
 
-returns-2 : tie.Need-returns-2
-returns-2 c = search whole_few
+returns-then-s-lt3 : tie.Need-returns-then-s-lt3
+returns-then-s-lt3 c = search whole_few
 
-cast-nx : tie.Need-overflow-cast-nx
-cast-nx c = search rules
+overflow_cast-nx : tie.Need-overflow_cast-nx
+overflow_cast-nx c = search rules
 
-cast-ny : tie.Need-overflow-cast-ny
-cast-ny c = search rules
+overflow_cast-ny : tie.Need-overflow_cast-ny
+overflow_cast-ny c = search rules
 
-cast-nz : tie.Need-overflow-cast-nz
-cast-nz c = search rules
+overflow_cast-nz : tie.Need-overflow_cast-nz
+overflow_cast-nz c = search rules
 
-off-size-requires : tie.Need-off-size-requires
-off-size-requires c κs = search rules
+off_size-requires : tie.Need-off_size-requires
+off_size-requires c κs = search rules
 
-returns-3 : tie.Need-returns-3
-returns-3 c = search whole_off
+returns-then-off_size : tie.Need-returns-then-off_size
+returns-then-off_size c = search whole_off
 
-code-count-requires : tie.Need-code-count-requires
-code-count-requires c κs = search rules
+code_count-requires : tie.Need-code_count-requires
+code_count-requires c κs = search rules
 
 voxels-requires : tie.Need-voxels-requires
-voxels-requires c κs = sized_of 8 _ (sym c.before.before.off-size.ensures ∙ c.before.if3.false)
+voxels-requires c κs = sized_of 8 _ (sym c.before.before.off_size.ensures ∙ c.before.if-off_size.false)
 
-returns-4 : tie.Need-returns-4
-returns-4 c = search whole_rest
+returns : tie.Need-returns
+returns c = search whole_rest
 
 pub is_whole_spec : {M : Type 1} → statement M
 is_whole_spec =
     tie.close
     (tie.spec
-    returns
-    returns-2
-    cast-nx
-    cast-ny
-    cast-nz
-    off-size-requires
-    returns-3
-    code-count-requires
+    returns-then-s
+    returns-then-s-lt3
+    overflow_cast-nx
+    overflow_cast-ny
+    overflow_cast-nz
+    off_size-requires
+    returns-then-off_size
+    code_count-requires
     voxels-requires
-    returns-4)
+    returns)

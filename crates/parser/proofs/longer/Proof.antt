@@ -5,16 +5,16 @@ use Rattle.parser.specs.Scanning.{longer}
 use Rattle.parser.proofs.longer.Statement.{statement}
 use Rattle.parser.proofs.longer.Tie as tie
 
-add-result : tie.Need-overflow-add-result
-add-result c = search rules
+overflow_add-result : tie.Need-overflow_add-result
+overflow_add-result c = search rules
+
+returns-then-size-lt10 : tie.Need-returns-then-size-lt10
+unfolding longer
+returns-then-size-lt10 c = rw (lt-ltb _ 10 c.if-size-lt10.true)
 
 returns : tie.Need-returns
 unfolding longer
-returns c = rw (lt-ltb _ 10 c.if1.true)
-
-returns-2 : tie.Need-returns-2
-unfolding longer
-returns-2 c = rw (le-ltb _ 10 c.if1.false)
+returns c = rw (le-ltb _ 10 c.if-size-lt10.false)
 
 pub longer_spec : {M : Type 1} → statement M
-longer_spec = tie.close (tie.spec add-result returns returns-2)
+longer_spec = tie.close (tie.spec overflow_add-result returns-then-size-lt10 returns)

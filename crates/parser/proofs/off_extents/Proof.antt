@@ -6,26 +6,26 @@ use Rattle.parser.proofs.AnswerLaws.{off_told}
 use Rattle.parser.proofs.off_extents.Statement.{statement}
 use Rattle.parser.proofs.off_extents.Tie as tie
 
-returns : tie.Need-returns
+returns-then-s-lt3 : tie.Need-returns-then-s-lt3
 unfolding off_extents
-returns c = rw (lt-leb 3 _ c.if1.true)
+returns-then-s-lt3 c = rw (lt-leb 3 _ c.if-s-lt3.true)
 
-cast-off-size : tie.Need-overflow-cast-off-size
-cast-off-size c = search rules
+overflow_cast-s : tie.Need-overflow_cast-s
+overflow_cast-s c = search rules
 
-cast-off-size-2 : tie.Need-overflow-cast-off-size-2
-cast-off-size-2 c = search rules
+overflow_cast-s-2 : tie.Need-overflow_cast-s-2
+overflow_cast-s-2 c = search rules
 
-cast-off-size-3 : tie.Need-overflow-cast-off-size-3
-cast-off-size-3 c = search rules
+overflow_cast-s-3 : tie.Need-overflow_cast-s-3
+overflow_cast-s-3 c = search rules
 
-off-size-requires : tie.Need-off-size-requires
-off-size-requires c κs = search rules
+off_size-requires : tie.Need-off_size-requires
+off_size-requires c κs = search rules
 
-returns-2 : tie.Need-returns-2
-returns-2 c = search off_told
+returns : tie.Need-returns
+returns c = search off_told
 
 pub off_extents_spec : {M : Type 1} → statement M
 off_extents_spec =
     tie.close
-    (tie.spec returns cast-off-size cast-off-size-2 cast-off-size-3 off-size-requires returns-2)
+    (tie.spec returns-then-s-lt3 overflow_cast-s overflow_cast-s-2 overflow_cast-s-3 off_size-requires returns)

@@ -9,48 +9,48 @@ use Rattle.parser.proofs.ScanLaws.{after_more, after_all}
 use Rattle.parser.proofs.scan.Statement.{statement}
 use Rattle.parser.proofs.scan.Tie as tie
 
-abbrev invariant-loop : tie.invariant-loop
-invariant-loop codes₀ chunk t₀ i₀ codes t i =
+abbrev invariant-loop-i : tie.invariant-loop-i
+invariant-loop-i codes₀ chunk t₀ i₀ codes t i =
     (i ≤ length chunk) × (length codes ≡ length codes₀) × (after (state t₀ codes₀) chunk ≡ after (state t codes) (drop i chunk))
 
-abbrev decreases-loop : tie.decreases-loop
-decreases-loop codes₀ chunk t₀ i₀ codes t i = length chunk - i
+abbrev decreases-loop-i : tie.decreases-loop-i
+decreases-loop-i codes₀ chunk t₀ i₀ codes t i = length chunk - i
 
-loop-holds : tie.Need-loop-init invariant-loop decreases-loop
-loop-holds c = (omega arith, refl, refl)
+loop-i-init : tie.Need-loop-i-init invariant-loop-i decreases-loop-i
+loop-i-init c = (omega arith, refl, refl)
 
-shared-slice-read-step : tie.Need-shared-slice-read-step invariant-loop decreases-loop
-shared-slice-read-step c = search rules
+bounds-chunk-i : tie.Need-bounds-chunk-i invariant-loop-i decreases-loop-i
+bounds-chunk-i c = search rules
 
-step-requires : tie.Need-step-requires invariant-loop decreases-loop
-step-requires c κs = search rules
+step-t-requires : tie.Need-step-t-requires invariant-loop-i decreases-loop-i
+step-t-requires c κs = search rules
 
-add-i : tie.Need-overflow-add-i invariant-loop decreases-loop
-add-i c = search rules
+overflow_add-i : tie.Need-overflow_add-i invariant-loop-i decreases-loop-i
+overflow_add-i c = search rules
 
-loop-less : tie.Need-loop-smaller invariant-loop decreases-loop
-loop-less c = search rules
+loop-i-smaller : tie.Need-loop-i-smaller invariant-loop-i decreases-loop-i
+loop-i-smaller c = search rules
 
-loop-again : tie.Need-loop-preserved invariant-loop decreases-loop
-loop-again c = search (rules, after_more)
+loop-i-preserved : tie.Need-loop-i-preserved invariant-loop-i decreases-loop-i
+loop-i-preserved c = search (rules, after_more)
 
-same_length : tie.Need-same-length invariant-loop decreases-loop
-same_length c = search rules
+shape_of-codes : tie.Need-shape_of-codes invariant-loop-i decreases-loop-i
+shape_of-codes c = search rules
 
-returns : tie.Need-returns invariant-loop decreases-loop
+returns : tie.Need-returns invariant-loop-i decreases-loop-i
 returns c = search after_all
 
 pub scan_spec : {M : Type 1} → statement M
 scan_spec =
     tie.close
     (tie.spec
-    invariant-loop
-    decreases-loop
-    loop-holds
-    shared-slice-read-step
-    step-requires
-    add-i
-    loop-less
-    loop-again
-    same_length
+    invariant-loop-i
+    decreases-loop-i
+    loop-i-init
+    bounds-chunk-i
+    step-t-requires
+    overflow_add-i
+    loop-i-smaller
+    loop-i-preserved
+    shape_of-codes
     returns)

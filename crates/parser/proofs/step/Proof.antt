@@ -4,25 +4,25 @@ use Rattle.parser.proofs.ScanLaws.{step_gap, step_byte}
 use Rattle.parser.proofs.step.Statement.{statement}
 use Rattle.parser.proofs.step.Tie as tie
 
-is-gap-requires : tie.Need-is-gap-requires
-is-gap-requires c κs = search rules
+is_gap-requires : tie.Need-is_gap-requires
+is_gap-requires c κs = search rules
 
 close-requires : tie.Need-close-requires
 close-requires c κs = search rules
 
-same_length : tie.Need-same-length
-same_length c = search rules
+shape_of-codes-then-is_gap : tie.Need-shape_of-codes-then-is_gap
+shape_of-codes-then-is_gap c = search rules
 
-returns : tie.Need-returns
-returns c = search step_gap
+returns-then-is_gap : tie.Need-returns-then-is_gap
+returns-then-is_gap c = search step_gap
 
 grown-requires : tie.Need-grown-requires
 grown-requires c κs = search rules
 
-returns-2 : tie.Need-returns-2
-returns-2 c = search step_byte
+returns : tie.Need-returns
+returns c = search step_byte
 
 pub step_spec : {M : Type 1} → statement M
 step_spec =
     tie.close
-    (tie.spec is-gap-requires close-requires same_length returns grown-requires returns-2)
+    (tie.spec is_gap-requires close-requires shape_of-codes-then-is_gap returns-then-is_gap grown-requires returns)

@@ -4,28 +4,28 @@ use Rattle.parser.proofs.ScanLaws.{stored_extent, stored_code, stored_out}
 use Rattle.parser.proofs.store.Statement.{statement}
 use Rattle.parser.proofs.store.Tie as tie
 
-returns : tie.Need-returns
-returns c = search stored_extent
+returns-then-count-lt3 : tie.Need-returns-then-count-lt3
+returns-then-count-lt3 c = search stored_extent
 
-cast-place : tie.Need-overflow-cast-place
-cast-place c = search rules
+overflow_cast-place : tie.Need-overflow_cast-place
+overflow_cast-place c = search rules
 
-mul-codes : tie.Need-overflow-mul-codes
-mul-codes c = search rules
+offset_bounds-codes-place : tie.Need-offset_bounds-codes-place
+offset_bounds-codes-place c = search rules
 
-slice-write-codes : tie.Need-slice-write-codes
-slice-write-codes c = search rules
+bounds-codes-place : tie.Need-bounds-codes-place
+bounds-codes-place c = search rules
 
-same_length : tie.Need-same-length
-same_length c = search rules
+shape_of-codes : tie.Need-shape_of-codes
+shape_of-codes c = search rules
 
-returns-2 : tie.Need-returns-2
-returns-2 c = search stored_code
+returns-then-place-codes : tie.Need-returns-then-place-codes
+returns-then-place-codes c = search stored_code
 
-returns-3 : tie.Need-returns-3
-returns-3 c = search stored_out
+returns-else-place-codes : tie.Need-returns-else-place-codes
+returns-else-place-codes c = search stored_out
 
 pub store_spec : {M : Type 1} → statement M
 store_spec =
     tie.close
-    (tie.spec returns cast-place mul-codes slice-write-codes same_length returns-2 returns-3)
+    (tie.spec returns-then-count-lt3 overflow_cast-place offset_bounds-codes-place bounds-codes-place shape_of-codes returns-then-place-codes returns-else-place-codes)

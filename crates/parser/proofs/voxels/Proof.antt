@@ -6,16 +6,16 @@ use Rattle.cells.proofs.ExtentLaws.{area_high, volume_high}
 use Rattle.parser.proofs.voxels.Statement.{statement}
 use Rattle.parser.proofs.voxels.Tie as tie
 
-mul-result : tie.Need-overflow-mul-result
-mul-result c = omega (arith, area_high c.requires)
+overflow_mul-result : tie.Need-overflow_mul-result
+overflow_mul-result c = omega (arith, area_high c.requires)
 
-mul-result-2 : tie.Need-overflow-mul-result-2
+overflow_mul-result-2 : tie.Need-overflow_mul-result-2
 unfolding volume
-mul-result-2 c = omega (arith, volume_high c.requires)
+overflow_mul-result-2 c = omega (arith, volume_high c.requires)
 
 returns : tie.Need-returns
 unfolding volume
 returns c = refl
 
 pub voxels_spec : {M : Type 1} → statement M
-voxels_spec = tie.close (tie.spec mul-result mul-result-2 returns)
+voxels_spec = tie.close (tie.spec overflow_mul-result overflow_mul-result-2 returns)

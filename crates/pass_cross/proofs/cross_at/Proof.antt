@@ -5,43 +5,43 @@ use Rattle.pass_cross.proofs.CrossLaws.{numbers_fit, cross_idle, cross_joined}
 use Rattle.pass_cross.proofs.cross_at.Statement.{statement}
 use Rattle.pass_cross.proofs.cross_at.Tie as tie
 
-numbers-around-requires : tie.Need-numbers-around-requires
-numbers-around-requires c κs = search rules
+numbers_around-numbers-requires : tie.Need-numbers_around-numbers-requires
+numbers_around-numbers-requires c κs = search rules
 
-count-active-requires : tie.Need-count-active-requires
-count-active-requires c κs = search rules
+count_active-requires : tie.Need-count_active-requires
+count_active-requires c κs = search rules
 
-returns : tie.Need-returns
-returns c = search cross_idle
+returns-then-count_active-lt2 : tie.Need-returns-then-count_active-lt2
+returns-then-count_active-lt2 c = search cross_idle
 
-rows-around-requires : tie.Need-rows-around-requires
-rows-around-requires c κs = search rules
+rows_around-rows-requires : tie.Need-rows_around-rows-requires
+rows_around-rows-requires c κs = search rules
 
-join-among-requires : tie.Need-join-among-requires
-join-among-requires c κs =
+join_among-requires : tie.Need-join_among-requires
+join_among-requires c κs =
     let d4 = c.before.before.before.before in
     let d = d4.before.before.before in
     let s = d.before.before.before.before in
-    (λ k h. numbers_fit _ _ _ _ d.numbers-around.ensures _ _ s.requires.at.inside s.requires.own k, s.requires.own.fits)
+    (λ k h. numbers_fit _ _ _ _ d.numbers_around-numbers.ensures _ _ s.requires.at.inside s.requires.own k, s.requires.own.fits)
 
-same_length : tie.Need-same-length
-same_length c = search rules
+shape_of-above : tie.Need-shape_of-above
+shape_of-above c = search rules
 
-same-length-2 : tie.Need-same-length-2
-same-length-2 c = search rules
+shape_of-links : tie.Need-shape_of-links
+shape_of-links c = search rules
 
-returns-2 : tie.Need-returns-2
-returns-2 c = search cross_joined
+returns : tie.Need-returns
+returns c = search cross_joined
 
 pub cross_at_spec : {M : Type 1} → statement M
 cross_at_spec =
     tie.close
     (tie.spec
-    numbers-around-requires
-    count-active-requires
-    returns
-    rows-around-requires
-    join-among-requires
-    same_length
-    same-length-2
-    returns-2)
+    numbers_around-numbers-requires
+    count_active-requires
+    returns-then-count_active-lt2
+    rows_around-rows-requires
+    join_among-requires
+    shape_of-above
+    shape_of-links
+    returns)

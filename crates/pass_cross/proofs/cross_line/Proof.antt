@@ -18,104 +18,104 @@ use Rattle.pass_cross.proofs.CrossLaws.{StillToCross, rest_all, rest_fewer, rest
 use Rattle.pass_cross.proofs.cross_line.Statement.{statement}
 use Rattle.pass_cross.proofs.cross_line.Tie as tie
 
-abbrev invariant-loop : tie.invariant-loop
-invariant-loop map nx ny nz j l above₀ above_from links₀ from n s line x₀ above links x =
+abbrev invariant-loop-x : tie.invariant-loop-x
+invariant-loop-x map nx ny nz j l above₀ above_from links₀ from n s line x₀ above links x =
     let e = triple nx ny nz in
     let g : ℕ → List Edge = cross_at e map (root above₀) above_from from in
     Walking e n l x × StillToCross above₀ above links₀ links (line_edges g e (j - 1) l) (flat_map g (ahead (λ p. eqb (order e p) (j - 1)) line x))
 
-abbrev decreases-loop : tie.decreases-loop
-decreases-loop map nx ny nz j l above₀ above_from links₀ from n s line x₀ above links x = line.width - x
+abbrev decreases-loop-x : tie.decreases-loop-x
+decreases-loop-x map nx ny nz j l above₀ above_from links₀ from n s line x₀ above links x = line.width - x
 
-abbrev extents-of : tie.Start invariant-loop decreases-loop → Triple
+abbrev extents-of : tie.Start invariant-loop-x decreases-loop-x → Triple
 extents-of s = triple s.args.nx s.args.ny s.args.nz
 
 -- The order of the cells, and how many of their axes are odd.
-odd_axes : (s : tie.Start invariant-loop decreases-loop) → 4 - s.args.j + (s.args.j - 1) ≡ 3
+odd_axes : (s : tie.Start invariant-loop-x decreases-loop-x) → 4 - s.args.j + (s.args.j - 1) ≡ 3
 odd_axes s = omega (arith, s.requires.0.low, s.requires.0.high)
 
 -- The start, from the place where the line is told and from the loop.
-abbrev entry : tie.After-strided-line invariant-loop decreases-loop → tie.Start invariant-loop decreases-loop
+abbrev entry : tie.After-strided_line-s invariant-loop-x decreases-loop-x → tie.Start invariant-loop-x decreases-loop-x
 entry told = told.before.before.before.before
 
-abbrev begin : tie.At-loop invariant-loop decreases-loop → tie.Start invariant-loop decreases-loop
+abbrev begin : tie.At-loop-x invariant-loop-x decreases-loop-x → tie.Start invariant-loop-x decreases-loop-x
 begin turn = entry turn.before.before
 
-sub-n : tie.Need-overflow-sub-n invariant-loop decreases-loop
-sub-n c = search rules
+overflow_sub-n : tie.Need-overflow_sub-n invariant-loop-x decreases-loop-x
+overflow_sub-n c = search rules
 
-strided-line-requires : tie.Need-strided-line-requires invariant-loop decreases-loop
-strided-line-requires c κs = let p = c.before.before.before.requires in (p.0.sized, p.1)
+strided_line-s-requires : tie.Need-strided_line-s-requires invariant-loop-x decreases-loop-x
+strided_line-s-requires c κs = let p = c.before.before.before.requires in (p.0.sized, p.1)
 
-loop-holds : tie.Need-loop-init invariant-loop decreases-loop
+loop-x-init : tie.Need-loop-x-init invariant-loop-x decreases-loop-x
 unfolding line_edges
-loop-holds c =
+loop-x-init c =
     let told = c.before in
-    let L = told.strided-line.ensures.line in
+    let L = told.strided_line-s.ensures.line in
     (walk_first L, rw (← cells_first L (odd_tests _ _ _ _ (odd_axes (entry told)))) (rest_all _ _ _))
 
-add-cross-at : tie.Need-overflow-add-cross-at invariant-loop decreases-loop
-add-cross-at c = search walk_sum
+overflow_add-line : tie.Need-overflow_add-line invariant-loop-x decreases-loop-x
+overflow_add-line c = search walk_sum
 
-cross-at-requires : tie.Need-cross-at-requires invariant-loop decreases-loop
-cross-at-requires c κs =
+cross_at-requires : tie.Need-cross_at-requires invariant-loop-x decreases-loop-x
+cross_at-requires c κs =
     let test = c.before.before.before in
     let turn = test.before.before in
     let p = (begin turn).requires in
-    let i = turn.loop.invariant in
-    line_cross (trays_kept p.0 i.1) turn.before.before.strided-line.ensures p.1 i.0 test.if1.true
+    let i = turn.loop-x.invariant in
+    line_cross (trays_kept p.0 i.1) turn.before.before.strided_line-s.ensures p.1 i.0 test.loop-x-test.true
 
 -- The test of the loop, from the end of a turn.
-abbrev test_of : tie.After-cross-at invariant-loop decreases-loop → tie.Then1 invariant-loop decreases-loop
+abbrev test_of : tie.After-cross_at invariant-loop-x decreases-loop-x → tie.In-loop-x invariant-loop-x decreases-loop-x
 test_of called = called.before.before.before.before
 
-add-x : tie.Need-overflow-add-x invariant-loop decreases-loop
-add-x c = search walk_step
+overflow_add-x : tie.Need-overflow_add-x invariant-loop-x decreases-loop-x
+overflow_add-x c = search walk_step
 
-loop-less : tie.Need-loop-smaller invariant-loop decreases-loop
-loop-less c = search rules
+loop-x-smaller : tie.Need-loop-x-smaller invariant-loop-x decreases-loop-x
+loop-x-smaller c = search rules
 
-loop-again : tie.Need-loop-preserved invariant-loop decreases-loop
+loop-x-preserved : tie.Need-loop-x-preserved invariant-loop-x decreases-loop-x
 unfolding flat_map
-loop-again c =
+loop-x-preserved c =
     let called = c.before.before.before.before in
     let test = test_of called in
     let turn = test.before.before in
     let s = begin turn in
-    let line = turn.before.before.strided-line in
-    let i = turn.loop.inv in
-    let rest = cells_next line.ensures.line (odd_tests _ _ _ _ (odd_axes s)) i.0 test.if1.taken in (
+    let line = turn.before.before.strided_line-s in
+    let i = turn.loop-x.invariant in
+    let rest = cells_next line.ensures.line (odd_tests _ _ _ _ (odd_axes s)) i.0 test.loop-x-test.true in (
       walk_next i.0,
-      rest_fewer (λ f. cross_at (extents-of s) s.args.map.now f s.args.above_from s.args.from (line.result.line.base + turn.loop.x)) (rw rest at i.1) called.cross_at.ensures,
+      rest_fewer (λ f. cross_at (extents-of s) s.args.map.now f s.args.above_from s.args.from (line.result.line.base + turn.loop-x.x)) (rw rest at i.1) called.cross_at.ensures,
     )
 
-same_length : tie.Need-same-length invariant-loop decreases-loop
-same_length c = search rules
+shape_of-above : tie.Need-shape_of-above invariant-loop-x decreases-loop-x
+shape_of-above c = search rules
 
-same-length-2 : tie.Need-same-length-2 invariant-loop decreases-loop
-same-length-2 c = search rules
+shape_of-links : tie.Need-shape_of-links invariant-loop-x decreases-loop-x
+shape_of-links c = search rules
 
-returns : tie.Need-returns invariant-loop decreases-loop
+returns : tie.Need-returns invariant-loop-x decreases-loop-x
 unfolding flat_map
 returns c =
     let turn = c.before.before in
-    let L = turn.before.before.strided-line.ensures.line in
-    rest_none (rw (cells_last L (odd_tests _ _ _ _ (odd_axes (begin turn))) c.if1.false) at turn.loop.invariant.1)
+    let L = turn.before.before.strided_line-s.ensures.line in
+    rest_none (rw (cells_last L (odd_tests _ _ _ _ (odd_axes (begin turn))) c.loop-x-test.false) at turn.loop-x.invariant.1)
 
 pub cross_line_spec : {M : Type 1} → statement M
 cross_line_spec =
     tie.close
     (tie.spec
-    invariant-loop
-    decreases-loop
-    sub-n
-    strided-line-requires
-    loop-holds
-    add-cross-at
-    cross-at-requires
-    add-x
-    loop-less
-    loop-again
-    same_length
-    same-length-2
+    invariant-loop-x
+    decreases-loop-x
+    overflow_sub-n
+    strided_line-s-requires
+    loop-x-init
+    overflow_add-line
+    cross_at-requires
+    overflow_add-x
+    loop-x-smaller
+    loop-x-preserved
+    shape_of-above
+    shape_of-links
     returns)

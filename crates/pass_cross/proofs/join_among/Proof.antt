@@ -11,46 +11,46 @@ use Rattle.pass_cross.proofs.EdgeLaws.{among_turn, among_end}
 use Rattle.pass_cross.proofs.join_among.Statement.{statement}
 use Rattle.pass_cross.proofs.join_among.Tie as tie
 
-abbrev invariant-loop : tie.invariant-loop
-invariant-loop links₀ from numbers rows i₀ links i = Left links₀ links (edges_among from numbers rows) (edges_among from (drop i numbers) (drop i rows))
+abbrev invariant-loop-i : tie.invariant-loop-i
+invariant-loop-i links₀ from numbers rows i₀ links i = Left links₀ links (edges_among from numbers rows) (edges_among from (drop i numbers) (drop i rows))
 
-abbrev decreases-loop : tie.decreases-loop
-decreases-loop links₀ from numbers rows i₀ links i = 6 - i
+abbrev decreases-loop-i : tie.decreases-loop-i
+decreases-loop-i links₀ from numbers rows i₀ links i = 6 - i
 
-loop-holds : tie.Need-loop-init invariant-loop decreases-loop
-loop-holds c = left_all _ _
+loop-i-init : tie.Need-loop-i-init invariant-loop-i decreases-loop-i
+loop-i-init c = left_all _ _
 
-join-from-requires : tie.Need-join-from-requires invariant-loop decreases-loop
-join-from-requires c κs =
+join_from-requires : tie.Need-join_from-requires invariant-loop-i decreases-loop-i
+join_from-requires c κs =
     let s = c.before.before.before.before in
-    let z = c.before.before.loop.invariant.size in
-    (c.before.loop-test.true, λ k h. omega (arith, z, s.requires.0 k h), omega (arith, z, s.requires.1))
+    let z = c.before.before.loop-i.invariant.size in
+    (c.before.loop-i-test.true, λ k h. omega (arith, z, s.requires.0 k h), omega (arith, z, s.requires.1))
 
-add-i : tie.Need-overflow-add-i invariant-loop decreases-loop
-add-i c = search rules
+overflow_add-i : tie.Need-overflow_add-i invariant-loop-i decreases-loop-i
+overflow_add-i c = search rules
 
-loop-less : tie.Need-loop-smaller invariant-loop decreases-loop
-loop-less c = search rules
+loop-i-smaller : tie.Need-loop-i-smaller invariant-loop-i decreases-loop-i
+loop-i-smaller c = search rules
 
-loop-again : tie.Need-loop-preserved invariant-loop decreases-loop
-loop-again c = search among_turn
+loop-i-preserved : tie.Need-loop-i-preserved invariant-loop-i decreases-loop-i
+loop-i-preserved c = search among_turn
 
-same_length : tie.Need-same-length invariant-loop decreases-loop
-same_length c = search rules
+shape_of-links : tie.Need-shape_of-links invariant-loop-i decreases-loop-i
+shape_of-links c = search rules
 
-returns : tie.Need-returns invariant-loop decreases-loop
+returns : tie.Need-returns invariant-loop-i decreases-loop-i
 returns c = search among_end
 
 pub join_among_spec : {M : Type 1} → statement M
 join_among_spec =
     tie.close
     (tie.spec
-    invariant-loop
-    decreases-loop
-    loop-holds
-    join-from-requires
-    add-i
-    loop-less
-    loop-again
-    same_length
+    invariant-loop-i
+    decreases-loop-i
+    loop-i-init
+    join_from-requires
+    overflow_add-i
+    loop-i-smaller
+    loop-i-preserved
+    shape_of-links
     returns)

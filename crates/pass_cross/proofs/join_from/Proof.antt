@@ -12,85 +12,85 @@ use Rattle.pass_cross.proofs.EdgeLaws.{to_turn, to_end}
 use Rattle.pass_cross.proofs.join_from.Statement.{statement}
 use Rattle.pass_cross.proofs.join_from.Tie as tie
 
-abbrev invariant-loop : tie.invariant-loop
-invariant-loop links₀ from i numbers rows x r k₀ links k =
+abbrev invariant-loop-k : tie.invariant-loop-k
+invariant-loop-k links₀ from i numbers rows x r k₀ links k =
     Left links₀ links (edges_to from x r (drop (suc i) numbers) (drop (suc i) rows)) (edges_to from x r (drop k numbers) (drop k rows))
 
-abbrev decreases-loop : tie.decreases-loop
-decreases-loop links₀ from i numbers rows x r k₀ links k = 6 - k
+abbrev decreases-loop-k : tie.decreases-loop-k
+decreases-loop-k links₀ from i numbers rows x r k₀ links k = 6 - k
 
-mul-x : tie.Need-overflow-mul-x invariant-loop decreases-loop
-mul-x c = search rules
+offset_bounds-numbers-i : tie.Need-offset_bounds-numbers-i invariant-loop-k decreases-loop-k
+offset_bounds-numbers-i c = search rules
 
-array-read-x : tie.Need-array-read-x invariant-loop decreases-loop
-array-read-x c = search rules
+bounds-numbers-i : tie.Need-bounds-numbers-i invariant-loop-k decreases-loop-k
+bounds-numbers-i c = search rules
 
-mul-r : tie.Need-overflow-mul-r invariant-loop decreases-loop
-mul-r c = search rules
+offset_bounds-rows-i : tie.Need-offset_bounds-rows-i invariant-loop-k decreases-loop-k
+offset_bounds-rows-i c = search rules
 
-array-copy-out-r : tie.Need-array-copy-out-r invariant-loop decreases-loop
-array-copy-out-r c = search rules
+bounds-rows-i : tie.Need-bounds-rows-i invariant-loop-k decreases-loop-k
+bounds-rows-i c = search rules
 
-add-k : tie.Need-overflow-add-k invariant-loop decreases-loop
-add-k c = search rules
+overflow_add-k : tie.Need-overflow_add-k invariant-loop-k decreases-loop-k
+overflow_add-k c = search rules
 
-loop-holds : tie.Need-loop-init invariant-loop decreases-loop
-loop-holds c = rw add-one (left_all _ _)
+loop-k-init : tie.Need-loop-k-init invariant-loop-k decreases-loop-k
+loop-k-init c = rw add-one (left_all _ _)
 
-mul-join-two : tie.Need-overflow-mul-join-two invariant-loop decreases-loop
-mul-join-two c = search rules
+offset_bounds-numbers-k : tie.Need-offset_bounds-numbers-k invariant-loop-k decreases-loop-k
+offset_bounds-numbers-k c = search rules
 
-array-read-join-two : tie.Need-array-read-join-two invariant-loop decreases-loop
-array-read-join-two c = search rules
+bounds-numbers-k : tie.Need-bounds-numbers-k invariant-loop-k decreases-loop-k
+bounds-numbers-k c = search rules
 
-mul-join-two-2 : tie.Need-overflow-mul-join-two-2 invariant-loop decreases-loop
-mul-join-two-2 c = search rules
+offset_bounds-rows-k : tie.Need-offset_bounds-rows-k invariant-loop-k decreases-loop-k
+offset_bounds-rows-k c = search rules
 
-array-copy-out-join-two : tie.Need-array-copy-out-join-two invariant-loop decreases-loop
-array-copy-out-join-two c = search rules
+bounds-rows-k : tie.Need-bounds-rows-k invariant-loop-k decreases-loop-k
+bounds-rows-k c = search rules
 
-join-two-requires : tie.Need-join-two-requires invariant-loop decreases-loop
-join-two-requires c κs =
+join_two-requires : tie.Need-join_two-requires invariant-loop-k decreases-loop-k
+join_two-requires c κs =
     let s4 = c.before.before.before.before in
     let s = s4.before.before in
-    let l = c.before.before.before.loop in
+    let l = c.before.before.before.loop-k in
     let z = l.invariant.size in
-    (omega (arith, z, s.requires.1 s.args.i s.requires.0), omega (arith, z, s.requires.1 l.k c.before.before.loop-test.true), omega (arith, z, s.requires.2))
+    (omega (arith, z, s.requires.1 s.args.i s.requires.0), omega (arith, z, s.requires.1 l.k c.before.before.loop-k-test.true), omega (arith, z, s.requires.2))
 
-add-k-2 : tie.Need-overflow-add-k-2 invariant-loop decreases-loop
-add-k-2 c = search rules
+overflow_add-k-in-loop-k : tie.Need-overflow_add-k-in-loop-k invariant-loop-k decreases-loop-k
+overflow_add-k-in-loop-k c = search rules
 
-loop-less : tie.Need-loop-smaller invariant-loop decreases-loop
-loop-less c = search rules
+loop-k-smaller : tie.Need-loop-k-smaller invariant-loop-k decreases-loop-k
+loop-k-smaller c = search rules
 
-loop-again : tie.Need-loop-preserved invariant-loop decreases-loop
-loop-again c = search to_turn
+loop-k-preserved : tie.Need-loop-k-preserved invariant-loop-k decreases-loop-k
+loop-k-preserved c = search to_turn
 
-same_length : tie.Need-same-length invariant-loop decreases-loop
-same_length c = search rules
+shape_of-links : tie.Need-shape_of-links invariant-loop-k decreases-loop-k
+shape_of-links c = search rules
 
-returns : tie.Need-returns invariant-loop decreases-loop
+returns : tie.Need-returns invariant-loop-k decreases-loop-k
 returns c = search to_end
 
 pub join_from_spec : {M : Type 1} → statement M
 join_from_spec =
     tie.close
     (tie.spec
-    invariant-loop
-    decreases-loop
-    mul-x
-    array-read-x
-    mul-r
-    array-copy-out-r
-    add-k
-    loop-holds
-    mul-join-two
-    array-read-join-two
-    mul-join-two-2
-    array-copy-out-join-two
-    join-two-requires
-    add-k-2
-    loop-less
-    loop-again
-    same_length
+    invariant-loop-k
+    decreases-loop-k
+    offset_bounds-numbers-i
+    bounds-numbers-i
+    offset_bounds-rows-i
+    bounds-rows-i
+    overflow_add-k
+    loop-k-init
+    offset_bounds-numbers-k
+    bounds-numbers-k
+    offset_bounds-rows-k
+    bounds-rows-k
+    join_two-requires
+    overflow_add-k-in-loop-k
+    loop-k-smaller
+    loop-k-preserved
+    shape_of-links
     returns)

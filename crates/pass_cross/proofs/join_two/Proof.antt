@@ -5,51 +5,51 @@ use Rattle.pass_cross.proofs.EdgeLaws.{idle_left, idle_right, idle_rows, joined_
 use Rattle.pass_cross.proofs.join_two.Statement.{statement}
 use Rattle.pass_cross.proofs.join_two.Tie as tie
 
-returns : tie.Need-returns
-returns c = search idle_left
+returns-then-x-eq0 : tie.Need-returns-then-x-eq0
+returns-then-x-eq0 c = search idle_left
 
-returns-2 : tie.Need-returns-2
-returns-2 c = search idle_right
+returns-then-y-eq0 : tie.Need-returns-then-y-eq0
+returns-then-y-eq0 c = search idle_right
 
-same-row-requires : tie.Need-same-row-requires
-same-row-requires c κs = search rules
+same_row-requires : tie.Need-same_row-requires
+same_row-requires c κs = search rules
 
-sub-unite : tie.Need-overflow-sub-unite
-sub-unite c = search rules
+overflow_sub-x : tie.Need-overflow_sub-x
+overflow_sub-x c = search rules
 
-add-unite : tie.Need-overflow-add-unite
-add-unite c = search rules
+overflow_add-from : tie.Need-overflow_add-from
+overflow_add-from c = search rules
 
-sub-unite-2 : tie.Need-overflow-sub-unite-2
-sub-unite-2 c = search rules
+overflow_sub-y : tie.Need-overflow_sub-y
+overflow_sub-y c = search rules
 
-add-unite-2 : tie.Need-overflow-add-unite-2
-add-unite-2 c = search rules
+overflow_add-from-then-same_row : tie.Need-overflow_add-from-then-same_row
+overflow_add-from-then-same_row c = search rules
 
 unite-requires : tie.Need-unite-requires
 unite-requires c κs = search rules
 
-same_length : tie.Need-same-length
-same_length c = search rules
+shape_of-links : tie.Need-shape_of-links
+shape_of-links c = search rules
 
-returns-3 : tie.Need-returns-3
-returns-3 c = search joined_two
+returns-then-same_row : tie.Need-returns-then-same_row
+returns-then-same_row c = search joined_two
 
-returns-4 : tie.Need-returns-4
-returns-4 c = search idle_rows
+returns-else-same_row : tie.Need-returns-else-same_row
+returns-else-same_row c = search idle_rows
 
 pub join_two_spec : {M : Type 1} → statement M
 join_two_spec =
     tie.close
     (tie.spec
-    returns
-    returns-2
-    same-row-requires
-    sub-unite
-    add-unite
-    sub-unite-2
-    add-unite-2
+    returns-then-x-eq0
+    returns-then-y-eq0
+    same_row-requires
+    overflow_sub-x
+    overflow_add-from
+    overflow_sub-y
+    overflow_add-from-then-same_row
     unite-requires
-    same_length
-    returns-3
-    returns-4)
+    shape_of-links
+    returns-then-same_row
+    returns-else-same_row)

@@ -5,11 +5,11 @@ use borrow.Author.Tests.{eq-eqb, ne_eqb}
 use Rattle.pass_cross.proofs.one_if.Statement.{statement}
 use Rattle.pass_cross.proofs.one_if.Tie as tie
 
-returns : tie.Need-returns
-returns c = (rw (eq-eqb _ _ c.if1.true), omega arith)
+returns-then-x-eq0 : tie.Need-returns-then-x-eq0
+returns-then-x-eq0 c = (rw (eq-eqb _ _ c.if-x-eq0.true), omega arith)
 
-returns-2 : tie.Need-returns-2
-returns-2 c = (rw (ne_eqb _ _ c.if1.false), omega arith)
+returns-else-x-eq0 : tie.Need-returns-else-x-eq0
+returns-else-x-eq0 c = (rw (ne_eqb _ _ c.if-x-eq0.false), omega arith)
 
 pub one_if_spec : {M : Type 1} → statement M
-one_if_spec = tie.close (tie.spec returns returns-2)
+one_if_spec = tie.close (tie.spec returns-then-x-eq0 returns-else-x-eq0)

@@ -5,23 +5,23 @@ use Rattle.pass_cross.proofs.ReadLaws.{down_in, up_in, read_two}
 use Rattle.pass_cross.proofs.read_along.Statement.{statement}
 use Rattle.pass_cross.proofs.read_along.Tie as tie
 
-numbers-along-requires : tie.Need-numbers-along-requires
-numbers-along-requires c κs = search rules
+numbers_along-n-requires : tie.Need-numbers_along-n-requires
+numbers_along-n-requires c κs = search rules
 
-array-read-read-through : tie.Need-array-read-read-through
-array-read-read-through c = search rules
+bounds-n-0 : tie.Need-bounds-n-0
+bounds-n-0 c = search rules
 
-read-through-requires : tie.Need-read-through-requires
-read-through-requires c κs = search (rules, down_in)
+read_through-u-requires : tie.Need-read_through-u-requires
+read_through-u-requires c κs = search (rules, down_in)
 
-array-read-read-through-2 : tie.Need-array-read-read-through-2
-array-read-read-through-2 c = search rules
+bounds-n-1 : tie.Need-bounds-n-1
+bounds-n-1 c = search rules
 
-read-through-requires-2 : tie.Need-read-through-requires-2
-read-through-requires-2 c κs = search (rules, up_in)
+read_through-v-requires : tie.Need-read_through-v-requires
+read_through-v-requires c κs = search (rules, up_in)
 
-same_length : tie.Need-same-length
-same_length c = search rules
+shape_of-above : tie.Need-shape_of-above
+shape_of-above c = search rules
 
 returns : tie.Need-returns
 returns c = search read_two
@@ -30,10 +30,10 @@ pub read_along_spec : {M : Type 1} → statement M
 read_along_spec =
     tie.close
     (tie.spec
-    numbers-along-requires
-    array-read-read-through
-    read-through-requires
-    array-read-read-through-2
-    read-through-requires-2
-    same_length
+    numbers_along-n-requires
+    bounds-n-0
+    read_through-u-requires
+    bounds-n-1
+    read_through-v-requires
+    shape_of-above
     returns)

@@ -5,75 +5,75 @@ use Rattle.pass_cross.proofs.ReadLaws.{second_kept, row_idle, row_face, row_curv
 use Rattle.pass_cross.proofs.row_near.Statement.{statement}
 use Rattle.pass_cross.proofs.row_near.Tie as tie
 
-mul-if1 : tie.Need-overflow-mul-if1
-mul-if1 c = search rules
+offset_bounds-map-p : tie.Need-offset_bounds-map-p
+offset_bounds-map-p c = search rules
 
-shared-slice-read-if1 : tie.Need-shared-slice-read-if1
-shared-slice-read-if1 c = search rules
+bounds-map-p : tie.Need-bounds-map-p
+bounds-map-p c = search rules
+
+returns-then-map-p-eq0 : tie.Need-returns-then-map-p-eq0
+returns-then-map-p-eq0 c = search row_idle
+
+read_along-u-requires : tie.Need-read_along-u-requires
+read_along-u-requires c κs = search rules
+
+read_along-v-requires : tie.Need-read_along-v-requires
+read_along-v-requires c κs = search (rules, second_kept)
+
+bounds-u-0 : tie.Need-bounds-u-0
+bounds-u-0 c = search rules
+
+bounds-u-1 : tie.Need-bounds-u-1
+bounds-u-1 c = search rules
+
+bounds-v-0 : tie.Need-bounds-v-0
+bounds-v-0 c = search rules
+
+bounds-v-1 : tie.Need-bounds-v-1
+bounds-v-1 c = search rules
+
+row_of_four-requires : tie.Need-row_of_four-requires
+row_of_four-requires c κs = search rules
+
+shape_of-above-then-curve : tie.Need-shape_of-above-then-curve
+shape_of-above-then-curve c = search rules
+
+returns-then-curve : tie.Need-returns-then-curve
+returns-then-curve c = search row_curve
+
+bounds-u-0-2 : tie.Need-bounds-u-0-2
+bounds-u-0-2 c = search rules
+
+bounds-u-1-2 : tie.Need-bounds-u-1-2
+bounds-u-1-2 c = search rules
+
+row_of_two-requires : tie.Need-row_of_two-requires
+row_of_two-requires c κs = search rules
+
+shape_of-above : tie.Need-shape_of-above
+shape_of-above c = search rules
 
 returns : tie.Need-returns
-returns c = search row_idle
-
-read-along-requires : tie.Need-read-along-requires
-read-along-requires c κs = search rules
-
-read-along-requires-2 : tie.Need-read-along-requires-2
-read-along-requires-2 c κs = search (rules, second_kept)
-
-array-read-row-of-four : tie.Need-array-read-row-of-four
-array-read-row-of-four c = search rules
-
-array-read-row-of-four-2 : tie.Need-array-read-row-of-four-2
-array-read-row-of-four-2 c = search rules
-
-array-read-row-of-four-3 : tie.Need-array-read-row-of-four-3
-array-read-row-of-four-3 c = search rules
-
-array-read-row-of-four-4 : tie.Need-array-read-row-of-four-4
-array-read-row-of-four-4 c = search rules
-
-row-of-four-requires : tie.Need-row-of-four-requires
-row-of-four-requires c κs = search rules
-
-same_length : tie.Need-same-length
-same_length c = search rules
-
-returns-2 : tie.Need-returns-2
-returns-2 c = search row_curve
-
-array-read-row-of-two : tie.Need-array-read-row-of-two
-array-read-row-of-two c = search rules
-
-array-read-row-of-two-2 : tie.Need-array-read-row-of-two-2
-array-read-row-of-two-2 c = search rules
-
-row-of-two-requires : tie.Need-row-of-two-requires
-row-of-two-requires c κs = search rules
-
-same-length-2 : tie.Need-same-length-2
-same-length-2 c = search rules
-
-returns-3 : tie.Need-returns-3
-returns-3 c = search row_face
+returns c = search row_face
 
 pub row_near_spec : {M : Type 1} → statement M
 row_near_spec =
     tie.close
     (tie.spec
-    mul-if1
-    shared-slice-read-if1
-    returns
-    read-along-requires
-    read-along-requires-2
-    array-read-row-of-four
-    array-read-row-of-four-2
-    array-read-row-of-four-3
-    array-read-row-of-four-4
-    row-of-four-requires
-    same_length
-    returns-2
-    array-read-row-of-two
-    array-read-row-of-two-2
-    row-of-two-requires
-    same-length-2
-    returns-3)
+    offset_bounds-map-p
+    bounds-map-p
+    returns-then-map-p-eq0
+    read_along-u-requires
+    read_along-v-requires
+    bounds-u-0
+    bounds-u-1
+    bounds-v-0
+    bounds-v-1
+    row_of_four-requires
+    shape_of-above-then-curve
+    returns-then-curve
+    bounds-u-0-2
+    bounds-u-1-2
+    row_of_two-requires
+    shape_of-above
+    returns)

@@ -5,20 +5,20 @@ use Rattle.pass_cross.proofs.ReadLaws.{near_kept, rows_two}
 use Rattle.pass_cross.proofs.rows_along.Statement.{statement}
 use Rattle.pass_cross.proofs.rows_along.Tie as tie
 
-sub-row-near : tie.Need-overflow-sub-row-near
-sub-row-near c = search rules
+overflow_sub-t : tie.Need-overflow_sub-t
+overflow_sub-t c = search rules
 
-row-near-requires : tie.Need-row-near-requires
-row-near-requires c κs = search rules
+row_near-u-requires : tie.Need-row_near-u-requires
+row_near-u-requires c κs = search rules
 
-add-row-near : tie.Need-overflow-add-row-near
-add-row-near c = search rules
+overflow_add-t : tie.Need-overflow_add-t
+overflow_add-t c = search rules
 
-row-near-requires-2 : tie.Need-row-near-requires-2
-row-near-requires-2 c κs = search near_kept
+row_near-v-requires : tie.Need-row_near-v-requires
+row_near-v-requires c κs = search near_kept
 
-same_length : tie.Need-same-length
-same_length c = search rules
+shape_of-above : tie.Need-shape_of-above
+shape_of-above c = search rules
 
 returns : tie.Need-returns
 returns c = search rows_two
@@ -26,4 +26,4 @@ returns c = search rows_two
 pub rows_along_spec : {M : Type 1} → statement M
 rows_along_spec =
     tie.close
-    (tie.spec sub-row-near row-near-requires add-row-near row-near-requires-2 same_length returns)
+    (tie.spec overflow_sub-t row_near-u-requires overflow_add-t row_near-v-requires shape_of-above returns)

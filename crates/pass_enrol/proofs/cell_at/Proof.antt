@@ -7,32 +7,32 @@ use Rattle.cells.proofs.ExtentLaws.{layer_low, layer_high}
 use Rattle.pass_enrol.proofs.cell_at.Statement.{statement}
 use Rattle.pass_enrol.proofs.cell_at.Tie as tie
 
-mul-w : tie.Need-overflow-mul-w
-mul-w c = search rules
+overflow_mul-w : tie.Need-overflow_mul-w
+overflow_mul-w c = search rules
 
-sub-w : tie.Need-overflow-sub-w
-sub-w c = search rules
+overflow_sub-w : tie.Need-overflow_sub-w
+overflow_sub-w c = search rules
 
-mul-h : tie.Need-overflow-mul-h
-mul-h c = search rules
+overflow_mul-h : tie.Need-overflow_mul-h
+overflow_mul-h c = search rules
 
-sub-h : tie.Need-overflow-sub-h
-sub-h c = search rules
+overflow_sub-h : tie.Need-overflow_sub-h
+overflow_sub-h c = search rules
 
-rem-local : tie.Need-nonzero-rem-local
-rem-local c = search rules
+nonzero_rem-position : tie.Need-nonzero_rem-position
+nonzero_rem-position c = search rules
 
-div-local : tie.Need-nonzero-div-local
-div-local c = search rules
+nonzero_div-position : tie.Need-nonzero_div-position
+nonzero_div-position c = search rules
 
-rem-local-2 : tie.Need-nonzero-rem-local-2
-rem-local-2 c = search rules
+nonzero_rem-position-2 : tie.Need-nonzero_rem-position-2
+nonzero_rem-position-2 c = search rules
 
-mul-local : tie.Need-overflow-mul-local
-mul-local c = omega (arith, layer_high c.requires.0.whole)
+overflow_mul-w-2 : tie.Need-overflow_mul-w-2
+overflow_mul-w-2 c = omega (arith, layer_high c.requires.0.whole)
 
-div-local-2 : tie.Need-nonzero-div-local-2
-div-local-2 c = omega (arith, layer_low c.requires.0.whole)
+nonzero_div-position-2 : tie.Need-nonzero_div-position-2
+nonzero_div-position-2 c = omega (arith, layer_low c.requires.0.whole)
 
 local-requires : tie.Need-local-requires
 unfolding place sides
@@ -46,14 +46,14 @@ pub cell_at_spec : {M : Type 1} → statement M
 cell_at_spec =
     tie.close
     (tie.spec
-    mul-w
-    sub-w
-    mul-h
-    sub-h
-    rem-local
-    div-local
-    rem-local-2
-    mul-local
-    div-local-2
+    overflow_mul-w
+    overflow_sub-w
+    overflow_mul-h
+    overflow_sub-h
+    nonzero_rem-position
+    nonzero_div-position
+    nonzero_rem-position-2
+    overflow_mul-w-2
+    nonzero_div-position-2
     local-requires
     returns)

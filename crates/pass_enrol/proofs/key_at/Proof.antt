@@ -4,39 +4,39 @@ use Rattle.pass_enrol.proofs.KeyLaws.{put_none, put_some}
 use Rattle.pass_enrol.proofs.key_at.Statement.{statement}
 use Rattle.pass_enrol.proofs.key_at.Tie as tie
 
-wide-requires : tie.Need-wide-requires
-wide-requires c κs = search rules
+wide-m-requires : tie.Need-wide-m-requires
+wide-m-requires c κs = search rules
+
+returns-then-m-eq0 : tie.Need-returns-then-m-eq0
+returns-then-m-eq0 c = search put_none
+
+overflow_sub-keys : tie.Need-overflow_sub-keys
+overflow_sub-keys c = search rules
+
+overflow_add-keys : tie.Need-overflow_add-keys
+overflow_add-keys c = search rules
+
+offset_bounds-keys-from : tie.Need-offset_bounds-keys-from
+offset_bounds-keys-from c = search rules
+
+bounds-keys-from : tie.Need-bounds-keys-from
+bounds-keys-from c = search rules
+
+shape_of-keys : tie.Need-shape_of-keys
+shape_of-keys c = search rules
 
 returns : tie.Need-returns
-returns c = search put_none
-
-sub-keys : tie.Need-overflow-sub-keys
-sub-keys c = search rules
-
-add-keys : tie.Need-overflow-add-keys
-add-keys c = search rules
-
-mul-keys : tie.Need-overflow-mul-keys
-mul-keys c = search rules
-
-slice-write-keys : tie.Need-slice-write-keys
-slice-write-keys c = search rules
-
-same_length : tie.Need-same-length
-same_length c = search rules
-
-returns-2 : tie.Need-returns-2
-returns-2 c = search put_some
+returns c = search put_some
 
 pub key_at_spec : {M : Type 1} → statement M
 key_at_spec =
     tie.close
     (tie.spec
-    wide-requires
-    returns
-    sub-keys
-    add-keys
-    mul-keys
-    slice-write-keys
-    same_length
-    returns-2)
+    wide-m-requires
+    returns-then-m-eq0
+    overflow_sub-keys
+    overflow_add-keys
+    offset_bounds-keys-from
+    bounds-keys-from
+    shape_of-keys
+    returns)

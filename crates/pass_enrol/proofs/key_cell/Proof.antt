@@ -3,20 +3,20 @@ use borrow.Author.Rules.{rules}
 use Rattle.pass_enrol.proofs.key_cell.Statement.{statement}
 use Rattle.pass_enrol.proofs.key_cell.Tie as tie
 
-mul-key-at : tie.Need-overflow-mul-key-at
-mul-key-at c = search rules
+offset_bounds-map-p : tie.Need-offset_bounds-map-p
+offset_bounds-map-p c = search rules
 
-shared-slice-read-key-at : tie.Need-shared-slice-read-key-at
-shared-slice-read-key-at c = search rules
+bounds-map-p : tie.Need-bounds-map-p
+bounds-map-p c = search rules
 
-key-of-requires : tie.Need-key-of-requires
-key-of-requires c κs = search rules
+key_of-requires : tie.Need-key_of-requires
+key_of-requires c κs = search rules
 
-key-at-requires : tie.Need-key-at-requires
-key-at-requires c κs = search rules
+key_at-requires : tie.Need-key_at-requires
+key_at-requires c κs = search rules
 
-same_length : tie.Need-same-length
-same_length c = search rules
+shape_of-keys : tie.Need-shape_of-keys
+shape_of-keys c = search rules
 
 returns : tie.Need-returns
 returns c = cc
@@ -25,9 +25,9 @@ pub key_cell_spec : {M : Type 1} → statement M
 key_cell_spec =
     tie.close
     (tie.spec
-    mul-key-at
-    shared-slice-read-key-at
-    key-of-requires
-    key-at-requires
-    same_length
+    offset_bounds-map-p
+    bounds-map-p
+    key_of-requires
+    key_at-requires
+    shape_of-keys
     returns)

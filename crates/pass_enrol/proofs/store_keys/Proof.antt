@@ -12,67 +12,67 @@ use Rattle.pass_enrol.proofs.KeyLaws.{lines_start, lines_next, lines_end}
 use Rattle.pass_enrol.proofs.store_keys.Statement.{statement}
 use Rattle.pass_enrol.proofs.store_keys.Tie as tie
 
-abbrev invariant-loop : tie.invariant-loop
-invariant-loop keys₀ from count map nx ny nz block b j lines l₀ keys l =
+abbrev invariant-loop-l : tie.invariant-loop-l
+invariant-loop-l keys₀ from count map nx ny nz block b j lines l₀ keys l =
     (l ≤ lines) × (length keys ≡ length keys₀) × (keys ≡ keyed (triple nx ny nz) block b map from (from_line (size_of block) j l) keys₀)
 
-abbrev decreases-loop : tie.decreases-loop
-decreases-loop keys₀ from count map nx ny nz block b j lines l₀ keys l = l
+abbrev decreases-loop-l : tie.decreases-loop-l
+decreases-loop-l keys₀ from count map nx ny nz block b j lines l₀ keys l = l
 
-write-value-requires : tie.Need-write-value-requires invariant-loop decreases-loop
-write-value-requires c κs = search rules
+write_value-requires : tie.Need-write_value-requires invariant-loop-l decreases-loop-l
+write_value-requires c κs = search rules
 
-line-count-requires : tie.Need-line-count-requires invariant-loop decreases-loop
-line-count-requires c κs = search rules
+line_count-lines-requires : tie.Need-line_count-lines-requires invariant-loop-l decreases-loop-l
+line_count-lines-requires c κs = search rules
 
-loop-holds : tie.Need-loop-init invariant-loop decreases-loop
-loop-holds c = (omega arith, refl, lines_start _ _ _ _ _ _ _ _ (omega arith))
+loop-l-init : tie.Need-loop-l-init invariant-loop-l decreases-loop-l
+loop-l-init c = (omega arith, refl, lines_start _ _ _ _ _ _ _ _ (omega arith))
 
-sub-key-line : tie.Need-overflow-sub-key-line invariant-loop decreases-loop
-sub-key-line c = omega (arith, c.before.before.loop.invariant.0)
+overflow_sub-l : tie.Need-overflow_sub-l invariant-loop-l decreases-loop-l
+overflow_sub-l c = omega (arith, c.before.before.loop-l.invariant.0)
 
-key-line-requires : tie.Need-key-line-requires invariant-loop decreases-loop
-key-line-requires c κs =
+key_line-requires : tie.Need-key_line-requires invariant-loop-l decreases-loop-l
+key_line-requires c κs =
     let p4 = c.before.before.before.before in
     let p8 = p4.before.before.before.before in
     let p = p8.before.before.requires in
-    (p.0, p.1, p.2, p.3, omega (arith, p.4, p.5, c.before.before.loop.invariant.1), omega (arith, c.before.before.loop.invariant.0))
+    (p.0, p.1, p.2, p.3, omega (arith, p.4, p.5, c.before.before.loop-l.invariant.1), omega (arith, c.before.before.loop-l.invariant.0))
 
-sub-l : tie.Need-overflow-sub-l invariant-loop decreases-loop
-sub-l c = search rules
+overflow_sub-l-in-loop-l : tie.Need-overflow_sub-l-in-loop-l invariant-loop-l decreases-loop-l
+overflow_sub-l-in-loop-l c = search rules
 
-loop-less : tie.Need-loop-smaller invariant-loop decreases-loop
-loop-less c = search rules
+loop-l-smaller : tie.Need-loop-l-smaller invariant-loop-l decreases-loop-l
+loop-l-smaller c = search rules
 
-loop-again : tie.Need-loop-preserved invariant-loop decreases-loop
-loop-again c =
+loop-l-preserved : tie.Need-loop-l-preserved invariant-loop-l decreases-loop-l
+loop-l-preserved c =
     let i4 = c.before.before.before.before in
-    let i = i4.before.loop.invariant in
-    (omega (arith, i.0), omega (arith, i.1), lines_next _ _ _ _ _ _ _ _ _ _ (omega arith) (omega (arith, i.0)) i.2 c.before.before.key-line.ensures)
+    let i = i4.before.loop-l.invariant in
+    (omega (arith, i.0), omega (arith, i.1), lines_next _ _ _ _ _ _ _ _ _ _ (omega arith) (omega (arith, i.0)) i.2 c.before.before.key_line.ensures)
 
-same_length : tie.Need-same-length invariant-loop decreases-loop
-same_length c = omega (arith, c.before.loop.invariant.1)
+shape_of-keys : tie.Need-shape_of-keys invariant-loop-l decreases-loop-l
+shape_of-keys c = omega (arith, c.before.loop-l.invariant.1)
 
-returns : tie.Need-returns invariant-loop decreases-loop
+returns : tie.Need-returns invariant-loop-l decreases-loop-l
 returns c =
     let back4 = c.before.before.before.before in
     let back8 = back4.before.before.before.before in
-    let i = c.before.loop.invariant in
-    lines_end _ _ _ _ _ _ _ _ _ _ _ (omega arith) back8.before.requires.4 back4.before.write-value.ensures i.2
+    let i = c.before.loop-l.invariant in
+    lines_end _ _ _ _ _ _ _ _ _ _ _ (omega arith) back8.before.requires.4 back4.before.write_value.ensures i.2
 
 pub store_keys_spec : {M : Type 1} → statement M
 store_keys_spec =
     tie.close
     (tie.spec
-    invariant-loop
-    decreases-loop
-    write-value-requires
-    line-count-requires
-    loop-holds
-    sub-key-line
-    key-line-requires
-    sub-l
-    loop-less
-    loop-again
-    same_length
+    invariant-loop-l
+    decreases-loop-l
+    write_value-requires
+    line_count-lines-requires
+    loop-l-init
+    overflow_sub-l
+    key_line-requires
+    overflow_sub-l-in-loop-l
+    loop-l-smaller
+    loop-l-preserved
+    shape_of-keys
     returns)

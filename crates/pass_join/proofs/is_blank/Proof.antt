@@ -8,12 +8,12 @@ use Rattle.lists.proofs.Cases.{not_twice}
 use Rattle.pass_join.proofs.is_blank.Statement.{statement}
 use Rattle.pass_join.proofs.is_blank.Tie as tie
 
-array-read-result : tie.Need-array-read-result
-array-read-result c = search rules
+bounds-r-0 : tie.Need-bounds-r-0
+bounds-r-0 c = search rules
 
 returns : tie.Need-returns
 unfolding occupied
-returns c = sym (not_twice (eqb (get_or c.args.t1 0 0) 0))
+returns c = sym (not_twice (eqb (get_or c.args.r 0 0) 0))
 
 pub is_blank_spec : {M : Type 1} → statement M
-is_blank_spec = tie.close (tie.spec array-read-result returns)
+is_blank_spec = tie.close (tie.spec bounds-r-0 returns)

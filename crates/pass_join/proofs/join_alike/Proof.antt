@@ -12,43 +12,43 @@ use Rattle.pass_join.proofs.JoinLaws.{pairs_next}
 use Rattle.pass_join.proofs.join_alike.Statement.{statement}
 use Rattle.pass_join.proofs.join_alike.Tie as tie
 
-abbrev invariant-loop : tie.invariant-loop
-invariant-loop at rows links₀ i₀ links i = Left links₀ links (alike_pairs at rows) (alike_pairs (drop i at) (drop i rows))
+abbrev invariant-loop-i : tie.invariant-loop-i
+invariant-loop-i at rows links₀ i₀ links i = Left links₀ links (alike_pairs at rows) (alike_pairs (drop i at) (drop i rows))
 
-abbrev decreases-loop : tie.decreases-loop
-decreases-loop at rows links₀ i₀ links i = 6 - i
+abbrev decreases-loop-i : tie.decreases-loop-i
+decreases-loop-i at rows links₀ i₀ links i = 6 - i
 
 -- The arrays have six entries.
-sixes : (s : tie.Start invariant-loop decreases-loop) → (length s.args.at ≡ 6) × (length s.args.rows ≡ 6)
+sixes : (s : tie.Start invariant-loop-i decreases-loop-i) → (length s.args.at ≡ 6) × (length s.args.rows ≡ 6)
 sixes s = (search rules, search rules)
 
-loop-holds : tie.Need-loop-init invariant-loop decreases-loop
-loop-holds c = left_all _ _
+loop-i-init : tie.Need-loop-i-init invariant-loop-i decreases-loop-i
+loop-i-init c = left_all _ _
 
-join-from-requires : tie.Need-join-from-requires invariant-loop decreases-loop
-join-from-requires c κs = (omega arith, λ k h. omega (arith, c.before.before.before.before.requires k h))
+join_from-requires : tie.Need-join_from-requires invariant-loop-i decreases-loop-i
+join_from-requires c κs = (omega arith, λ k h. omega (arith, c.before.before.before.before.requires k h))
 
-add-i : tie.Need-overflow-add-i invariant-loop decreases-loop
-add-i c = search rules
+overflow_add-i : tie.Need-overflow_add-i invariant-loop-i decreases-loop-i
+overflow_add-i c = search rules
 
-loop-less : tie.Need-loop-smaller invariant-loop decreases-loop
-loop-less c = search rules
+loop-i-smaller : tie.Need-loop-i-smaller invariant-loop-i decreases-loop-i
+loop-i-smaller c = search rules
 
-loop-again : tie.Need-loop-preserved invariant-loop decreases-loop
-loop-again c =
+loop-i-preserved : tie.Need-loop-i-preserved invariant-loop-i decreases-loop-i
+loop-i-preserved c =
     let l4 = c.before.before.before.before in
-    let l = l4.before.loop in
+    let l = l4.before.loop-i in
     let s = l4.before.before.before in
     let six = sixes s in
-    left_fewer _ (rw (pairs_next s.args.at s.args.rows l.i (omega arith) (omega arith)) at l.invariant) c.before.before.join-from.ensures
+    left_fewer _ (rw (pairs_next s.args.at s.args.rows l.i (omega arith) (omega arith)) at l.invariant) c.before.before.join_from.ensures
 
-same_length : tie.Need-same-length invariant-loop decreases-loop
-same_length c = search rules
+shape_of-links : tie.Need-shape_of-links invariant-loop-i decreases-loop-i
+shape_of-links c = search rules
 
-returns : tie.Need-returns invariant-loop decreases-loop
+returns : tie.Need-returns invariant-loop-i decreases-loop-i
 unfolding alike_pairs
 returns c =
-    let l = c.before.loop in
+    let l = c.before.loop-i in
     let s = c.before.before.before in
     let six = sixes s in
     left_none (rw (drop_of_length-le s.args.at {i = l.i} (omega arith)) at l.invariant)
@@ -57,12 +57,12 @@ pub join_alike_spec : {M : Type 1} → statement M
 join_alike_spec =
     tie.close
     (tie.spec
-    invariant-loop
-    decreases-loop
-    loop-holds
-    join-from-requires
-    add-i
-    loop-less
-    loop-again
-    same_length
+    invariant-loop-i
+    decreases-loop-i
+    loop-i-init
+    join_from-requires
+    overflow_add-i
+    loop-i-smaller
+    loop-i-preserved
+    shape_of-links
     returns)

@@ -17,121 +17,122 @@ use Rattle.pass_join.specs.JoinTrays.{alike_to}
 use Rattle.pass_join.proofs.JoinLaws.{to_none, to_next}
 use Rattle.pass_join.proofs.join_from.Statement.{statement}
 use Rattle.pass_join.proofs.join_from.Tie as tie
+use Rattle.pass_join.proofs.join_from.Lts.{then-same_row, else-same_row}
 
-abbrev invariant-loop : tie.invariant-loop
-invariant-loop i links₀ at rows r p k₀ links k = Left links₀ links (alike_to p r (drop (i + 1) at) (drop (i + 1) rows)) (alike_to p r (drop k at) (drop k rows))
+abbrev invariant-loop-k : tie.invariant-loop-k
+invariant-loop-k i links₀ at rows r p k₀ links k = Left links₀ links (alike_to p r (drop (i + 1) at) (drop (i + 1) rows)) (alike_to p r (drop k at) (drop k rows))
 
-abbrev decreases-loop : tie.decreases-loop
-decreases-loop i links₀ at rows r p k₀ links k = 6 - k
+abbrev decreases-loop-k : tie.decreases-loop-k
+decreases-loop-k i links₀ at rows r p k₀ links k = 6 - k
 
 -- The arrays have six entries.
-sixes : (s : tie.Start invariant-loop decreases-loop) → (length s.args.t1 ≡ 6) × (length s.args.t2 ≡ 6)
+sixes : (s : tie.Start invariant-loop-k decreases-loop-k) → (length s.args.at ≡ 6) × (length s.args.rows ≡ 6)
 sixes s = (search rules, search rules)
 
-mul-r : tie.Need-overflow-mul-r invariant-loop decreases-loop
-mul-r c = search rules
+offset_bounds-rows-i : tie.Need-offset_bounds-rows-i invariant-loop-k decreases-loop-k
+offset_bounds-rows-i c = search rules
 
-array-copy-out-r : tie.Need-array-copy-out-r invariant-loop decreases-loop
-array-copy-out-r c = search rules
+bounds-rows-i : tie.Need-bounds-rows-i invariant-loop-k decreases-loop-k
+bounds-rows-i c = search rules
 
-array-read-if1 : tie.Need-array-read-if1 invariant-loop decreases-loop
-array-read-if1 c = search rules
+bounds-r-0 : tie.Need-bounds-r-0 invariant-loop-k decreases-loop-k
+bounds-r-0 c = search rules
 
-returns : tie.Need-returns invariant-loop decreases-loop
+returns-then-r-eq0 : tie.Need-returns-then-r-eq0 invariant-loop-k decreases-loop-k
 unfolding occupied
-returns c =
+returns-then-r-eq0 c =
     let a = c.before.before.before.args in
-    let empty : occupied (get_or a.t2 a.i []) ≡ false = rw (eq-eqb _ _ c.if1.true) in
-    rw (to_none (get_or a.t1 a.i 0) _ empty (drop (suc a.i) a.t1) (drop (suc a.i) a.t2)) (left_none (left_all _ []))
+    let empty : occupied (get_or a.rows a.i []) ≡ false = rw (eq-eqb _ _ c.if-r-eq0.true) in
+    rw (to_none (get_or a.at a.i 0) _ empty (drop (suc a.i) a.at) (drop (suc a.i) a.rows)) (left_none (left_all _ []))
 
-mul-p : tie.Need-overflow-mul-p invariant-loop decreases-loop
-mul-p c = search rules
+offset_bounds-at-i : tie.Need-offset_bounds-at-i invariant-loop-k decreases-loop-k
+offset_bounds-at-i c = search rules
 
-array-read-p : tie.Need-array-read-p invariant-loop decreases-loop
-array-read-p c = search rules
+bounds-at-i : tie.Need-bounds-at-i invariant-loop-k decreases-loop-k
+bounds-at-i c = search rules
 
-add-k : tie.Need-overflow-add-k invariant-loop decreases-loop
-add-k c = search rules
+overflow_add-k : tie.Need-overflow_add-k invariant-loop-k decreases-loop-k
+overflow_add-k c = search rules
 
-loop-holds : tie.Need-loop-init invariant-loop decreases-loop
-loop-holds c = left_all _ _
+loop-k-init : tie.Need-loop-k-init invariant-loop-k decreases-loop-k
+loop-k-init c = left_all _ _
 
-mul-same-row : tie.Need-overflow-mul-same-row invariant-loop decreases-loop
-mul-same-row c = search rules
+offset_bounds-rows-k : tie.Need-offset_bounds-rows-k invariant-loop-k decreases-loop-k
+offset_bounds-rows-k c = search rules
 
-array-copy-out-same-row : tie.Need-array-copy-out-same-row invariant-loop decreases-loop
-array-copy-out-same-row c = search rules
+bounds-rows-k : tie.Need-bounds-rows-k invariant-loop-k decreases-loop-k
+bounds-rows-k c = search rules
 
-same-row-requires : tie.Need-same-row-requires invariant-loop decreases-loop
-same-row-requires c κs = search rules
+same_row-requires : tie.Need-same_row-requires invariant-loop-k decreases-loop-k
+same_row-requires c κs = search rules
 
-mul-unite : tie.Need-overflow-mul-unite invariant-loop decreases-loop
-mul-unite c = search rules
+offset_bounds-at-k : tie.Need-offset_bounds-at-k invariant-loop-k decreases-loop-k
+offset_bounds-at-k c = search rules
 
-array-read-unite : tie.Need-array-read-unite invariant-loop decreases-loop
-array-read-unite c = search rules
+bounds-at-k : tie.Need-bounds-at-k invariant-loop-k decreases-loop-k
+bounds-at-k c = search rules
 
-unite-requires : tie.Need-unite-requires invariant-loop decreases-loop
+unite-requires : tie.Need-unite-requires invariant-loop-k decreases-loop-k
 unite-requires c κs = search rules
 
-add-k-2 : tie.Need-overflow-add-k-2 invariant-loop decreases-loop
-add-k-2 c = search rules
+overflow_add-k-in-loop-k : tie.Need-overflow_add-k-in-loop-k invariant-loop-k decreases-loop-k
+overflow_add-k-in-loop-k c = search rules
 
-loop-less : tie.Need-loop-smaller invariant-loop decreases-loop
-loop-less c = search rules
+loop-k-smaller : tie.Need-loop-k-smaller invariant-loop-k decreases-loop-k
+loop-k-smaller c = search rules
 
-loop-again : tie.Need-loop-preserved invariant-loop decreases-loop
+loop-k-preserved : tie.Need-loop-k-preserved invariant-loop-k decreases-loop-k
 unfolding occupied
-loop-again c =
-    let l = c.before.before.before.before.loop in
+loop-k-preserved c =
+    let l = c.before.before.before.before.loop-k in
     let d4 = c.before.before.before.before in
     let d = d4.before in
     let s = d.before.before.before in
     let a = s.args in
     let six = sixes s in
-    let r = get_or a.t2 a.i [] in
-    let next = to_next (get_or a.t1 a.i 0) r a.t1 a.t2 l.k (omega arith) (omega arith) in
-    let full : occupied r ≡ true = rw (ne_eqb _ _ d.if1.false) in
-    let same : same_row r (get_or a.t2 l.k []) ≡ c.before.same_row.result = sym c.before.same_row.ensures in
-    ⊎_elim
-    (λ w. rw w.5 (left_united (rw (next, full, same ∙ w.0.taken) at l.invariant) (omega (arith, s.requires.1 a.i s.requires.0)) (omega (arith, s.requires.1 l.k (omega arith))) w.2.ensures))
-    (λ w. rw w.1 (rw (next, full, same ∙ w.0.left) at l.invariant))
-    c.if2.branch
+    let r = get_or a.rows a.i [] in
+    let next = to_next (get_or a.at a.i 0) r a.at a.rows l.k (omega arith) (omega arith) in
+    let full : occupied r ≡ true = rw (ne_eqb _ _ d.if-r-eq0.false) in
+    let same : same_row r (get_or a.rows l.k []) ≡ c.before.same_row.result = sym c.before.same_row.ensures in
+    elim c.if-same_row.branch [
+      then-same_row w ↦ rw w.links-is (left_united (rw (next, full, same ∙ w.if-same_row.true) at l.invariant) (omega (arith, s.requires.1 a.i s.requires.0)) (omega (arith, s.requires.1 l.k (omega arith))) w.unite.ensures)
+    | else-same_row w ↦ rw w.links-is (rw (next, full, same ∙ w.if-same_row.false) at l.invariant)
+    ]
 
-same_length : tie.Need-same-length invariant-loop decreases-loop
-same_length c = search rules
+shape_of-links : tie.Need-shape_of-links invariant-loop-k decreases-loop-k
+shape_of-links c = search rules
 
-returns-2 : tie.Need-returns-2 invariant-loop decreases-loop
+returns : tie.Need-returns invariant-loop-k decreases-loop-k
 unfolding alike_to
-returns-2 c =
-    let l = c.before.loop in
+returns c =
+    let l = c.before.loop-k in
     let s4 = c.before.before.before.before in
     let s = s4.before in
     let six = sixes s in
-    rw add-one at (left_none (rw (drop_of_length-le s.args.t1 {i = l.k} (omega arith)) at l.invariant))
+    rw add-one at (left_none (rw (drop_of_length-le s.args.at {i = l.k} (omega arith)) at l.invariant))
 
 pub join_from_spec : {M : Type 1} → statement M
 join_from_spec =
     tie.close
     (tie.spec
-    invariant-loop
-    decreases-loop
-    mul-r
-    array-copy-out-r
-    array-read-if1
-    returns
-    mul-p
-    array-read-p
-    add-k
-    loop-holds
-    mul-same-row
-    array-copy-out-same-row
-    same-row-requires
-    mul-unite
-    array-read-unite
+    invariant-loop-k
+    decreases-loop-k
+    offset_bounds-rows-i
+    bounds-rows-i
+    bounds-r-0
+    returns-then-r-eq0
+    offset_bounds-at-i
+    bounds-at-i
+    overflow_add-k
+    loop-k-init
+    offset_bounds-rows-k
+    bounds-rows-k
+    same_row-requires
+    offset_bounds-at-k
+    bounds-at-k
     unite-requires
-    add-k-2
-    loop-less
-    loop-again
-    same_length
-    returns-2)
+    overflow_add-k-in-loop-k
+    loop-k-smaller
+    loop-k-preserved
+    shape_of-links
+    returns)

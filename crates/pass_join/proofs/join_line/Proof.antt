@@ -14,84 +14,84 @@ use Rattle.pass_join.proofs.JoinLaws.{trays_kept, below_tests}
 use Rattle.pass_join.proofs.join_line.Statement.{statement}
 use Rattle.pass_join.proofs.join_line.Tie as tie
 
-abbrev invariant-loop : tie.invariant-loop
-invariant-loop map nx ny nz j l links₀ n s line x₀ links x =
+abbrev invariant-loop-x : tie.invariant-loop-x
+invariant-loop-x map nx ny nz j l links₀ n s line x₀ links x =
     let e = triple nx ny nz in
     Walking e n l x × Left links₀ links (edges_at e map (keep (order_below e j) (consecutive (l * (2 * nx - 1)) (2 * nx - 1)))) (edges_at e map (ahead (order_below e j) line x))
 
-abbrev decreases-loop : tie.decreases-loop
-decreases-loop map nx ny nz j l links₀ n s line x₀ links x = line.width - x
+abbrev decreases-loop-x : tie.decreases-loop-x
+decreases-loop-x map nx ny nz j l links₀ n s line x₀ links x = line.width - x
 
 -- The start, from the loop.
-abbrev entry : tie.At-loop invariant-loop decreases-loop → tie.Start invariant-loop decreases-loop
+abbrev entry : tie.At-loop-x invariant-loop-x decreases-loop-x → tie.Start invariant-loop-x decreases-loop-x
 entry d = let told = d.before.before in told.before.before.before
 
-sub-n : tie.Need-overflow-sub-n invariant-loop decreases-loop
-sub-n c = search rules
+overflow_sub-n : tie.Need-overflow_sub-n invariant-loop-x decreases-loop-x
+overflow_sub-n c = search rules
 
-strided-line-requires : tie.Need-strided-line-requires invariant-loop decreases-loop
-strided-line-requires c κs = let p = c.before.before.requires in (p.0.sized, p.2)
+strided_line-s-requires : tie.Need-strided_line-s-requires invariant-loop-x decreases-loop-x
+strided_line-s-requires c κs = let p = c.before.before.requires in (p.0.sized, p.2)
 
-loop-holds : tie.Need-loop-init invariant-loop decreases-loop
+loop-x-init : tie.Need-loop-x-init invariant-loop-x decreases-loop-x
 unfolding sides
-loop-holds c =
+loop-x-init c =
     let told = c.before in
     let st = told.before.before.before in
-    let L = told.strided-line.ensures.line in
+    let L = told.strided_line-s.ensures.line in
     (walk_first L, rw (← cells_first L (below_tests _ _ _ st.requires.1)) (left_all _ _))
 
-add-join-at : tie.Need-overflow-add-join-at invariant-loop decreases-loop
-add-join-at c = search walk_sum
+overflow_add-line : tie.Need-overflow_add-line invariant-loop-x decreases-loop-x
+overflow_add-line c = search walk_sum
 
-join-at-requires : tie.Need-join-at-requires invariant-loop decreases-loop
-join-at-requires c κs =
+join_at-requires : tie.Need-join_at-requires invariant-loop-x decreases-loop-x
+join_at-requires c κs =
     let turn = c.before.before.before.before in
     let p = (entry turn).requires in
-    let i = turn.loop.invariant in
-    let h = c.before.before.if1.true in
-    let S = turn.before.before.strided-line.ensures in
+    let i = turn.loop-x.invariant in
+    let h = c.before.before.loop-x-test.true in
+    let S = turn.before.before.strided_line-s.ensures in
     (trays_kept p.0 i.1, walk_inside S.line _ h p.2, omega arith, walk_strided S i.0 h (omega arith))
 
-add-x : tie.Need-overflow-add-x invariant-loop decreases-loop
-add-x c = search walk_step
+overflow_add-x : tie.Need-overflow_add-x invariant-loop-x decreases-loop-x
+overflow_add-x c = search walk_step
 
-loop-less : tie.Need-loop-smaller invariant-loop decreases-loop
-loop-less c = search rules
+loop-x-smaller : tie.Need-loop-x-smaller invariant-loop-x decreases-loop-x
+loop-x-smaller c = search rules
 
-loop-again : tie.Need-loop-preserved invariant-loop decreases-loop
+loop-x-preserved : tie.Need-loop-x-preserved invariant-loop-x decreases-loop-x
 unfolding edges_at
-loop-again c =
+loop-x-preserved c =
     let called = c.before.before in
     let test = called.before.before.before in
     let turn = test.before.before in
-    let i = turn.loop.invariant in
+    let i = turn.loop-x.invariant in
     let below = below_tests _ _ _ (entry turn).requires.1 in
-    let rest = cells_next turn.before.before.strided-line.ensures.line below i.0 test.if1.true in
-    (walk_next i.0, left_fewer _ (rw rest at i.1) called.join-at.ensures)
+    let rest = cells_next turn.before.before.strided_line-s.ensures.line below i.0 test.loop-x-test.true in
+    (walk_next i.0, left_fewer _ (rw rest at i.1) called.join_at.ensures)
 
-same_length : tie.Need-same-length invariant-loop decreases-loop
-same_length c = search rules
+shape_of-links : tie.Need-shape_of-links invariant-loop-x decreases-loop-x
+shape_of-links c = search rules
 
-returns : tie.Need-returns invariant-loop decreases-loop
+returns : tie.Need-returns invariant-loop-x decreases-loop-x
 unfolding edges_at sides
 returns c =
     let turn = c.before.before in
     let below = below_tests _ _ _ (entry turn).requires.1 in
-    left_none (rw (cells_last turn.before.before.strided-line.ensures.line below c.if1.false) at turn.loop.invariant.1)
+    left_none (rw (cells_last turn.before.before.strided_line-s.ensures.line below c.loop-x-test.false) at turn.loop-x.invariant.1)
 
 pub join_line_spec : {M : Type 1} → statement M
 join_line_spec =
     tie.close
     (tie.spec
-    invariant-loop
-    decreases-loop
-    sub-n
-    strided-line-requires
-    loop-holds
-    add-join-at
-    join-at-requires
-    add-x
-    loop-less
-    loop-again
-    same_length
+    invariant-loop-x
+    decreases-loop-x
+    overflow_sub-n
+    strided_line-s-requires
+    loop-x-init
+    overflow_add-line
+    join_at-requires
+    overflow_add-x
+    loop-x-smaller
+    loop-x-preserved
+    shape_of-links
     returns)

@@ -6,113 +6,113 @@ use Rattle.pass_number.proofs.ScanLaws.{at_inactive, at_root, at_child}
 use Rattle.pass_number.proofs.number_at.Statement.{statement}
 use Rattle.pass_number.proofs.number_at.Tie as tie
 
-row-near-requires : tie.Need-row-near-requires
-row-near-requires c κs = search rules
+row_near-r-requires : tie.Need-row_near-r-requires
+row_near-r-requires c κs = search rules
 
-array-read-if1 : tie.Need-array-read-if1
-array-read-if1 c = search rules
+bounds-r-0 : tie.Need-bounds-r-0
+bounds-r-0 c = search rules
 
-mul-map : tie.Need-overflow-mul-map
-mul-map c = search rules
+offset_bounds-map-p : tie.Need-offset_bounds-map-p
+offset_bounds-map-p c = search rules
 
-slice-write-map : tie.Need-slice-write-map
-slice-write-map c = search rules
+bounds-map-p : tie.Need-bounds-map-p
+bounds-map-p c = search rules
 
-same_length : tie.Need-same-length
-same_length c = search rules
+shape_of-map-then-r-eq0 : tie.Need-shape_of-map-then-r-eq0
+shape_of-map-then-r-eq0 c = search rules
 
-returns : tie.Need-returns
-returns c = search at_inactive
+returns-then-r-eq0 : tie.Need-returns-then-r-eq0
+returns-then-r-eq0 c = search at_inactive
 
-cast-parent : tie.Need-overflow-cast-parent
-cast-parent c = search rules
+overflow_cast-p : tie.Need-overflow_cast-p
+overflow_cast-p c = search rules
 
-parent-requires : tie.Need-parent-requires
-parent-requires c κs = search rules
+parent-q-requires : tie.Need-parent-q-requires
+parent-q-requires c κs = search rules
 
-cast-q : tie.Need-overflow-cast-q
-cast-q c = search rules
+overflow_cast-q : tie.Need-overflow_cast-q
+overflow_cast-q c = search rules
 
-add-map : tie.Need-overflow-add-map
-add-map c = search rules
+overflow_add-map : tie.Need-overflow_add-map
+overflow_add-map c = search rules
 
-mul-map-2 : tie.Need-overflow-mul-map-2
-mul-map-2 c = search rules
+offset_bounds-map-p-then-q-p : tie.Need-offset_bounds-map-p-then-q-p
+offset_bounds-map-p-then-q-p c = search rules
 
-slice-write-map-2 : tie.Need-slice-write-map-2
-slice-write-map-2 c = search rules
+bounds-map-p-then-q-p : tie.Need-bounds-map-p-then-q-p
+bounds-map-p-then-q-p c = search rules
 
-add-result : tie.Need-overflow-add-result
-add-result c = search rules
+overflow_add-result : tie.Need-overflow_add-result
+overflow_add-result c = search rules
 
-same-length-2 : tie.Need-same-length-2
-same-length-2 c = search rules
+shape_of-map-then-q-p : tie.Need-shape_of-map-then-q-p
+shape_of-map-then-q-p c = search rules
 
-same-length-3 : tie.Need-same-length-3
-same-length-3 c = search rules
+shape_of-links-then-q-p : tie.Need-shape_of-links-then-q-p
+shape_of-links-then-q-p c = search rules
 
-returns-2 : tie.Need-returns-2
-returns-2 c =
-    let known = c.before.before.before in
-    at_root _ _ _ _ _ _ known.before.row_Near.ensures known.if1.false _ c.before.parent.ensures c.if2.true
+returns-then-q-p : tie.Need-returns-then-q-p
+returns-then-q-p c =
+    let known = c.before.before in
+    at_root _ _ _ _ _ _ known.before.row_near-r.ensures known.if-r-eq0.false _ c.before.parent-q.ensures c.if-q-p.true
 
-mul-map-3 : tie.Need-overflow-mul-map-3
-mul-map-3 c = search rules
+offset_bounds-map-q : tie.Need-offset_bounds-map-q
+offset_bounds-map-q c = search rules
 
-slice-read-map : tie.Need-slice-read-map
-slice-read-map c =
+bounds-map-q : tie.Need-bounds-map-q
+bounds-map-q c =
     let known = c.before.before.before.before in
     let read = known.before in
-    let st = read.before.before.before.before in
+    let st = read.before.before in
     omega (arith, parent_low st.args.links.now st.args.p)
 
-mul-map-4 : tie.Need-overflow-mul-map-4
-mul-map-4 c = search rules
+offset_bounds-map-p-2 : tie.Need-offset_bounds-map-p-2
+offset_bounds-map-p-2 c = search rules
 
-slice-write-map-3 : tie.Need-slice-write-map-3
-slice-write-map-3 c = search rules
+bounds-map-p-2 : tie.Need-bounds-map-p-2
+bounds-map-p-2 c = search rules
 
-mul-links : tie.Need-overflow-mul-links
-mul-links c = search rules
+offset_bounds-links-p : tie.Need-offset_bounds-links-p
+offset_bounds-links-p c = search rules
 
-slice-write-links : tie.Need-slice-write-links
-slice-write-links c = search rules
+bounds-links-p : tie.Need-bounds-links-p
+bounds-links-p c = search rules
 
-same-length-4 : tie.Need-same-length-4
-same-length-4 c = search rules
+shape_of-map : tie.Need-shape_of-map
+shape_of-map c = search rules
 
-same-length-5 : tie.Need-same-length-5
-same-length-5 c = search rules
+shape_of-links : tie.Need-shape_of-links
+shape_of-links c = search rules
 
-returns-3 : tie.Need-returns-3
-returns-3 c = search at_child
+returns : tie.Need-returns
+returns c = search at_child
 
 pub number_at_spec : {M : Type 1} → statement M
 number_at_spec =
     tie.close
     (tie.spec
-    row-near-requires
-    array-read-if1
-    mul-map
-    slice-write-map
-    same_length
-    returns
-    cast-parent
-    parent-requires
-    cast-q
-    add-map
-    mul-map-2
-    slice-write-map-2
-    add-result
-    same-length-2
-    same-length-3
-    returns-2
-    mul-map-3
-    slice-read-map
-    mul-map-4
-    slice-write-map-3
-    mul-links
-    slice-write-links
-    same-length-4
-    same-length-5
-    returns-3)
+    row_near-r-requires
+    bounds-r-0
+    offset_bounds-map-p
+    bounds-map-p
+    shape_of-map-then-r-eq0
+    returns-then-r-eq0
+    overflow_cast-p
+    parent-q-requires
+    overflow_cast-q
+    overflow_add-map
+    offset_bounds-map-p-then-q-p
+    bounds-map-p-then-q-p
+    overflow_add-result
+    shape_of-map-then-q-p
+    shape_of-links-then-q-p
+    returns-then-q-p
+    offset_bounds-map-q
+    bounds-map-q
+    offset_bounds-map-p-2
+    bounds-map-p-2
+    offset_bounds-links-p
+    bounds-links-p
+    shape_of-map
+    shape_of-links
+    returns)

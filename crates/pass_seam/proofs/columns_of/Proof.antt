@@ -5,39 +5,39 @@ use Rattle.pass_seam.proofs.LayerOf.{columns_x, columns_off}
 use Rattle.pass_seam.proofs.columns_of.Statement.{statement}
 use Rattle.pass_seam.proofs.columns_of.Tie as tie
 
-mul-result : tie.Need-overflow-mul-result
-mul-result c = search rules
+overflow_mul-result : tie.Need-overflow_mul-result
+overflow_mul-result c = search rules
 
-sub-result : tie.Need-overflow-sub-result
-sub-result c = search rules
+overflow_sub-result : tie.Need-overflow_sub-result
+overflow_sub-result c = search rules
 
-cast-result : tie.Need-overflow-cast-result
-cast-result c = search rules
+overflow_cast-result : tie.Need-overflow_cast-result
+overflow_cast-result c = search rules
+
+returns-then-axis-eq1 : tie.Need-returns-then-axis-eq1
+returns-then-axis-eq1 c = search columns_x
+
+overflow_mul-result-2 : tie.Need-overflow_mul-result-2
+overflow_mul-result-2 c = search rules
+
+overflow_sub-result-2 : tie.Need-overflow_sub-result-2
+overflow_sub-result-2 c = search rules
+
+overflow_cast-result-2 : tie.Need-overflow_cast-result-2
+overflow_cast-result-2 c = search rules
 
 returns : tie.Need-returns
-returns c = search columns_x
-
-mul-result-2 : tie.Need-overflow-mul-result-2
-mul-result-2 c = search rules
-
-sub-result-2 : tie.Need-overflow-sub-result-2
-sub-result-2 c = search rules
-
-cast-result-2 : tie.Need-overflow-cast-result-2
-cast-result-2 c = search rules
-
-returns-2 : tie.Need-returns-2
-returns-2 c = search columns_off
+returns c = search columns_off
 
 pub columns_of_spec : {M : Type 1} → statement M
 columns_of_spec =
     tie.close
     (tie.spec
-    mul-result
-    sub-result
-    cast-result
-    returns
-    mul-result-2
-    sub-result-2
-    cast-result-2
-    returns-2)
+    overflow_mul-result
+    overflow_sub-result
+    overflow_cast-result
+    returns-then-axis-eq1
+    overflow_mul-result-2
+    overflow_sub-result-2
+    overflow_cast-result-2
+    returns)

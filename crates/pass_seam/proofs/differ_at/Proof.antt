@@ -5,14 +5,14 @@ use Rattle.pass_seam.specs.Walks.{differ_at}
 use Rattle.pass_seam.proofs.differ_at.Statement.{statement}
 use Rattle.pass_seam.proofs.differ_at.Tie as tie
 
-number-at-requires : tie.Need-number-at-requires
-number-at-requires c κs = search rules
+number_at-a-requires : tie.Need-number_at-a-requires
+number_at-a-requires c κs = search rules
 
-number-at-requires-2 : tie.Need-number-at-requires-2
-number-at-requires-2 c κs = search rules
+number_at-b-requires : tie.Need-number_at-b-requires
+number_at-b-requires c κs = search rules
 
-add-differ : tie.Need-overflow-add-differ
-add-differ c = search rules
+overflow_add-u : tie.Need-overflow_add-u
+overflow_add-u c = search rules
 
 differ-requires : tie.Need-differ-requires
 differ-requires c κs = search rules
@@ -23,4 +23,4 @@ returns c = cc
 
 pub differ_at_spec : {M : Type 1} → statement M
 differ_at_spec =
-    tie.close (tie.spec number-at-requires number-at-requires-2 add-differ differ-requires returns)
+    tie.close (tie.spec number_at-a-requires number_at-b-requires overflow_add-u differ-requires returns)

@@ -6,59 +6,59 @@ use Rattle.pass_seam.proofs.WalkLaws.{placed, joined_off, joined_lost, joined_th
 use Rattle.pass_seam.proofs.join_at.Statement.{statement}
 use Rattle.pass_seam.proofs.join_at.Tie as tie
 
-add-if1 : tie.Need-overflow-add-if1
-add-if1 c = search rules
+overflow_add-u : tie.Need-overflow_add-u
+overflow_add-u c = search rules
 
-returns : tie.Need-returns
-returns c = search joined_off
+returns-then-u-v : tie.Need-returns-then-u-v
+returns-then-u-v c = search joined_off
 
-number-at-requires : tie.Need-number-at-requires
-number-at-requires c κs = search rules
+number_at-a-requires : tie.Need-number_at-a-requires
+number_at-a-requires c κs = search rules
 
-number-at-requires-2 : tie.Need-number-at-requires-2
-number-at-requires-2 c κs = search rules
+number_at-b-requires : tie.Need-number_at-b-requires
+number_at-b-requires c κs = search rules
 
-no-places-requires : tie.Need-no-places-requires
-no-places-requires c κs = search rules
+no_places-requires : tie.Need-no_places-requires
+no_places-requires c κs = search rules
 
-returns-2 : tie.Need-returns-2
-returns-2 c = search joined_lost
+returns-then-no_places : tie.Need-returns-then-no_places
+returns-then-no_places c = search joined_lost
 
-sub-x : tie.Need-overflow-sub-x
-sub-x c = let w = placed _ _ _ _ _ _ c.before.no-places.ensures c.if2.false in omega arith
+overflow_sub-x : tie.Need-overflow_sub-x
+overflow_sub-x c = let w = placed _ _ _ _ _ _ c.before.no_places.ensures c.if-no_places.false in omega arith
 
-add-x : tie.Need-overflow-add-x
-add-x c = let w = placed _ _ _ _ _ _ c.before.no-places.ensures c.if2.false in omega arith
+overflow_add-x : tie.Need-overflow_add-x
+overflow_add-x c = let w = placed _ _ _ _ _ _ c.before.no_places.ensures c.if-no_places.false in omega arith
 
-sub-y : tie.Need-overflow-sub-y
-sub-y c = let w = placed _ _ _ _ _ _ c.before.no-places.ensures c.if2.false in omega arith
+overflow_sub-y : tie.Need-overflow_sub-y
+overflow_sub-y c = let w = placed _ _ _ _ _ _ c.before.no_places.ensures c.if-no_places.false in omega arith
 
-add-y : tie.Need-overflow-add-y
-add-y c = let w = placed _ _ _ _ _ _ c.before.no-places.ensures c.if2.false in omega arith
+overflow_add-y : tie.Need-overflow_add-y
+overflow_add-y c = let w = placed _ _ _ _ _ _ c.before.no_places.ensures c.if-no_places.false in omega arith
 
 unite-requires : tie.Need-unite-requires
 unite-requires c κs = search rules
 
-same_length : tie.Need-same-length
-same_length c = search rules
+shape_of-links : tie.Need-shape_of-links
+shape_of-links c = search rules
 
-returns-3 : tie.Need-returns-3
-returns-3 c = search joined_there
+returns : tie.Need-returns
+returns c = search joined_there
 
 pub join_at_spec : {M : Type 1} → statement M
 join_at_spec =
     tie.close
     (tie.spec
-    add-if1
-    returns
-    number-at-requires
-    number-at-requires-2
-    no-places-requires
-    returns-2
-    sub-x
-    add-x
-    sub-y
-    add-y
+    overflow_add-u
+    returns-then-u-v
+    number_at-a-requires
+    number_at-b-requires
+    no_places-requires
+    returns-then-no_places
+    overflow_sub-x
+    overflow_add-x
+    overflow_sub-y
+    overflow_add-y
     unite-requires
-    same_length
-    returns-3)
+    shape_of-links
+    returns)

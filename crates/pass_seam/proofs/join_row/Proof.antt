@@ -10,44 +10,44 @@ use Rattle.pass_seam.proofs.WalkLaws.{walk_all, walk_more, walk_done}
 use Rattle.pass_seam.proofs.join_row.Statement.{statement}
 use Rattle.pass_seam.proofs.join_row.Tie as tie
 
-abbrev invariant-loop : tie.invariant-loop
-invariant-loop links₀ m l n r odd from to size columns v u₀ links u = (u ≤ columns) × Left links₀ links (row_edges m l n r odd from to size columns v) (edges_along (join_at m l n r odd from to size v) (consecutive u (columns - u)))
+abbrev invariant-loop-u : tie.invariant-loop-u
+invariant-loop-u links₀ m l n r odd from to size columns v u₀ links u = (u ≤ columns) × Left links₀ links (row_edges m l n r odd from to size columns v) (edges_along (join_at m l n r odd from to size v) (consecutive u (columns - u)))
 
-abbrev decreases-loop : tie.decreases-loop
-decreases-loop links₀ m l n r odd from to size columns v u₀ links u = columns - u
+abbrev decreases-loop-u : tie.decreases-loop-u
+decreases-loop-u links₀ m l n r odd from to size columns v u₀ links u = columns - u
 
-loop-holds : tie.Need-loop-init invariant-loop decreases-loop
+loop-u-init : tie.Need-loop-u-init invariant-loop-u decreases-loop-u
 unfolding row_edges
-loop-holds c = search (rules, walk_all)
+loop-u-init c = search (rules, walk_all)
 
-join-at-requires : tie.Need-join-at-requires invariant-loop decreases-loop
-join-at-requires c κs = search rules
+join_at-requires : tie.Need-join_at-requires invariant-loop-u decreases-loop-u
+join_at-requires c κs = search rules
 
-add-u : tie.Need-overflow-add-u invariant-loop decreases-loop
-add-u c = search rules
+overflow_step-u : tie.Need-overflow_step-u invariant-loop-u decreases-loop-u
+overflow_step-u c = search rules
 
-loop-less : tie.Need-loop-smaller invariant-loop decreases-loop
-loop-less c = search rules
+loop-u-smaller : tie.Need-loop-u-smaller invariant-loop-u decreases-loop-u
+loop-u-smaller c = search rules
 
-loop-again : tie.Need-loop-preserved invariant-loop decreases-loop
-loop-again c = search (rules, walk_more)
+loop-u-preserved : tie.Need-loop-u-preserved invariant-loop-u decreases-loop-u
+loop-u-preserved c = search (rules, walk_more)
 
-same_length : tie.Need-same-length invariant-loop decreases-loop
-same_length c = search rules
+shape_of-links : tie.Need-shape_of-links invariant-loop-u decreases-loop-u
+shape_of-links c = search rules
 
-returns : tie.Need-returns invariant-loop decreases-loop
+returns : tie.Need-returns invariant-loop-u decreases-loop-u
 returns c = search walk_done
 
 pub join_row_spec : {M : Type 1} → statement M
 join_row_spec =
     tie.close
     (tie.spec
-    invariant-loop
-    decreases-loop
-    loop-holds
-    join-at-requires
-    add-u
-    loop-less
-    loop-again
-    same_length
+    invariant-loop-u
+    decreases-loop-u
+    loop-u-init
+    join_at-requires
+    overflow_step-u
+    loop-u-smaller
+    loop-u-preserved
+    shape_of-links
     returns)

@@ -10,11 +10,11 @@ use Rattle.pass_seam.proofs.WalkLaws.{row_none, row_more, rows_none, rows_more, 
 use Rattle.pass_seam.proofs.layers_differ.Statement.{statement}
 use Rattle.pass_seam.proofs.layers_differ.Tie as tie
 
-abbrev invariant-loop : tie.invariant-loop
-invariant-loop m l n r columns rows differ₀ v u₀ differ u = (v < rows) × (u ≤ columns) × (differ ≡ false) × (layers_differ_to m l n r columns v ≡ false) × (row_differs_to m l n r v u ≡ false)
+abbrev invariant-loop-u : tie.invariant-loop-u
+invariant-loop-u m l n r columns rows differ₀ v u₀ differ u = (v < rows) × (u ≤ columns) × (differ ≡ false) × (layers_differ_to m l n r columns v ≡ false) × (row_differs_to m l n r v u ≡ false)
 
-abbrev decreases-loop : tie.decreases-loop
-decreases-loop m l n r columns rows differ₀ v u₀ differ u = columns - u
+abbrev decreases-loop-u : tie.decreases-loop-u
+decreases-loop-u m l n r columns rows differ₀ v u₀ differ u = columns - u
 
 abbrev invariant-layer : tie.invariant-layer
 invariant-layer m l n r columns rows differ₀ v₀ differ v = (v ≤ rows) × (differ ≡ false) × (layers_differ_to m l n r columns v ≡ false)
@@ -22,55 +22,55 @@ invariant-layer m l n r columns rows differ₀ v₀ differ v = (v ≤ rows) × (
 abbrev decreases-layer : tie.decreases-layer
 decreases-layer m l n r columns rows differ₀ v₀ differ v = rows - v
 
-layer-holds : tie.Need-layer-init invariant-loop decreases-loop invariant-layer decreases-layer
-layer-holds c = search (rules, rows_none)
+layer-init : tie.Need-layer-init invariant-loop-u decreases-loop-u invariant-layer decreases-layer
+layer-init c = search (rules, rows_none)
 
-loop-holds : tie.Need-loop-init invariant-loop decreases-loop invariant-layer decreases-layer
-loop-holds c = search (rules, row_none)
+loop-u-init : tie.Need-loop-u-init invariant-loop-u decreases-loop-u invariant-layer decreases-layer
+loop-u-init c = search (rules, row_none)
 
-differ-at-requires : tie.Need-differ-at-requires invariant-loop decreases-loop invariant-layer decreases-layer
-differ-at-requires c κs = search rules
+differ_at-requires : tie.Need-differ_at-requires invariant-loop-u decreases-loop-u invariant-layer decreases-layer
+differ_at-requires c κs = search rules
 
-add-u : tie.Need-overflow-add-u invariant-loop decreases-loop invariant-layer decreases-layer
-add-u c = search rules
+overflow_step-u : tie.Need-overflow_step-u invariant-loop-u decreases-loop-u invariant-layer decreases-layer
+overflow_step-u c = search rules
 
-loop-less : tie.Need-loop-smaller invariant-loop decreases-loop invariant-layer decreases-layer
-loop-less c = search rules
+loop-u-smaller : tie.Need-loop-u-smaller invariant-loop-u decreases-loop-u invariant-layer decreases-layer
+loop-u-smaller c = search rules
 
-loop-again : tie.Need-loop-preserved invariant-loop decreases-loop invariant-layer decreases-layer
-loop-again c = search (rules, row_more)
+loop-u-preserved : tie.Need-loop-u-preserved invariant-loop-u decreases-loop-u invariant-layer decreases-layer
+loop-u-preserved c = search (rules, row_more)
 
-add-v : tie.Need-overflow-add-v invariant-loop decreases-loop invariant-layer decreases-layer
-add-v c = search rules
+overflow_step-v : tie.Need-overflow_step-v invariant-loop-u decreases-loop-u invariant-layer decreases-layer
+overflow_step-v c = search rules
 
-layer-less : tie.Need-layer-smaller invariant-loop decreases-loop invariant-layer decreases-layer
-layer-less c = search rules
+layer-smaller : tie.Need-layer-smaller invariant-loop-u decreases-loop-u invariant-layer decreases-layer
+layer-smaller c = search rules
 
-layer-again : tie.Need-layer-preserved invariant-loop decreases-loop invariant-layer decreases-layer
-layer-again c = search (rules, rows_more)
+layer-preserved : tie.Need-layer-preserved invariant-loop-u decreases-loop-u invariant-layer decreases-layer
+layer-preserved c = search (rules, rows_more)
 
-returns : tie.Need-returns invariant-loop decreases-loop invariant-layer decreases-layer
-returns c = search rows_all
+returns-after-layer : tie.Need-returns-after-layer invariant-loop-u decreases-loop-u invariant-layer decreases-layer
+returns-after-layer c = search rows_all
 
-returns-2 : tie.Need-returns-2 invariant-loop decreases-loop invariant-layer decreases-layer
-returns-2 c = search (spoilt, rows_all)
+returns-then-differ_at : tie.Need-returns-then-differ_at invariant-loop-u decreases-loop-u invariant-layer decreases-layer
+returns-then-differ_at c = search (spoilt, rows_all)
 
 pub layers_differ_spec : {M : Type 1} → statement M
 layers_differ_spec =
     tie.close
     (tie.spec
-    invariant-loop
-    decreases-loop
+    invariant-loop-u
+    decreases-loop-u
     invariant-layer
     decreases-layer
-    layer-holds
-    loop-holds
-    differ-at-requires
-    add-u
-    loop-less
-    loop-again
-    add-v
-    layer-less
-    layer-again
-    returns
-    returns-2)
+    layer-init
+    loop-u-init
+    differ_at-requires
+    overflow_step-u
+    loop-u-smaller
+    loop-u-preserved
+    overflow_step-v
+    layer-smaller
+    layer-preserved
+    returns-after-layer
+    returns-then-differ_at)

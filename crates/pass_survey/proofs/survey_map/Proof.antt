@@ -7,43 +7,43 @@ use Rattle.pass_survey.proofs.SurveyLaws.{Looked, looked_none, looked_next, look
 use Rattle.pass_survey.proofs.survey_map.Statement.{statement}
 use Rattle.pass_survey.proofs.survey_map.Tie as tie
 
-abbrev invariant-loop : tie.invariant-loop
-invariant-loop map nx ny nz lines s₀ l₀ s l = (l ≤ lines) × Looked (triple nx ny nz) map l s
+abbrev invariant-loop-l : tie.invariant-loop-l
+invariant-loop-l map nx ny nz lines s₀ l₀ s l = (l ≤ lines) × Looked (triple nx ny nz) map l s
 
-abbrev decreases-loop : tie.decreases-loop
-decreases-loop map nx ny nz lines s₀ l₀ s l = lines - l
+abbrev decreases-loop-l : tie.decreases-loop-l
+decreases-loop-l map nx ny nz lines s₀ l₀ s l = lines - l
 
-line-count-requires : tie.Need-line-count-requires invariant-loop decreases-loop
-line-count-requires c κs = search rules
+line_count-lines-requires : tie.Need-line_count-lines-requires invariant-loop-l decreases-loop-l
+line_count-lines-requires c κs = search rules
 
-loop-holds : tie.Need-loop-init invariant-loop decreases-loop
-loop-holds c = (omega arith, looked_none _ _)
+loop-l-init : tie.Need-loop-l-init invariant-loop-l decreases-loop-l
+loop-l-init c = (omega arith, looked_none _ _)
 
-take-line-requires : tie.Need-take-line-requires invariant-loop decreases-loop
-take-line-requires c κs = search rules
+take_line-s-requires : tie.Need-take_line-s-requires invariant-loop-l decreases-loop-l
+take_line-s-requires c κs = search rules
 
-add-l : tie.Need-overflow-add-l invariant-loop decreases-loop
-add-l c = search rules
+overflow_add-l : tie.Need-overflow_add-l invariant-loop-l decreases-loop-l
+overflow_add-l c = search rules
 
-loop-less : tie.Need-loop-smaller invariant-loop decreases-loop
-loop-less c = search rules
+loop-l-smaller : tie.Need-loop-l-smaller invariant-loop-l decreases-loop-l
+loop-l-smaller c = search rules
 
-loop-again : tie.Need-loop-preserved invariant-loop decreases-loop
-loop-again c = (omega arith, looked_next _ _ _ (omega arith) _ _ c.before.before.loop.invariant.1 c.take-line.ensures)
+loop-l-preserved : tie.Need-loop-l-preserved invariant-loop-l decreases-loop-l
+loop-l-preserved c = (omega arith, looked_next _ _ _ (omega arith) _ _ c.before.before.loop-l.invariant.1 c.take_line-s.ensures)
 
-returns : tie.Need-returns invariant-loop decreases-loop
-returns c = looked_all _ _ _ (omega arith) _ c.before.loop.invariant.1
+returns : tie.Need-returns invariant-loop-l decreases-loop-l
+returns c = looked_all _ _ _ (omega arith) _ c.before.loop-l.invariant.1
 
 pub survey_map_spec : {M : Type 1} → statement M
 survey_map_spec =
     tie.close
     (tie.spec
-    invariant-loop
-    decreases-loop
-    line-count-requires
-    loop-holds
-    take-line-requires
-    add-l
-    loop-less
-    loop-again
+    invariant-loop-l
+    decreases-loop-l
+    line_count-lines-requires
+    loop-l-init
+    take_line-s-requires
+    overflow_add-l
+    loop-l-smaller
+    loop-l-preserved
     returns)

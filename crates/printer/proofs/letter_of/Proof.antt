@@ -5,12 +5,12 @@ use Rattle.text.specs.Listing.{letter}
 use Rattle.printer.proofs.letter_of.Statement.{statement}
 use Rattle.printer.proofs.letter_of.Tie as tie
 
-array-read-result : tie.Need-array-read-result
-array-read-result c = search rules
+bounds-letters-j : tie.Need-bounds-letters-j
+bounds-letters-j c = search rules
 
 returns : tie.Need-returns
 unfolding letter
 returns c = refl
 
 pub letter_of_spec : {M : Type 1} → statement M
-letter_of_spec = tie.close (tie.spec array-read-result returns)
+letter_of_spec = tie.close (tie.spec bounds-letters-j returns)

@@ -13,64 +13,64 @@ use Rattle.printer.proofs.PrintLaws.{lines_next, lines_all}
 use Rattle.printer.proofs.put_lines.Statement.{statement}
 use Rattle.printer.proofs.put_lines.Tie as tie
 
-abbrev invariant-loop : tie.invariant-loop
-invariant-loop out₀ nx ny nz map j marks count t₀ i₀ out t i = (i ≤ count) × (length out ≡ length out₀) × (state t out ≡ sunk (state t₀ out₀) (lines_for (triple nx ny nz) map j (consecutive 1 i)))
+abbrev invariant-loop-i : tie.invariant-loop-i
+invariant-loop-i out₀ nx ny nz map j marks count t₀ i₀ out t i = (i ≤ count) × (length out ≡ length out₀) × (state t out ≡ sunk (state t₀ out₀) (lines_for (triple nx ny nz) map j (consecutive 1 i)))
 
-abbrev decreases-loop : tie.decreases-loop
-decreases-loop out₀ nx ny nz map j marks count t₀ i₀ out t i = count - i
+abbrev decreases-loop-i : tie.decreases-loop-i
+decreases-loop-i out₀ nx ny nz map j marks count t₀ i₀ out t i = count - i
 
-loop-holds : tie.Need-loop-init invariant-loop decreases-loop
+loop-i-init : tie.Need-loop-i-init invariant-loop-i decreases-loop-i
 unfolding lines_for consecutive
-loop-holds c = (search rules, refl, sunk_none _)
+loop-i-init c = (search rules, refl, sunk_none _)
 
-wide-requires : tie.Need-wide-requires invariant-loop decreases-loop
+wide-requires : tie.Need-wide-requires invariant-loop-i decreases-loop-i
 wide-requires c κs = search rules
 
-mul_wide : tie.Need-overflow-mul-wide invariant-loop decreases-loop
-mul_wide c = search rules
+offset_bounds-marks-wide : tie.Need-offset_bounds-marks-wide invariant-loop-i decreases-loop-i
+offset_bounds-marks-wide c = search rules
 
-shared-slice-read-wide : tie.Need-shared-slice-read-wide invariant-loop decreases-loop
-shared-slice-read-wide c = search rules
+bounds-marks-wide : tie.Need-bounds-marks-wide invariant-loop-i decreases-loop-i
+bounds-marks-wide c = search rules
 
-wide-requires-2 : tie.Need-wide-requires-2 invariant-loop decreases-loop
-wide-requires-2 c κs = search rules
+wide-p-requires : tie.Need-wide-p-requires invariant-loop-i decreases-loop-i
+wide-p-requires c κs = search rules
 
-add-put-line : tie.Need-overflow-add-put-line invariant-loop decreases-loop
-add-put-line c = search rules
+overflow_add-i : tie.Need-overflow_add-i invariant-loop-i decreases-loop-i
+overflow_add-i c = search rules
 
-put-line-requires : tie.Need-put-line-requires invariant-loop decreases-loop
-put-line-requires c κs = (search rules, search mark_read)
+put_line-t-requires : tie.Need-put_line-t-requires invariant-loop-i decreases-loop-i
+put_line-t-requires c κs = (search rules, search mark_read)
 
-add-i : tie.Need-overflow-add-i invariant-loop decreases-loop
-add-i c = search rules
+overflow_add-i-in-loop-i : tie.Need-overflow_add-i-in-loop-i invariant-loop-i decreases-loop-i
+overflow_add-i-in-loop-i c = search rules
 
-loop-less : tie.Need-loop-smaller invariant-loop decreases-loop
-loop-less c = search rules
+loop-i-smaller : tie.Need-loop-i-smaller invariant-loop-i decreases-loop-i
+loop-i-smaller c = search rules
 
-loop-again : tie.Need-loop-preserved invariant-loop decreases-loop
-loop-again c = (search rules, search rules, search lines_next)
+loop-i-preserved : tie.Need-loop-i-preserved invariant-loop-i decreases-loop-i
+loop-i-preserved c = (search rules, search rules, search lines_next)
 
-same_length : tie.Need-same-length invariant-loop decreases-loop
-same_length c = search rules
+shape_of-out : tie.Need-shape_of-out invariant-loop-i decreases-loop-i
+shape_of-out c = search rules
 
-returns : tie.Need-returns invariant-loop decreases-loop
+returns : tie.Need-returns invariant-loop-i decreases-loop-i
 returns c = search lines_all
 
 pub put_lines_spec : {M : Type 1} → statement M
 put_lines_spec =
     tie.close
     (tie.spec
-    invariant-loop
-    decreases-loop
-    loop-holds
+    invariant-loop-i
+    decreases-loop-i
+    loop-i-init
     wide-requires
-    mul_wide
-    shared-slice-read-wide
-    wide-requires-2
-    add-put-line
-    put-line-requires
-    add-i
-    loop-less
-    loop-again
-    same_length
+    offset_bounds-marks-wide
+    bounds-marks-wide
+    wide-p-requires
+    overflow_add-i
+    put_line-t-requires
+    overflow_add-i-in-loop-i
+    loop-i-smaller
+    loop-i-preserved
+    shape_of-out
     returns)

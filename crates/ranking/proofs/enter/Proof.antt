@@ -6,71 +6,71 @@ use Rattle.ranking.proofs.FirstLaws.{enter_root, enter_first, enter_later}
 use Rattle.ranking.proofs.enter.Statement.{statement}
 use Rattle.ranking.proofs.enter.Tie as tie
 
-mul-leaders : tie.Need-overflow-mul-leaders
-mul-leaders c = search rules
+offset_bounds-leaders-x : tie.Need-offset_bounds-leaders-x
+offset_bounds-leaders-x c = search rules
 
-slice-write-leaders : tie.Need-slice-write-leaders
-slice-write-leaders c = search rules
+bounds-leaders-x : tie.Need-bounds-leaders-x
+bounds-leaders-x c = search rules
 
-same_length : tie.Need-same-length
-same_length c = search rules
+shape_of-leaders-then-c-x : tie.Need-shape_of-leaders-then-c-x
+shape_of-leaders-then-c-x c = search rules
 
-returns : tie.Need-returns
-returns c = search enter_root
+returns-then-c-x : tie.Need-returns-then-c-x
+returns-then-c-x c = search enter_root
 
-mul-f : tie.Need-overflow-mul-f
-mul-f c = search rules
+offset_bounds-leaders-c : tie.Need-offset_bounds-leaders-c
+offset_bounds-leaders-c c = search rules
 
-slice-read-f : tie.Need-slice-read-f
-slice-read-f c = search rules
+bounds-leaders-c : tie.Need-bounds-leaders-c
+bounds-leaders-c c = search rules
 
-mul-if2 : tie.Need-overflow-mul-if2
-mul-if2 c = search rules
+offset_bounds-keys-x : tie.Need-offset_bounds-keys-x
+offset_bounds-keys-x c = search rules
 
-shared-slice-read-if2 : tie.Need-shared-slice-read-if2
-shared-slice-read-if2 c = search rules
+bounds-keys-x : tie.Need-bounds-keys-x
+bounds-keys-x c = search rules
 
-cast-if2 : tie.Need-overflow-cast-if2
-cast-if2 c = let e = c.before.before in omega (arith, e.before.requires.1.1 e.if1.false, e.before.well-formed)
+overflow_cast-f-2 : tie.Need-overflow_cast-f-2
+overflow_cast-f-2 c = let e = c.before.before in omega (arith, e.before.requires.1.1 e.if-c-x.false, e.before.well_formed)
 
-mul-if2-2 : tie.Need-overflow-mul-if2-2
-mul-if2-2 c = let e = c.before.before in omega (arith, e.before.requires.1.1 e.if1.false, e.before.well-formed)
+offset_bounds-keys-f : tie.Need-offset_bounds-keys-f
+offset_bounds-keys-f c = let e = c.before.before in omega (arith, e.before.requires.1.1 e.if-c-x.false, e.before.well_formed)
 
-shared-slice-read-if2-2 : tie.Need-shared-slice-read-if2-2
-shared-slice-read-if2-2 c = let e = c.before.before.before in omega (arith, e.before.requires.1.1 e.if1.false, e.before.well-formed)
+bounds-keys-f : tie.Need-bounds-keys-f
+bounds-keys-f c = let e = c.before.before.before in omega (arith, e.before.requires.1.1 e.if-c-x.false, e.before.well_formed)
 
-mul-leaders-2 : tie.Need-overflow-mul-leaders-2
-mul-leaders-2 c = search rules
+offset_bounds-leaders-c-then-keys-x : tie.Need-offset_bounds-leaders-c-then-keys-x
+offset_bounds-leaders-c-then-keys-x c = search rules
 
-slice-write-leaders-2 : tie.Need-slice-write-leaders-2
-slice-write-leaders-2 c = search rules
+bounds-leaders-c-then-keys-x : tie.Need-bounds-leaders-c-then-keys-x
+bounds-leaders-c-then-keys-x c = search rules
 
-same-length-2 : tie.Need-same-length-2
-same-length-2 c = search rules
+shape_of-leaders : tie.Need-shape_of-leaders
+shape_of-leaders c = search rules
 
-returns-2 : tie.Need-returns-2
-returns-2 c = search enter_first
+returns-then-keys-x : tie.Need-returns-then-keys-x
+returns-then-keys-x c = search enter_first
 
-returns-3 : tie.Need-returns-3
-returns-3 c = search enter_later
+returns-else-keys-x : tie.Need-returns-else-keys-x
+returns-else-keys-x c = search enter_later
 
 pub enter_spec : {M : Type 1} → statement M
 enter_spec =
     tie.close
     (tie.spec
-    mul-leaders
-    slice-write-leaders
-    same_length
-    returns
-    mul-f
-    slice-read-f
-    mul-if2
-    shared-slice-read-if2
-    cast-if2
-    mul-if2-2
-    shared-slice-read-if2-2
-    mul-leaders-2
-    slice-write-leaders-2
-    same-length-2
-    returns-2
-    returns-3)
+    offset_bounds-leaders-x
+    bounds-leaders-x
+    shape_of-leaders-then-c-x
+    returns-then-c-x
+    offset_bounds-leaders-c
+    bounds-leaders-c
+    offset_bounds-keys-x
+    bounds-keys-x
+    overflow_cast-f-2
+    offset_bounds-keys-f
+    bounds-keys-f
+    offset_bounds-leaders-c-then-keys-x
+    bounds-leaders-c-then-keys-x
+    shape_of-leaders
+    returns-then-keys-x
+    returns-else-keys-x)

@@ -10,62 +10,62 @@ use Rattle.ranking.specs.Ranking.{Leaders}
 use Rattle.ranking.proofs.find_leaders.Statement.{statement}
 use Rattle.ranking.proofs.find_leaders.Tie as tie
 
-abbrev invariant-loop : tie.invariant-loop
-invariant-loop keys classes leaders₀ n x₀ leaders x = (x ≤ n) × (length leaders ≡ length leaders₀) × Leaders keys classes x leaders
+abbrev invariant-loop-x : tie.invariant-loop-x
+invariant-loop-x keys classes leaders₀ n x₀ leaders x = (x ≤ n) × (length leaders ≡ length leaders₀) × Leaders keys classes x leaders
 
-abbrev decreases-loop : tie.decreases-loop
-decreases-loop keys classes leaders₀ n x₀ leaders x = n - x
+abbrev decreases-loop-x : tie.decreases-loop-x
+decreases-loop-x keys classes leaders₀ n x₀ leaders x = n - x
 
-loop-holds : tie.Need-loop-init invariant-loop decreases-loop
-loop-holds c = (omega arith, refl, leaders_none _ _ _)
+loop-x-init : tie.Need-loop-x-init invariant-loop-x decreases-loop-x
+loop-x-init c = (omega arith, refl, leaders_none _ _ _)
 
-cast-c : tie.Need-overflow-cast-c invariant-loop decreases-loop
-cast-c c = search rules
+overflow_cast-c : tie.Need-overflow_cast-c invariant-loop-x decreases-loop-x
+overflow_cast-c c = search rules
 
-mul-c : tie.Need-overflow-mul-c invariant-loop decreases-loop
-mul-c c = search rules
+offset_bounds-classes-x : tie.Need-offset_bounds-classes-x invariant-loop-x decreases-loop-x
+offset_bounds-classes-x c = search rules
 
-shared-slice-read-c : tie.Need-shared-slice-read-c invariant-loop decreases-loop
-shared-slice-read-c c = search rules
+bounds-classes-x : tie.Need-bounds-classes-x invariant-loop-x decreases-loop-x
+bounds-classes-x c = search rules
 
-enter-requires : tie.Need-enter-requires invariant-loop decreases-loop
+enter-requires : tie.Need-enter-requires invariant-loop-x decreases-loop-x
 enter-requires c κs = let a = c.before.before.before in
     let s = a.before.before.before.before in
-    let l = c.before.before.loop-test.true in
-    ((omega arith, omega arith), (omega (arith, s.requires.0.low a.loop.x l), λ d. omega (arith, earlier_first _ _ _ _ _ s.requires.0 l a.loop.invariant.2 d)))
+    let l = c.before.before.loop-x-test.true in
+    ((omega arith, omega arith), (omega (arith, s.requires.0.low a.loop-x.x l), λ d. omega (arith, earlier_first _ _ _ _ _ s.requires.0 l a.loop-x.invariant.2 d)))
 
-add-x : tie.Need-overflow-add-x invariant-loop decreases-loop
-add-x c = search rules
+overflow_add-x : tie.Need-overflow_add-x invariant-loop-x decreases-loop-x
+overflow_add-x c = search rules
 
-loop-less : tie.Need-loop-smaller invariant-loop decreases-loop
-loop-less c = search rules
+loop-x-smaller : tie.Need-loop-x-smaller invariant-loop-x decreases-loop-x
+loop-x-smaller c = search rules
 
-loop-again : tie.Need-loop-preserved invariant-loop decreases-loop
-loop-again c = let e = c.before.before in
+loop-x-preserved : tie.Need-loop-x-preserved invariant-loop-x decreases-loop-x
+loop-x-preserved c = let e = c.before.before in
     let a = e.before.before.before.before in
     let s = a.before.before.before.before in
-    (omega arith, length-entered _ _ _ _ _ e.enter.ensures ∙ a.loop.invariant.1, leaders_next _ _ _ _ _ s.requires.0 e.before.before.before.loop-test.true a.loop.invariant.2 (omega arith) _ e.enter.ensures)
+    (omega arith, length-entered _ _ _ _ _ e.enter.ensures ∙ a.loop-x.invariant.1, leaders_next _ _ _ _ _ s.requires.0 e.before.before.before.loop-x-test.true a.loop-x.invariant.2 (omega arith) _ e.enter.ensures)
 
-same_length : tie.Need-same-length invariant-loop decreases-loop
-same_length c = search rules
+shape_of-leaders : tie.Need-shape_of-leaders invariant-loop-x decreases-loop-x
+shape_of-leaders c = search rules
 
-returns : tie.Need-returns invariant-loop decreases-loop
+returns : tie.Need-returns invariant-loop-x decreases-loop-x
 returns c = let a = c.before in
-    let e : a.before.before.before.before.args.n ≡ a.loop.x = omega arith in (rw e a.loop.invariant.2, a.loop.invariant.1)
+    let e : a.before.before.before.before.args.n ≡ a.loop-x.x = omega arith in (rw e a.loop-x.invariant.2, a.loop-x.invariant.1)
 
 pub find_leaders_spec : {M : Type 1} → statement M
 find_leaders_spec =
     tie.close
     (tie.spec
-    invariant-loop
-    decreases-loop
-    loop-holds
-    cast-c
-    mul-c
-    shared-slice-read-c
+    invariant-loop-x
+    decreases-loop-x
+    loop-x-init
+    overflow_cast-c
+    offset_bounds-classes-x
+    bounds-classes-x
     enter-requires
-    add-x
-    loop-less
-    loop-again
-    same_length
+    overflow_add-x
+    loop-x-smaller
+    loop-x-preserved
+    shape_of-leaders
     returns)

@@ -7,57 +7,57 @@ use Rattle.ranking.specs.Ranking.{is_leader}
 use Rattle.ranking.proofs.list_first.Statement.{statement}
 use Rattle.ranking.proofs.list_first.Tie as tie
 
-mul-c : tie.Need-overflow-mul-c
-mul-c c = search rules
+offset_bounds-classes-x : tie.Need-offset_bounds-classes-x
+offset_bounds-classes-x c = search rules
 
-shared-slice-read-c : tie.Need-shared-slice-read-c
-shared-slice-read-c c = search rules
+bounds-classes-x : tie.Need-bounds-classes-x
+bounds-classes-x c = search rules
 
-cast-if1 : tie.Need-overflow-cast-if1
-cast-if1 c = search rules
+overflow_cast-c-2 : tie.Need-overflow_cast-c-2
+overflow_cast-c-2 c = search rules
 
-mul-if1 : tie.Need-overflow-mul-if1
-mul-if1 c = search rules
+offset_bounds-spare-c : tie.Need-offset_bounds-spare-c
+offset_bounds-spare-c c = search rules
 
-slice-read-if1 : tie.Need-slice-read-if1
-slice-read-if1 c = search rules
+bounds-spare-c : tie.Need-bounds-spare-c
+bounds-spare-c c = search rules
 
-add-spare : tie.Need-overflow-add-spare
-add-spare c = search rules
+overflow_add-spare : tie.Need-overflow_add-spare
+overflow_add-spare c = search rules
 
-mul-spare : tie.Need-overflow-mul-spare
-mul-spare c = search rules
+offset_bounds-spare-n : tie.Need-offset_bounds-spare-n
+offset_bounds-spare-n c = search rules
 
-slice-write-spare : tie.Need-slice-write-spare
-slice-write-spare c = search rules
+bounds-spare-n : tie.Need-bounds-spare-n
+bounds-spare-n c = search rules
 
-add-result : tie.Need-overflow-add-result
-add-result c = search rules
+overflow_add-result : tie.Need-overflow_add-result
+overflow_add-result c = search rules
 
-same_length : tie.Need-same-length
-same_length c = search rules
+shape_of-spare-then-spare-c : tie.Need-shape_of-spare-then-spare-c
+shape_of-spare-then-spare-c c = search rules
+
+returns-then-spare-c : tie.Need-returns-then-spare-c
+unfolding is_leader
+returns-then-spare-c c = rw (eq-eqb _ _ c.if-spare-c.true) (refl, refl)
 
 returns : tie.Need-returns
 unfolding is_leader
-returns c = rw (eq-eqb _ _ c.if1.true) (refl, refl)
-
-returns-2 : tie.Need-returns-2
-unfolding is_leader
-returns-2 c = rw (ne_eqb _ _ c.if1.false) (refl, refl)
+returns c = rw (ne_eqb _ _ c.if-spare-c.false) (refl, refl)
 
 pub list_first_spec : {M : Type 1} → statement M
 list_first_spec =
     tie.close
     (tie.spec
-    mul-c
-    shared-slice-read-c
-    cast-if1
-    mul-if1
-    slice-read-if1
-    add-spare
-    mul-spare
-    slice-write-spare
-    add-result
-    same_length
-    returns
-    returns-2)
+    offset_bounds-classes-x
+    bounds-classes-x
+    overflow_cast-c-2
+    offset_bounds-spare-c
+    bounds-spare-c
+    overflow_add-spare
+    offset_bounds-spare-n
+    bounds-spare-n
+    overflow_add-result
+    shape_of-spare-then-spare-c
+    returns-then-spare-c
+    returns)

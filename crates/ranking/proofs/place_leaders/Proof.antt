@@ -11,121 +11,121 @@ use Rattle.ranking.proofs.NumberLaws.{Placing, placing_none, placing_next, place
 use Rattle.ranking.proofs.place_leaders.Statement.{statement}
 use Rattle.ranking.proofs.place_leaders.Tie as tie
 
-abbrev invariant-loop : tie.invariant-loop
-invariant-loop classes leaders₀ spare₀ n h i₀ leaders spare i = (i ≤ h) × Placing classes spare₀ spare n i × (length leaders ≡ length leaders₀) × (leaders ≡ overlay leaders₀ 0 (λ j. get_or spare₀ (n + j) 0) i)
+abbrev invariant-loop-i : tie.invariant-loop-i
+invariant-loop-i classes leaders₀ spare₀ n h i₀ leaders spare i = (i ≤ h) × Placing classes spare₀ spare n i × (length leaders ≡ length leaders₀) × (leaders ≡ overlay leaders₀ 0 (λ j. get_or spare₀ (n + j) 0) i)
 
-abbrev decreases-loop : tie.decreases-loop
-decreases-loop classes leaders₀ spare₀ n h i₀ leaders spare i = h - i
+abbrev decreases-loop-i : tie.decreases-loop-i
+decreases-loop-i classes leaders₀ spare₀ n h i₀ leaders spare i = h - i
 
 -- The place that is read, and its class.
-listed : (c : tie.In-loop invariant-loop decreases-loop)
-    → get_or c.before.loop.spare (c.before.before.args.n + c.before.loop.i) 0 < c.before.before.args.n
-listed c = listed_below c.before.before.requires.1.0 c.before.before.requires.1.1 c.loop-test.true c.before.loop.invariant.1
+listed : (c : tie.In-loop-i invariant-loop-i decreases-loop-i)
+    → get_or c.before.loop-i.spare (c.before.before.args.n + c.before.loop-i.i) 0 < c.before.before.args.n
+listed c = listed_below c.before.before.requires.1.0 c.before.before.requires.1.1 c.loop-i-test.true c.before.loop-i.invariant.1
 
-class : (c : tie.In-loop invariant-loop decreases-loop)
-    → get_or c.before.before.args.classes.now (get_or c.before.loop.spare (c.before.before.args.n + c.before.loop.i) 0) 0 < c.before.before.args.n
-class c = class_below c.before.before.requires.1.0 c.before.before.requires.1.1 c.loop-test.true c.before.loop.invariant.1
+class : (c : tie.In-loop-i invariant-loop-i decreases-loop-i)
+    → get_or c.before.before.args.classes.now (get_or c.before.loop-i.spare (c.before.before.args.n + c.before.loop-i.i) 0) 0 < c.before.before.args.n
+class c = class_below c.before.before.requires.1.0 c.before.before.requires.1.1 c.loop-i-test.true c.before.loop-i.invariant.1
 
-loop-holds : tie.Need-loop-init invariant-loop decreases-loop
-loop-holds c = (omega arith, placing_none _ _ _, refl, overlay_none _ _ _)
+loop-i-init : tie.Need-loop-i-init invariant-loop-i decreases-loop-i
+loop-i-init c = (omega arith, placing_none _ _ _, refl, overlay_none _ _ _)
 
-cast-x : tie.Need-overflow-cast-x invariant-loop decreases-loop
-cast-x c = search rules
+overflow_cast-x-in-loop-i : tie.Need-overflow_cast-x-in-loop-i invariant-loop-i decreases-loop-i
+overflow_cast-x-in-loop-i c = search rules
 
-add-x : tie.Need-overflow-add-x invariant-loop decreases-loop
-add-x c = search rules
+overflow_add-x : tie.Need-overflow_add-x invariant-loop-i decreases-loop-i
+overflow_add-x c = search rules
 
-mul-x : tie.Need-overflow-mul-x invariant-loop decreases-loop
-mul-x c = search rules
+offset_bounds-spare-n : tie.Need-offset_bounds-spare-n invariant-loop-i decreases-loop-i
+offset_bounds-spare-n c = search rules
 
-slice-read-x : tie.Need-slice-read-x invariant-loop decreases-loop
-slice-read-x c = search rules
+bounds-spare-n : tie.Need-bounds-spare-n invariant-loop-i decreases-loop-i
+bounds-spare-n c = search rules
 
-cast-c : tie.Need-overflow-cast-c invariant-loop decreases-loop
-cast-c c = omega (arith, listed c.before)
+overflow_cast-c : tie.Need-overflow_cast-c invariant-loop-i decreases-loop-i
+overflow_cast-c c = omega (arith, listed c.before)
 
-mul-c : tie.Need-overflow-mul-c invariant-loop decreases-loop
-mul-c c = omega (arith, listed c.before)
+offset_bounds-classes-x : tie.Need-offset_bounds-classes-x invariant-loop-i decreases-loop-i
+offset_bounds-classes-x c = omega (arith, listed c.before)
 
-shared-slice-read-c : tie.Need-shared-slice-read-c invariant-loop decreases-loop
-shared-slice-read-c c = omega (arith, listed c.before.before, c.before.before.before.before.requires.1.0.long)
+bounds-classes-x : tie.Need-bounds-classes-x invariant-loop-i decreases-loop-i
+bounds-classes-x c = omega (arith, listed c.before.before, c.before.before.before.before.requires.1.0.long)
 
-add-spare : tie.Need-overflow-add-spare invariant-loop decreases-loop
-add-spare c = search rules
+overflow_add-spare : tie.Need-overflow_add-spare invariant-loop-i decreases-loop-i
+overflow_add-spare c = search rules
 
-cast-spare : tie.Need-overflow-cast-spare invariant-loop decreases-loop
-cast-spare c = omega (arith, class c.before.before)
+overflow_cast-spare : tie.Need-overflow_cast-spare invariant-loop-i decreases-loop-i
+overflow_cast-spare c = omega (arith, class c.before.before)
 
-mul-spare : tie.Need-overflow-mul-spare invariant-loop decreases-loop
-mul-spare c = omega (arith, class c.before.before)
+offset_bounds-spare-c : tie.Need-offset_bounds-spare-c invariant-loop-i decreases-loop-i
+offset_bounds-spare-c c = omega (arith, class c.before.before)
 
-slice-write-spare : tie.Need-slice-write-spare invariant-loop decreases-loop
-slice-write-spare c = omega (arith, class c.before.before, c.before.before.before.loop.invariant.1.done.long)
+bounds-spare-c : tie.Need-bounds-spare-c invariant-loop-i decreases-loop-i
+bounds-spare-c c = omega (arith, class c.before.before, c.before.before.before.loop-i.invariant.1.done.long)
 
-cast-leaders : tie.Need-overflow-cast-leaders invariant-loop decreases-loop
-cast-leaders c = omega (arith, listed c.before.before)
+overflow_cast-leaders : tie.Need-overflow_cast-leaders invariant-loop-i decreases-loop-i
+overflow_cast-leaders c = omega (arith, listed c.before.before)
 
-cast-leaders-2 : tie.Need-overflow-cast-leaders-2 invariant-loop decreases-loop
-cast-leaders-2 c = search rules
+overflow_cast-leaders-in-loop-i : tie.Need-overflow_cast-leaders-in-loop-i invariant-loop-i decreases-loop-i
+overflow_cast-leaders-in-loop-i c = search rules
 
-mul-leaders : tie.Need-overflow-mul-leaders invariant-loop decreases-loop
-mul-leaders c = search rules
+offset_bounds-leaders-i : tie.Need-offset_bounds-leaders-i invariant-loop-i decreases-loop-i
+offset_bounds-leaders-i c = search rules
 
-slice-write-leaders : tie.Need-slice-write-leaders invariant-loop decreases-loop
-slice-write-leaders c = search rules
+bounds-leaders-i : tie.Need-bounds-leaders-i invariant-loop-i decreases-loop-i
+bounds-leaders-i c = search rules
 
-add-i : tie.Need-overflow-add-i invariant-loop decreases-loop
-add-i c = search rules
+overflow_add-i : tie.Need-overflow_add-i invariant-loop-i decreases-loop-i
+overflow_add-i c = search rules
 
-loop-less : tie.Need-loop-smaller invariant-loop decreases-loop
-loop-less c = search rules
+loop-i-smaller : tie.Need-loop-i-smaller invariant-loop-i decreases-loop-i
+loop-i-smaller c = search rules
 
-loop-again : tie.Need-loop-preserved invariant-loop decreases-loop
-loop-again c = let i = c.before.before in
+loop-i-preserved : tie.Need-loop-i-preserved invariant-loop-i decreases-loop-i
+loop-i-preserved c = let i = c.before.before in
     let a = i.before in
     let s = a.before in
-    let l = i.loop-test.true in (
+    let l = i.loop-i-test.true in (
       omega arith,
-      placing_next s.requires.1.0 s.requires.1.1 l a.loop.invariant.1 (omega arith),
-      simp length-set a.loop.invariant.2,
-      written_next _ _ _ _ _ a.loop.invariant.3 (listed_same s.requires.1.0 s.requires.1.1 l a.loop.invariant.1),
+      placing_next s.requires.1.0 s.requires.1.1 l a.loop-i.invariant.1 (omega arith),
+      simp length-set a.loop-i.invariant.2,
+      written_next _ _ _ _ _ a.loop-i.invariant.3 (listed_same s.requires.1.0 s.requires.1.1 l a.loop-i.invariant.1),
     )
 
-same_length : tie.Need-same-length invariant-loop decreases-loop
-same_length c = c.before.loop.invariant.2
+shape_of-leaders : tie.Need-shape_of-leaders invariant-loop-i decreases-loop-i
+shape_of-leaders c = c.before.loop-i.invariant.2
 
-same-length-2 : tie.Need-same-length-2 invariant-loop decreases-loop
-same-length-2 c = c.before.loop.invariant.1.done.long
+shape_of-spare : tie.Need-shape_of-spare invariant-loop-i decreases-loop-i
+shape_of-spare c = c.before.loop-i.invariant.1.done.long
 
-returns : tie.Need-returns invariant-loop decreases-loop
+returns : tie.Need-returns invariant-loop-i decreases-loop-i
 returns c = let a = c.before in
-    (placed_end a.loop.invariant.0 c.loop-test.false a.loop.invariant.1, overlay_end _ _ _ _ _ _ a.loop.invariant.0 c.loop-test.false a.loop.invariant.3)
+    (placed_end a.loop-i.invariant.0 c.loop-i-test.false a.loop-i.invariant.1, overlay_end _ _ _ _ _ _ a.loop-i.invariant.0 c.loop-i-test.false a.loop-i.invariant.3)
 
 pub place_leaders_spec : {M : Type 1} → statement M
 place_leaders_spec =
     tie.close
     (tie.spec
-    invariant-loop
-    decreases-loop
-    loop-holds
-    cast-x
-    add-x
-    mul-x
-    slice-read-x
-    cast-c
-    mul-c
-    shared-slice-read-c
-    add-spare
-    cast-spare
-    mul-spare
-    slice-write-spare
-    cast-leaders
-    cast-leaders-2
-    mul-leaders
-    slice-write-leaders
-    add-i
-    loop-less
-    loop-again
-    same_length
-    same-length-2
+    invariant-loop-i
+    decreases-loop-i
+    loop-i-init
+    overflow_cast-x-in-loop-i
+    overflow_add-x
+    offset_bounds-spare-n
+    bounds-spare-n
+    overflow_cast-c
+    offset_bounds-classes-x
+    bounds-classes-x
+    overflow_add-spare
+    overflow_cast-spare
+    offset_bounds-spare-c
+    bounds-spare-c
+    overflow_cast-leaders
+    overflow_cast-leaders-in-loop-i
+    offset_bounds-leaders-i
+    bounds-leaders-i
+    overflow_add-i
+    loop-i-smaller
+    loop-i-preserved
+    shape_of-leaders
+    shape_of-spare
     returns)

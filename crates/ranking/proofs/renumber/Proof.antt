@@ -10,81 +10,81 @@ use Rattle.lists.proofs.Overlay.{overlay_none, overlay_end, written_behind, rene
 use Rattle.ranking.proofs.renumber.Statement.{statement}
 use Rattle.ranking.proofs.renumber.Tie as tie
 
-abbrev invariant-loop : tie.invariant-loop
-invariant-loop spare numbers₀ n x₀ numbers x = (x ≤ n) × (length numbers ≡ length numbers₀) × (numbers ≡ overlay numbers₀ 0 (λ y. get_or spare (get_or numbers₀ y 0) 0) x)
+abbrev invariant-loop-x : tie.invariant-loop-x
+invariant-loop-x spare numbers₀ n x₀ numbers x = (x ≤ n) × (length numbers ≡ length numbers₀) × (numbers ≡ overlay numbers₀ 0 (λ y. get_or spare (get_or numbers₀ y 0) 0) x)
 
-abbrev decreases-loop : tie.decreases-loop
-decreases-loop spare numbers₀ n x₀ numbers x = n - x
+abbrev decreases-loop-x : tie.decreases-loop-x
+decreases-loop-x spare numbers₀ n x₀ numbers x = n - x
 
 -- The class that is read.
-class : (c : tie.In-loop invariant-loop decreases-loop) → get_or c.before.loop.numbers c.before.loop.x 0 < c.before.before.args.n
+class : (c : tie.In-loop-x invariant-loop-x decreases-loop-x) → get_or c.before.loop-x.numbers c.before.loop-x.x 0 < c.before.before.args.n
 class c = let a = c.before in
     let s = a.before in
-    omega (arith, written_behind _ _ _ _ a.loop.invariant.2 a.loop.x (omega arith), s.requires.1.low a.loop.x c.loop-test.true, c.loop-test.true)
+    omega (arith, written_behind _ _ _ _ a.loop-x.invariant.2 a.loop-x.x (omega arith), s.requires.1.low a.loop-x.x c.loop-x-test.true, c.loop-x-test.true)
 
-loop-holds : tie.Need-loop-init invariant-loop decreases-loop
-loop-holds c = (omega arith, refl, overlay_none _ _ _)
+loop-x-init : tie.Need-loop-x-init invariant-loop-x decreases-loop-x
+loop-x-init c = (omega arith, refl, overlay_none _ _ _)
 
-cast-c : tie.Need-overflow-cast-c invariant-loop decreases-loop
-cast-c c = search rules
+overflow_cast-c : tie.Need-overflow_cast-c invariant-loop-x decreases-loop-x
+overflow_cast-c c = search rules
 
-mul-c : tie.Need-overflow-mul-c invariant-loop decreases-loop
-mul-c c = search rules
+offset_bounds-numbers-x : tie.Need-offset_bounds-numbers-x invariant-loop-x decreases-loop-x
+offset_bounds-numbers-x c = search rules
 
-slice-read-c : tie.Need-slice-read-c invariant-loop decreases-loop
-slice-read-c c = search rules
+bounds-numbers-x : tie.Need-bounds-numbers-x invariant-loop-x decreases-loop-x
+bounds-numbers-x c = search rules
 
-cast-numbers : tie.Need-overflow-cast-numbers invariant-loop decreases-loop
-cast-numbers c = omega (arith, class c.before)
+overflow_cast-numbers : tie.Need-overflow_cast-numbers invariant-loop-x decreases-loop-x
+overflow_cast-numbers c = omega (arith, class c.before)
 
-mul-numbers : tie.Need-overflow-mul-numbers invariant-loop decreases-loop
-mul-numbers c = omega (arith, class c.before)
+offset_bounds-spare-c : tie.Need-offset_bounds-spare-c invariant-loop-x decreases-loop-x
+offset_bounds-spare-c c = omega (arith, class c.before)
 
-shared-slice-read-numbers : tie.Need-shared-slice-read-numbers invariant-loop decreases-loop
-shared-slice-read-numbers c = omega (arith, class c.before.before, c.before.before.before.before.requires.0)
+bounds-spare-c : tie.Need-bounds-spare-c invariant-loop-x decreases-loop-x
+bounds-spare-c c = omega (arith, class c.before.before, c.before.before.before.before.requires.0)
 
-cast-numbers-2 : tie.Need-overflow-cast-numbers-2 invariant-loop decreases-loop
-cast-numbers-2 c = search rules
+overflow_cast-numbers-in-loop-x : tie.Need-overflow_cast-numbers-in-loop-x invariant-loop-x decreases-loop-x
+overflow_cast-numbers-in-loop-x c = search rules
 
-mul-numbers-2 : tie.Need-overflow-mul-numbers-2 invariant-loop decreases-loop
-mul-numbers-2 c = search rules
+offset_bounds-numbers-x-in-loop-x : tie.Need-offset_bounds-numbers-x-in-loop-x invariant-loop-x decreases-loop-x
+offset_bounds-numbers-x-in-loop-x c = search rules
 
-slice-write-numbers : tie.Need-slice-write-numbers invariant-loop decreases-loop
-slice-write-numbers c = search rules
+bounds-numbers-x-in-loop-x : tie.Need-bounds-numbers-x-in-loop-x invariant-loop-x decreases-loop-x
+bounds-numbers-x-in-loop-x c = search rules
 
-add-x : tie.Need-overflow-add-x invariant-loop decreases-loop
-add-x c = search rules
+overflow_add-x : tie.Need-overflow_add-x invariant-loop-x decreases-loop-x
+overflow_add-x c = search rules
 
-loop-less : tie.Need-loop-smaller invariant-loop decreases-loop
-loop-less c = search rules
+loop-x-smaller : tie.Need-loop-x-smaller invariant-loop-x decreases-loop-x
+loop-x-smaller c = search rules
 
-loop-again : tie.Need-loop-preserved invariant-loop decreases-loop
-loop-again c = let a = c.before.before.before in (omega arith, simp length-set a.loop.invariant.1, renewed_next (λ c. get_or a.before.args.spare.now c 0) _ _ _ _ a.loop.invariant.2 refl)
+loop-x-preserved : tie.Need-loop-x-preserved invariant-loop-x decreases-loop-x
+loop-x-preserved c = let a = c.before.before.before in (omega arith, simp length-set a.loop-x.invariant.1, renewed_next (λ c. get_or a.before.args.spare.now c 0) _ _ _ _ a.loop-x.invariant.2 refl)
 
-same_length : tie.Need-same-length invariant-loop decreases-loop
-same_length c = search rules
+shape_of-numbers : tie.Need-shape_of-numbers invariant-loop-x decreases-loop-x
+shape_of-numbers c = search rules
 
-returns : tie.Need-returns invariant-loop decreases-loop
+returns : tie.Need-returns invariant-loop-x decreases-loop-x
 returns c = search overlay_end
 
 pub renumber_spec : {M : Type 1} → statement M
 renumber_spec =
     tie.close
     (tie.spec
-    invariant-loop
-    decreases-loop
-    loop-holds
-    cast-c
-    mul-c
-    slice-read-c
-    cast-numbers
-    mul-numbers
-    shared-slice-read-numbers
-    cast-numbers-2
-    mul-numbers-2
-    slice-write-numbers
-    add-x
-    loop-less
-    loop-again
-    same_length
+    invariant-loop-x
+    decreases-loop-x
+    loop-x-init
+    overflow_cast-c
+    offset_bounds-numbers-x
+    bounds-numbers-x
+    overflow_cast-numbers
+    offset_bounds-spare-c
+    bounds-spare-c
+    overflow_cast-numbers-in-loop-x
+    offset_bounds-numbers-x-in-loop-x
+    bounds-numbers-x-in-loop-x
+    overflow_add-x
+    loop-x-smaller
+    loop-x-preserved
+    shape_of-numbers
     returns)

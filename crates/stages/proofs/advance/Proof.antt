@@ -4,26 +4,26 @@ use Rattle.stages.proofs.AdvancedLaws.{advanced}
 use Rattle.stages.proofs.advance.Statement.{statement}
 use Rattle.stages.proofs.advance.Tie as tie
 
-mul-ticks : tie.Need-overflow-mul-ticks
-mul-ticks c = search rules
+offset_bounds-ticks-step : tie.Need-offset_bounds-ticks-step
+offset_bounds-ticks-step c = search rules
 
-slice-write-ticks : tie.Need-slice-write-ticks
-slice-write-ticks c = search rules
+bounds-ticks-step : tie.Need-bounds-ticks-step
+bounds-ticks-step c = search rules
 
-next-stage-requires : tie.Need-next-stage-requires
-next-stage-requires c κs = search rules
+next_stage-next-requires : tie.Need-next_stage-next-requires
+next_stage-next-requires c κs = search rules
 
-add-t16 : tie.Need-overflow-add-t16
-add-t16 c = search rules
+overflow_add-result : tie.Need-overflow_add-result
+overflow_add-result c = search rules
 
-add-t17 : tie.Need-overflow-add-t17
-add-t17 c = search rules
+overflow_add-result-2 : tie.Need-overflow_add-result-2
+overflow_add-result-2 c = search rules
 
-add-t18 : tie.Need-overflow-add-t18
-add-t18 c = search rules
+overflow_add-result-3 : tie.Need-overflow_add-result-3
+overflow_add-result-3 c = search rules
 
-same_length : tie.Need-same-length
-same_length c = search rules
+shape_of-ticks : tie.Need-shape_of-ticks
+shape_of-ticks c = search rules
 
 returns : tie.Need-returns
 returns c = search advanced
@@ -32,11 +32,11 @@ pub advance_spec : {M : Type 1} → statement M
 advance_spec =
     tie.close
     (tie.spec
-    mul-ticks
-    slice-write-ticks
-    next-stage-requires
-    add-t16
-    add-t17
-    add-t18
-    same_length
+    offset_bounds-ticks-step
+    bounds-ticks-step
+    next_stage-next-requires
+    overflow_add-result
+    overflow_add-result-2
+    overflow_add-result-3
+    shape_of-ticks
     returns)

@@ -4,51 +4,51 @@ use Rattle.stages.proofs.StageLaws.{follows_enrol, follows_seam, follows_crossin
 use Rattle.stages.proofs.after.Statement.{statement}
 use Rattle.stages.proofs.after.Tie as tie
 
-enum_told : tie.Need-enum-told
-enum_told c = search rules
+enum_told-1 : tie.Need-enum_told-1
+enum_told-1 c = search rules
 
-after-enrol-requires : tie.Need-after-enrol-requires
-after-enrol-requires c κs = search rules
+after_enrol-requires : tie.Need-after_enrol-requires
+after_enrol-requires c κs = search rules
 
-enum-told-2 : tie.Need-enum-told-2
-enum-told-2 c = search rules
+enum_told-in-Seam : tie.Need-enum_told-in-Seam
+enum_told-in-Seam c = search rules
 
-enum-told-3 : tie.Need-enum-told-3
-enum-told-3 c = search rules
+enum_told-in-Crossing : tie.Need-enum_told-in-Crossing
+enum_told-in-Crossing c = search rules
 
-enum-told-4 : tie.Need-enum-told-4
-enum-told-4 c = search rules
+enum_told-in-Points : tie.Need-enum_told-in-Points
+enum_told-in-Points c = search rules
 
-enum-told-5 : tie.Need-enum-told-5
-enum-told-5 c = search rules
+enum_told-in-Closed : tie.Need-enum_told-in-Closed
+enum_told-in-Closed c = search rules
 
-returns : tie.Need-returns
-returns c = search follows_enrol
+returns-in-Enrol : tie.Need-returns-in-Enrol
+returns-in-Enrol c = search follows_enrol
 
-returns-2 : tie.Need-returns-2
-returns-2 c = search follows_seam
+returns-in-Seam : tie.Need-returns-in-Seam
+returns-in-Seam c = search follows_seam
 
-returns-3 : tie.Need-returns-3
-returns-3 c = search follows_crossing
+returns-in-Crossing : tie.Need-returns-in-Crossing
+returns-in-Crossing c = search follows_crossing
 
-returns-4 : tie.Need-returns-4
-returns-4 c = search follows_points
+returns-in-Points : tie.Need-returns-in-Points
+returns-in-Points c = search follows_points
 
-returns-5 : tie.Need-returns-5
-returns-5 c = search follows_closed
+returns-in-Closed : tie.Need-returns-in-Closed
+returns-in-Closed c = search follows_closed
 
 pub after_spec : {M : Type 1} → statement M
 after_spec =
     tie.close
     (tie.spec
-    enum_told
-    after-enrol-requires
-    enum-told-2
-    enum-told-3
-    enum-told-4
-    enum-told-5
-    returns
-    returns-2
-    returns-3
-    returns-4
-    returns-5)
+    enum_told-1
+    after_enrol-requires
+    enum_told-in-Seam
+    enum_told-in-Crossing
+    enum_told-in-Points
+    enum_told-in-Closed
+    returns-in-Enrol
+    returns-in-Seam
+    returns-in-Crossing
+    returns-in-Points
+    returns-in-Closed)

@@ -8,51 +8,51 @@ use Rattle.stages.proofs.StageLaws.{column_none, column_more, column_broken, col
 use Rattle.stages.proofs.column_ticked.Statement.{statement}
 use Rattle.stages.proofs.column_ticked.Tie as tie
 
-abbrev invariant-loop : tie.invariant-loop
-invariant-loop ticks column blocks b₀ b = (b ≤ blocks) × (ticked_to (ticked_in ticks) column b ≡ true)
+abbrev invariant-loop-b : tie.invariant-loop-b
+invariant-loop-b ticks column blocks b₀ b = (b ≤ blocks) × (ticked_to (ticked_in ticks) column b ≡ true)
 
-abbrev decreases-loop : tie.decreases-loop
-decreases-loop ticks column blocks b₀ b = blocks - b
+abbrev decreases-loop-b : tie.decreases-loop-b
+decreases-loop-b ticks column blocks b₀ b = blocks - b
 
-loop-holds : tie.Need-loop-init invariant-loop decreases-loop
-loop-holds c = search (rules, column_none)
+loop-b-init : tie.Need-loop-b-init invariant-loop-b decreases-loop-b
+loop-b-init c = search (rules, column_none)
 
-mul-is-ticked : tie.Need-overflow-mul-is-ticked invariant-loop decreases-loop
-mul-is-ticked c = search rules
+overflow_mul-b : tie.Need-overflow_mul-b invariant-loop-b decreases-loop-b
+overflow_mul-b c = search rules
 
-add-is-ticked : tie.Need-overflow-add-is-ticked invariant-loop decreases-loop
-add-is-ticked c = search rules
+overflow_add-b : tie.Need-overflow_add-b invariant-loop-b decreases-loop-b
+overflow_add-b c = search rules
 
-is-ticked-requires : tie.Need-is-ticked-requires invariant-loop decreases-loop
-is-ticked-requires c κs = search rules
+is_ticked-requires : tie.Need-is_ticked-requires invariant-loop-b decreases-loop-b
+is_ticked-requires c κs = search rules
 
-returns : tie.Need-returns invariant-loop decreases-loop
-returns c = search column_broken
+returns-then-not-is_ticked : tie.Need-returns-then-not-is_ticked invariant-loop-b decreases-loop-b
+returns-then-not-is_ticked c = search column_broken
 
-add-b : tie.Need-overflow-add-b invariant-loop decreases-loop
-add-b c = search rules
+overflow_step-b : tie.Need-overflow_step-b invariant-loop-b decreases-loop-b
+overflow_step-b c = search rules
 
-loop-less : tie.Need-loop-smaller invariant-loop decreases-loop
-loop-less c = search rules
+loop-b-smaller : tie.Need-loop-b-smaller invariant-loop-b decreases-loop-b
+loop-b-smaller c = search rules
 
-loop-again : tie.Need-loop-preserved invariant-loop decreases-loop
-loop-again c = search (rules, column_more)
+loop-b-preserved : tie.Need-loop-b-preserved invariant-loop-b decreases-loop-b
+loop-b-preserved c = search (rules, column_more)
 
-returns-2 : tie.Need-returns-2 invariant-loop decreases-loop
-returns-2 c = search column_all
+returns : tie.Need-returns invariant-loop-b decreases-loop-b
+returns c = search column_all
 
 pub column_ticked_spec : {M : Type 1} → statement M
 column_ticked_spec =
     tie.close
     (tie.spec
-    invariant-loop
-    decreases-loop
-    loop-holds
-    mul-is-ticked
-    add-is-ticked
-    is-ticked-requires
-    returns
-    add-b
-    loop-less
-    loop-again
-    returns-2)
+    invariant-loop-b
+    decreases-loop-b
+    loop-b-init
+    overflow_mul-b
+    overflow_add-b
+    is_ticked-requires
+    returns-then-not-is_ticked
+    overflow_step-b
+    loop-b-smaller
+    loop-b-preserved
+    returns)

@@ -4,67 +4,67 @@ use Rattle.stages.proofs.StageLaws.{few_blocks, done_enrol, done_seam, done_cros
 use Rattle.stages.proofs.finished.Statement.{statement}
 use Rattle.stages.proofs.finished.Tie as tie
 
-block-count-requires : tie.Need-block-count-requires
-block-count-requires c κs = search rules
+block_count-blocks-requires : tie.Need-block_count-blocks-requires
+block_count-blocks-requires c κs = search rules
 
-enum_told : tie.Need-enum-told
-enum_told c = search rules
+enum_told-1 : tie.Need-enum_told-1
+enum_told-1 c = search rules
 
-column-ticked-requires : tie.Need-column-ticked-requires
-column-ticked-requires c κs = (search rules, search few_blocks)
+column_ticked-requires : tie.Need-column_ticked-requires
+column_ticked-requires c κs = (search rules, search few_blocks)
 
-enum-told-2 : tie.Need-enum-told-2
-enum-told-2 c = search rules
+enum_told-in-Seam : tie.Need-enum_told-in-Seam
+enum_told-in-Seam c = search rules
 
-seams-ticked-requires : tie.Need-seams-ticked-requires
-seams-ticked-requires c κs = search few_blocks
+seams_ticked-requires : tie.Need-seams_ticked-requires
+seams_ticked-requires c κs = search few_blocks
 
-enum-told-3 : tie.Need-enum-told-3
-enum-told-3 c = search rules
+enum_told-in-Crossing : tie.Need-enum_told-in-Crossing
+enum_told-in-Crossing c = search rules
 
-column-ticked-requires-2 : tie.Need-column-ticked-requires-2
-column-ticked-requires-2 c κs = (search rules, search few_blocks)
+column_ticked-requires-in-Crossing : tie.Need-column_ticked-requires-in-Crossing
+column_ticked-requires-in-Crossing c κs = (search rules, search few_blocks)
 
-enum-told-4 : tie.Need-enum-told-4
-enum-told-4 c = search rules
+enum_told-in-Points : tie.Need-enum_told-in-Points
+enum_told-in-Points c = search rules
 
-column-ticked-requires-3 : tie.Need-column-ticked-requires-3
-column-ticked-requires-3 c κs = (search rules, search few_blocks)
+column_ticked-requires-in-Points : tie.Need-column_ticked-requires-in-Points
+column_ticked-requires-in-Points c κs = (search rules, search few_blocks)
 
-enum-told-5 : tie.Need-enum-told-5
-enum-told-5 c = search rules
+enum_told-in-Closed : tie.Need-enum_told-in-Closed
+enum_told-in-Closed c = search rules
 
-returns : tie.Need-returns
-returns c = search done_enrol
+returns-in-Enrol : tie.Need-returns-in-Enrol
+returns-in-Enrol c = search done_enrol
 
-returns-2 : tie.Need-returns-2
-returns-2 c = done_seam _ _ _ _ _ _ _ c.before.before.before.block-count.ensures c.before.enum-told2.given.1 c.seams-ticked.ensures
+returns-in-Seam : tie.Need-returns-in-Seam
+returns-in-Seam c = done_seam _ _ _ _ _ _ _ c.before.before.before.block_count-blocks.ensures c.before.enum_told-in-Seam-1.given.1 c.seams_ticked.ensures
 
-returns-3 : tie.Need-returns-3
-returns-3 c = search done_crossing
+returns-in-Crossing : tie.Need-returns-in-Crossing
+returns-in-Crossing c = search done_crossing
 
-returns-4 : tie.Need-returns-4
-returns-4 c = search done_points
+returns-in-Points : tie.Need-returns-in-Points
+returns-in-Points c = search done_points
 
-returns-5 : tie.Need-returns-5
-returns-5 c = search done_closed
+returns-in-Closed : tie.Need-returns-in-Closed
+returns-in-Closed c = search done_closed
 
 pub finished_spec : {M : Type 1} → statement M
 finished_spec =
     tie.close
     (tie.spec
-    block-count-requires
-    enum_told
-    column-ticked-requires
-    enum-told-2
-    seams-ticked-requires
-    enum-told-3
-    column-ticked-requires-2
-    enum-told-4
-    column-ticked-requires-3
-    enum-told-5
-    returns
-    returns-2
-    returns-3
-    returns-4
-    returns-5)
+    block_count-blocks-requires
+    enum_told-1
+    column_ticked-requires
+    enum_told-in-Seam
+    seams_ticked-requires
+    enum_told-in-Crossing
+    column_ticked-requires-in-Crossing
+    enum_told-in-Points
+    column_ticked-requires-in-Points
+    enum_told-in-Closed
+    returns-in-Enrol
+    returns-in-Seam
+    returns-in-Crossing
+    returns-in-Points
+    returns-in-Closed)

@@ -10,11 +10,11 @@ finished-requires c κs = search rules
 after-requires : tie.Need-after-requires
 after-requires c κs = search rules
 
-returns : tie.Need-returns
-returns c = search stage_next
+returns-then-finished : tie.Need-returns-then-finished
+returns-then-finished c = search stage_next
 
-returns-2 : tie.Need-returns-2
-returns-2 c = search stage_same
+returns : tie.Need-returns
+returns c = search stage_same
 
 pub next_stage_spec : {M : Type 1} → statement M
-next_stage_spec = tie.close (tie.spec finished-requires after-requires returns returns-2)
+next_stage_spec = tie.close (tie.spec finished-requires after-requires returns-then-finished returns)

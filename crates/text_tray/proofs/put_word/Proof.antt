@@ -9,49 +9,49 @@ use Rattle.text_tray.proofs.SinkLaws.{sunk_none, word_next, word_all}
 use Rattle.text_tray.proofs.put_word.Statement.{statement}
 use Rattle.text_tray.proofs.put_word.Tie as tie
 
-abbrev invariant-loop : tie.invariant-loop
-invariant-loop out₀ word t₀ i₀ out t i = (i ≤ length word) × (length out ≡ length out₀) × (state t out ≡ sunk (state t₀ out₀) (take i word))
+abbrev invariant-loop-i : tie.invariant-loop-i
+invariant-loop-i out₀ word t₀ i₀ out t i = (i ≤ length word) × (length out ≡ length out₀) × (state t out ≡ sunk (state t₀ out₀) (take i word))
 
-abbrev decreases-loop : tie.decreases-loop
-decreases-loop out₀ word t₀ i₀ out t i = length word - i
+abbrev decreases-loop-i : tie.decreases-loop-i
+decreases-loop-i out₀ word t₀ i₀ out t i = length word - i
 
-loop-holds : tie.Need-loop-init invariant-loop decreases-loop
-loop-holds c = (omega arith, refl, sunk_none _)
+loop-i-init : tie.Need-loop-i-init invariant-loop-i decreases-loop-i
+loop-i-init c = (omega arith, refl, sunk_none _)
 
-shared-slice-read-put : tie.Need-shared-slice-read-put invariant-loop decreases-loop
-shared-slice-read-put c = search rules
+bounds-word-i : tie.Need-bounds-word-i invariant-loop-i decreases-loop-i
+bounds-word-i c = search rules
 
-put-requires : tie.Need-put-requires invariant-loop decreases-loop
-put-requires c κs = search rules
+put-t-requires : tie.Need-put-t-requires invariant-loop-i decreases-loop-i
+put-t-requires c κs = search rules
 
-add-i : tie.Need-overflow-add-i invariant-loop decreases-loop
-add-i c = search rules
+overflow_add-i : tie.Need-overflow_add-i invariant-loop-i decreases-loop-i
+overflow_add-i c = search rules
 
-loop-less : tie.Need-loop-smaller invariant-loop decreases-loop
-loop-less c = search rules
+loop-i-smaller : tie.Need-loop-i-smaller invariant-loop-i decreases-loop-i
+loop-i-smaller c = search rules
 
-loop-again : tie.Need-loop-preserved invariant-loop decreases-loop
-loop-again c =
+loop-i-preserved : tie.Need-loop-i-preserved invariant-loop-i decreases-loop-i
+loop-i-preserved c =
     let back4 = c.before.before.before.before in
-    (search rules, search rules, word_next _ _ _ _ back4.before.before.loop.invariant.2 _ c.before.before.put.ensures back4.before.loop-test.true)
+    (search rules, search rules, word_next _ _ _ _ back4.before.before.loop-i.invariant.2 _ c.before.before.put-t.ensures back4.before.loop-i-test.true)
 
-same_length : tie.Need-same-length invariant-loop decreases-loop
-same_length c = search rules
+shape_of-out : tie.Need-shape_of-out invariant-loop-i decreases-loop-i
+shape_of-out c = search rules
 
-returns : tie.Need-returns invariant-loop decreases-loop
-returns c = word_all _ _ _ _ c.before.loop.invariant.2 c.loop-test.false
+returns : tie.Need-returns invariant-loop-i decreases-loop-i
+returns c = word_all _ _ _ _ c.before.loop-i.invariant.2 c.loop-i-test.false
 
 pub put_word_spec : {M : Type 1} → statement M
 put_word_spec =
     tie.close
     (tie.spec
-    invariant-loop
-    decreases-loop
-    loop-holds
-    shared-slice-read-put
-    put-requires
-    add-i
-    loop-less
-    loop-again
-    same_length
+    invariant-loop-i
+    decreases-loop-i
+    loop-i-init
+    bounds-word-i
+    put-t-requires
+    overflow_add-i
+    loop-i-smaller
+    loop-i-preserved
+    shape_of-out
     returns)
