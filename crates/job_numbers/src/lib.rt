@@ -1,5 +1,6 @@
 // A job as thirteen numbers, in which programs in other languages keep it: the stage by number, extents, entries, tallies, numbered.
 #![tactic(auto)]
+
 ghost use Rattle.std.specs.Prelude.{◌≡◌};
 ghost use Rattle.job_numbers.specs.Numbers.{stage_in, job_in, numbers_of, kept_numbers};
 

@@ -1,6 +1,7 @@
 // The judge of a job's calls: the tests that come first, the lengths of what is lent, a block's map against the block table.
 // Each call then has its own tests.
 #![tactic(auto)]
+
 ghost use Rattle.std.specs.Prelude.{◌≡◌, true, ◌&&◌, ◌+◌, ◌≤◌, eqb, leb, ltb, length};
 ghost use Rattle.cells.specs.Extents.{Sized};
 ghost use Rattle.cells.specs.Grid.{cells};

@@ -1,5 +1,6 @@
 // Numbers the components of one kind and writes its closed tables.
 #![tactic(auto)]
+
 ghost use Rattle.std.specs.Prelude.{◌*◌, ◌≤◌, length};
 ghost use Rattle.joiner.specs.Job.{Curve};
 ghost use Rattle.kind_numbers.specs.Numbered.{Numbered, AnyCopied, AnyCurves};

@@ -1,5 +1,6 @@
 // Which cells count with a block: those whose place in it is at or after the block's starts. The block that a cell counts with is the lowest-numbered one that has it.
 #![tactic(auto)]
+
 ghost use Rattle.std.specs.Prelude.{◌≡◌, true, min};
 ghost use Rattle.cells.specs.Box.{triple};
 ghost use Rattle.cutting.specs.Cutting.{good_cut, FewBlocks};

@@ -4,70 +4,70 @@ use Rattle.job_numbers.proofs.NumberLaws.{job_read}
 use Rattle.job_numbers.proofs.job_in.Statement.{statement}
 use Rattle.job_numbers.proofs.job_in.Tie as tie
 
-element-copy-out-stage-in : tie.Need-element-copy-out-stage-in
-element-copy-out-stage-in c = search rules
+bounds-numbers-0 : tie.Need-bounds-numbers-0
+bounds-numbers-0 c = search rules
 
-stage-in-requires : tie.Need-stage-in-requires
-stage-in-requires c κs = search rules
+stage_in-requires : tie.Need-stage_in-requires
+stage_in-requires c κs = search rules
 
-element-copy-out-t9 : tie.Need-element-copy-out-t9
-element-copy-out-t9 c = search rules
+bounds-numbers-1 : tie.Need-bounds-numbers-1
+bounds-numbers-1 c = search rules
 
-element-copy-out-t12 : tie.Need-element-copy-out-t12
-element-copy-out-t12 c = search rules
+bounds-numbers-2 : tie.Need-bounds-numbers-2
+bounds-numbers-2 c = search rules
 
-element-copy-out-t15 : tie.Need-element-copy-out-t15
-element-copy-out-t15 c = search rules
+bounds-numbers-3 : tie.Need-bounds-numbers-3
+bounds-numbers-3 c = search rules
 
-element-copy-out-t18 : tie.Need-element-copy-out-t18
-element-copy-out-t18 c = search rules
+bounds-numbers-4 : tie.Need-bounds-numbers-4
+bounds-numbers-4 c = search rules
 
-element-copy-out-t21 : tie.Need-element-copy-out-t21
-element-copy-out-t21 c = search rules
+bounds-numbers-5 : tie.Need-bounds-numbers-5
+bounds-numbers-5 c = search rules
 
-element-copy-out-t24 : tie.Need-element-copy-out-t24
-element-copy-out-t24 c = search rules
+bounds-numbers-6 : tie.Need-bounds-numbers-6
+bounds-numbers-6 c = search rules
 
-element-copy-out-t27 : tie.Need-element-copy-out-t27
-element-copy-out-t27 c = search rules
+bounds-numbers-7 : tie.Need-bounds-numbers-7
+bounds-numbers-7 c = search rules
 
-element-copy-out-t30 : tie.Need-element-copy-out-t30
-element-copy-out-t30 c = search rules
+bounds-numbers-8 : tie.Need-bounds-numbers-8
+bounds-numbers-8 c = search rules
 
-element-copy-out-t33 : tie.Need-element-copy-out-t33
-element-copy-out-t33 c = search rules
+bounds-numbers-9 : tie.Need-bounds-numbers-9
+bounds-numbers-9 c = search rules
 
-element-copy-out-t36 : tie.Need-element-copy-out-t36
-element-copy-out-t36 c = search rules
+bounds-numbers-10 : tie.Need-bounds-numbers-10
+bounds-numbers-10 c = search rules
 
-element-copy-out-t39 : tie.Need-element-copy-out-t39
-element-copy-out-t39 c = search rules
+bounds-numbers-11 : tie.Need-bounds-numbers-11
+bounds-numbers-11 c = search rules
 
-element-copy-out-t42 : tie.Need-element-copy-out-t42
-element-copy-out-t42 c = search rules
+bounds-numbers-12 : tie.Need-bounds-numbers-12
+bounds-numbers-12 c = search rules
 
 returns : tie.Need-returns
 returns c =
     let back4 = c.before.before.before.before in
     let back8 = back4.before.before.before.before in
-    job_read _ _ _ back8.before.before.before.before.stage-in.ensures
+    job_read _ _ _ back8.before.before.before.before.stage_in.ensures
 
 pub job_in_spec : {M : Type 1} → statement M
 job_in_spec =
     tie.close
     (tie.spec
-    element-copy-out-stage-in
-    stage-in-requires
-    element-copy-out-t9
-    element-copy-out-t12
-    element-copy-out-t15
-    element-copy-out-t18
-    element-copy-out-t21
-    element-copy-out-t24
-    element-copy-out-t27
-    element-copy-out-t30
-    element-copy-out-t33
-    element-copy-out-t36
-    element-copy-out-t39
-    element-copy-out-t42
+    bounds-numbers-0
+    stage_in-requires
+    bounds-numbers-1
+    bounds-numbers-2
+    bounds-numbers-3
+    bounds-numbers-4
+    bounds-numbers-5
+    bounds-numbers-6
+    bounds-numbers-7
+    bounds-numbers-8
+    bounds-numbers-9
+    bounds-numbers-10
+    bounds-numbers-11
+    bounds-numbers-12
     returns)

@@ -4,14 +4,14 @@ use Rattle.job_numbers.proofs.NumberLaws.{kept_new, kept_old}
 use Rattle.job_numbers.proofs.keep.Statement.{statement}
 use Rattle.job_numbers.proofs.keep.Tie as tie
 
-numbers-of-requires : tie.Need-numbers-of-requires
-numbers-of-requires c κs = search rules
+numbers_of-requires : tie.Need-numbers_of-requires
+numbers_of-requires c κs = search rules
 
-returns : tie.Need-returns
-returns c = search kept_new
+returns-then-refusal-eq0 : tie.Need-returns-then-refusal-eq0
+returns-then-refusal-eq0 c = search kept_new
 
-returns-2 : tie.Need-returns-2
-returns-2 c = search kept_old
+returns-else-refusal-eq0 : tie.Need-returns-else-refusal-eq0
+returns-else-refusal-eq0 c = search kept_old
 
 pub keep_spec : {M : Type 1} → statement M
-keep_spec = tie.close (tie.spec numbers-of-requires returns returns-2)
+keep_spec = tie.close (tie.spec numbers_of-requires returns-then-refusal-eq0 returns-else-refusal-eq0)

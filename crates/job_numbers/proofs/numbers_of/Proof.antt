@@ -4,12 +4,12 @@ use Rattle.job_numbers.specs.Numbers.{numbers_of}
 use Rattle.job_numbers.proofs.numbers_of.Statement.{statement}
 use Rattle.job_numbers.proofs.numbers_of.Tie as tie
 
-stage-number-requires : tie.Need-stage-number-requires
-stage-number-requires c κs = search rules
+stage_number-requires : tie.Need-stage_number-requires
+stage_number-requires c κs = search rules
 
 returns : tie.Need-returns
 unfolding numbers_of
 returns c = cc
 
 pub numbers_of_spec : {M : Type 1} → statement M
-numbers_of_spec = tie.close (tie.spec stage-number-requires returns)
+numbers_of_spec = tie.close (tie.spec stage_number-requires returns)

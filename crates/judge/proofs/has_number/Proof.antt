@@ -3,11 +3,11 @@ use Rattle.judge.proofs.JudgeLaws.{number_none, number_some}
 use Rattle.judge.proofs.has_number.Statement.{statement}
 use Rattle.judge.proofs.has_number.Tie as tie
 
-returns : tie.Need-returns
-returns c = search number_none
+returns-then-number-eq0 : tie.Need-returns-then-number-eq0
+returns-then-number-eq0 c = search number_none
 
-returns-2 : tie.Need-returns-2
-returns-2 c = search number_some
+returns : tie.Need-returns
+returns c = search number_some
 
 pub has_number_spec : {M : Type 1} → statement M
-has_number_spec = tie.close (tie.spec returns returns-2)
+has_number_spec = tie.close (tie.spec returns-then-number-eq0 returns)

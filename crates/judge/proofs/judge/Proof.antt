@@ -9,56 +9,56 @@ use Rattle.judge.proofs.judge.Statement.{statement}
 use Rattle.judge.proofs.judge.Tie as tie
 
 -- The start, from the first tests.
-abbrev start : tie.After-reached → tie.Start
+abbrev start : tie.After-reached-number → tie.Start
 start ask =
     let ticks = ask.before.before.before.before in
     ticks.before.before.before.before
 
-stage-of-requires : tie.Need-stage-of-requires
-stage-of-requires c κs = search rules
+stage_of-requires : tie.Need-stage_of-requires
+stage_of-requires c κs = search rules
 
-reached-requires : tie.Need-reached-requires
-reached-requires c κs = search rules
+reached-number-requires : tie.Need-reached-number-requires
+reached-number-requires c κs = search rules
 
-returns : tie.Need-returns
-returns c = search judged_first
+returns-then-number-ne0 : tie.Need-returns-then-number-ne0
+returns-then-number-ne0 c = search judged_first
 
-block-at-requires : tie.Need-block-at-requires
-block-at-requires c κs = search rules
+block_at-block-requires : tie.Need-block_at-block-requires
+block_at-block-requires c κs = search rules
 
-block-count-requires : tie.Need-block-count-requires
-block-count-requires c κs = search begun_few
+block_count-count-requires : tie.Need-block_count-count-requires
+block_count-count-requires c κs = search begun_few
 
 -- What `fits` and `judge_map` require of the block and of the count.
-sized : (told : tie.After-block-count) → (told.block-count.result ≤ most_blocks) × Sized 64 (size_of told.before.block_at.result)
+sized : (told : tie.After-block_count-count) → (told.block_count-count.result ≤ most_blocks) × Sized 64 (size_of told.before.block_at-block.result)
 sized told =
     let passed = told.before.before in
     let ask = passed.before in
     let a = (start ask).args in
-    begun_sized a.job _ _ _ _ a.call a.z _ _ _ _ ask.before.stage-of.ensures ask.reached.ensures passed.if1.false _ told.before.block_at.ensures _ told.block-count.ensures
+    begun_sized a.job _ _ _ _ a.call a.z _ _ _ _ ask.before.stage_of.ensures ask.reached-number.ensures passed.if-number-ne0.false _ told.before.block_at-block.ensures _ told.block_count-count.ensures
 
-fits-requires : tie.Need-fits-requires
-fits-requires c κs = sized c
+fits-whole-requires : tie.Need-fits-whole-requires
+fits-whole-requires c κs = sized c
 
-entry-of-requires : tie.Need-entry-of-requires
-entry-of-requires c κs = search rules
+entry_of-requires : tie.Need-entry_of-requires
+entry_of-requires c κs = search rules
 
-judge-map-requires : tie.Need-judge-map-requires
-judge-map-requires c κs = let fit = c.before in ((sized fit.before).1, fits_size _ _ _ _ _ _ _ fit.fits2.ensures)
+judge_map-requires : tie.Need-judge_map-requires
+judge_map-requires c κs = let fit = c.before in ((sized fit.before).1, fits_size _ _ _ _ _ _ _ fit.fits2.ensures)
 
-returns-2 : tie.Need-returns-2
-returns-2 c = search judged_then
+returns : tie.Need-returns
+returns c = search judged_then
 
 pub judge_spec : {M : Type 1} → statement M
 judge_spec =
     tie.close
     (tie.spec
-    stage-of-requires
-    reached-requires
-    returns
-    block-at-requires
-    block-count-requires
-    fits-requires
-    entry-of-requires
-    judge-map-requires
-    returns-2)
+    stage_of-requires
+    reached-number-requires
+    returns-then-number-ne0
+    block_at-block-requires
+    block_count-count-requires
+    fits-whole-requires
+    entry_of-requires
+    judge_map-requires
+    returns)

@@ -4,8 +4,8 @@ use Rattle.judge.proofs.JudgeLaws.{map-stands_by}
 use Rattle.judge.proofs.map_stands.Statement.{statement}
 use Rattle.judge.proofs.map_stands.Tie as tie
 
-survey-map-requires : tie.Need-survey-map-requires
-survey-map-requires c κs = search rules
+survey_map-s-requires : tie.Need-survey_map-s-requires
+survey_map-s-requires c κs = search rules
 
 stands-requires : tie.Need-stands-requires
 stands-requires c κs = search rules
@@ -13,5 +13,5 @@ stands-requires c κs = search rules
 returns : tie.Need-returns
 returns c = search map-stands_by
 
-pub map-stands_spec : {M : Type 1} → statement M
-map-stands_spec = tie.close (tie.spec survey-map-requires stands-requires returns)
+pub map_stands_spec : {M : Type 1} → statement M
+map_stands_spec = tie.close (tie.spec survey_map-s-requires stands-requires returns)

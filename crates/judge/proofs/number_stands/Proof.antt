@@ -4,14 +4,14 @@ use Rattle.judge.proofs.JudgeLaws.{number_at_lem}
 use Rattle.judge.proofs.number_stands.Statement.{statement}
 use Rattle.judge.proofs.number_stands.Tie as tie
 
-read-or-zero-requires : tie.Need-read-or-zero-requires
-read-or-zero-requires c κs = search rules
+read_or_zero-requires : tie.Need-read_or_zero-requires
+read_or_zero-requires c κs = search rules
 
-has-number-requires : tie.Need-has-number-requires
-has-number-requires c κs = search rules
+has_number-requires : tie.Need-has_number-requires
+has_number-requires c κs = search rules
 
 returns : tie.Need-returns
 returns c = search number_at_lem
 
 pub number_stands_spec : {M : Type 1} → statement M
-number_stands_spec = tie.close (tie.spec read-or-zero-requires has-number-requires returns)
+number_stands_spec = tie.close (tie.spec read_or_zero-requires has_number-requires returns)

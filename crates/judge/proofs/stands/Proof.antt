@@ -8,49 +8,49 @@ use Rattle.judge.proofs.stands.Tie as tie
 within-requires : tie.Need-within-requires
 within-requires c κs = search rules
 
-returns : tie.Need-returns
+returns-then-not-within : tie.Need-returns-then-not-within
 unfolding stands_by
-returns c = search (and_here, and_next) depth 12
+returns-then-not-within c = search (and_here, and_next) depth 12
 
 within-requires-2 : tie.Need-within-requires-2
 within-requires-2 c κs = search rules
 
-returns-2 : tie.Need-returns-2
+returns-then-not-within-2 : tie.Need-returns-then-not-within-2
 unfolding stands_by
-returns-2 c = search (and_here, and_next) depth 12
+returns-then-not-within-2 c = search (and_here, and_next) depth 12
 
 within-requires-3 : tie.Need-within-requires-3
 within-requires-3 c κs = search rules
 
-returns-3 : tie.Need-returns-3
+returns-then-not-within-3 : tie.Need-returns-then-not-within-3
 unfolding stands_by
-returns-3 c = search (and_here, and_next) depth 12
+returns-then-not-within-3 c = search (and_here, and_next) depth 12
 
 inside-requires : tie.Need-inside-requires
 inside-requires c κs = search rules
 
-returns-4 : tie.Need-returns-4
+returns-then-not-inside : tie.Need-returns-then-not-inside
 unfolding stands_by
-returns-4 c = search (and_here, and_next) depth 12
+returns-then-not-inside c = search (and_here, and_next) depth 12
 
 inside-requires-2 : tie.Need-inside-requires-2
 inside-requires-2 c κs = search rules
 
-returns-5 : tie.Need-returns-5
+returns : tie.Need-returns
 unfolding stands_by
-returns-5 c = search and_next depth 12
+returns c = search and_next depth 12
 
 pub stands_spec : {M : Type 1} → statement M
 stands_spec =
     tie.close
     (tie.spec
     within-requires
-    returns
+    returns-then-not-within
     within-requires-2
-    returns-2
+    returns-then-not-within-2
     within-requires-3
-    returns-3
+    returns-then-not-within-3
     inside-requires
-    returns-4
+    returns-then-not-inside
     inside-requires-2
-    returns-5)
+    returns)

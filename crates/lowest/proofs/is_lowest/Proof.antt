@@ -1,4 +1,6 @@
 -- `lowest::is_lowest` meets its contract.
+use mathlib.Core.Bool.{not}
+use mathlib.Core.Path.{ap}
 use native.Mathlib.Omega.{arith}
 use Rattle.cells.specs.Box.{X, Y, Z}
 use borrow.Author.Rules.{rules}
@@ -6,47 +8,47 @@ use Rattle.lowest.proofs.PlaceLaws.{has_low, lacks, owns}
 use Rattle.lowest.proofs.is_lowest.Statement.{statement}
 use Rattle.lowest.proofs.is_lowest.Tie as tie
 
-has-cell-requires : tie.Need-has-cell-requires
-has-cell-requires c κs = search rules
+has_cell-requires : tie.Need-has_cell-requires
+has_cell-requires c κs = search rules
+
+returns-then-not-has_cell : tie.Need-returns-then-not-has_cell
+returns-then-not-has_cell c = search lacks
+
+overflow_mul-i : tie.Need-overflow_mul-i
+overflow_mul-i c = let l = c.before in omega (arith, has_low _ _ _ l.before.has_cell.ensures (ap not l.if-not-has_cell.false) X)
+
+overflow_sub-i : tie.Need-overflow_sub-i
+overflow_sub-i c = let l = c.before in omega (arith, has_low _ _ _ l.before.has_cell.ensures (ap not l.if-not-has_cell.false) X)
+
+overflow_mul-j : tie.Need-overflow_mul-j
+overflow_mul-j c = let l = c.before.before in omega (arith, has_low _ _ _ l.before.has_cell.ensures (ap not l.if-not-has_cell.false) Y)
+
+overflow_sub-j : tie.Need-overflow_sub-j
+overflow_sub-j c = let l = c.before.before in omega (arith, has_low _ _ _ l.before.has_cell.ensures (ap not l.if-not-has_cell.false) Y)
+
+overflow_mul-k : tie.Need-overflow_mul-k
+overflow_mul-k c = let l = c.before.before.before in omega (arith, has_low _ _ _ l.before.has_cell.ensures (ap not l.if-not-has_cell.false) Z)
+
+overflow_sub-k : tie.Need-overflow_sub-k
+overflow_sub-k c = let l = c.before.before.before in omega (arith, has_low _ _ _ l.before.has_cell.ensures (ap not l.if-not-has_cell.false) Z)
+
+starts_by-requires : tie.Need-starts_by-requires
+starts_by-requires c κs = search rules
 
 returns : tie.Need-returns
-returns c = search lacks
-
-mul-i : tie.Need-overflow-mul-i
-mul-i c = let l = c.before in omega (arith, has_low _ _ _ l.before.has-cell.ensures l.if1.false X)
-
-sub-i : tie.Need-overflow-sub-i
-sub-i c = let l = c.before in omega (arith, has_low _ _ _ l.before.has-cell.ensures l.if1.false X)
-
-mul-j : tie.Need-overflow-mul-j
-mul-j c = let l = c.before.before in omega (arith, has_low _ _ _ l.before.has-cell.ensures l.if1.false Y)
-
-sub-j : tie.Need-overflow-sub-j
-sub-j c = let l = c.before.before in omega (arith, has_low _ _ _ l.before.has-cell.ensures l.if1.false Y)
-
-mul-k : tie.Need-overflow-mul-k
-mul-k c = let l = c.before.before.before in omega (arith, has_low _ _ _ l.before.has-cell.ensures l.if1.false Z)
-
-sub-k : tie.Need-overflow-sub-k
-sub-k c = let l = c.before.before.before in omega (arith, has_low _ _ _ l.before.has-cell.ensures l.if1.false Z)
-
-starts-by-requires : tie.Need-starts-by-requires
-starts-by-requires c κs = search rules
-
-returns-2 : tie.Need-returns-2
-returns-2 c = search owns
+returns c = search owns
 
 pub is_lowest_spec : {M : Type 1} → statement M
 is_lowest_spec =
     tie.close
     (tie.spec
-    has-cell-requires
-    returns
-    mul-i
-    sub-i
-    mul-j
-    sub-j
-    mul-k
-    sub-k
-    starts-by-requires
-    returns-2)
+    has_cell-requires
+    returns-then-not-has_cell
+    overflow_mul-i
+    overflow_sub-i
+    overflow_mul-j
+    overflow_sub-j
+    overflow_mul-k
+    overflow_sub-k
+    starts_by-requires
+    returns)

@@ -8,44 +8,44 @@ use Rattle.lowest.proofs.PlaceLaws.{number_few, number_lowest}
 use Rattle.lowest.proofs.lowest_block.Statement.{statement}
 use Rattle.lowest.proofs.lowest_block.Tie as tie
 
-intervals-requires : tie.Need-intervals-requires
-intervals-requires c κs = search rules
+intervals-w-requires : tie.Need-intervals-w-requires
+intervals-w-requires c κs = search rules
 
-intervals-requires-2 : tie.Need-intervals-requires-2
-intervals-requires-2 c κs = search rules
+intervals-h-requires : tie.Need-intervals-h-requires
+intervals-h-requires c κs = search rules
 
-interval-of-requires : tie.Need-interval-of-requires
-interval-of-requires c κs = search rules
+interval_of-i-requires : tie.Need-interval_of-i-requires
+interval_of-i-requires c κs = search rules
 
-interval-of-requires-2 : tie.Need-interval-of-requires-2
-interval-of-requires-2 c κs = search rules
+interval_of-j-requires : tie.Need-interval_of-j-requires
+interval_of-j-requires c κs = search rules
 
-interval-of-requires-3 : tie.Need-interval-of-requires-3
-interval-of-requires-3 c κs = search rules
+interval_of-k-requires : tie.Need-interval_of-k-requires
+interval_of-k-requires c κs = search rules
 
 -- the block's number, and so each term of the sum, is less than `most_blocks`
-few : (c : tie.After-interval-of3)
+few : (c : tie.After-interval_of-k)
     → let f = c.before.before in
-    let w = f.before.before.intervals.result in
-    f.interval_of.result + c.before.interval-of2.result * w + c.interval-of3.result * (w * f.before.intervals2.result) < most_blocks
+    let w = f.before.before.intervals-w.result in
+    f.interval_of-i.result + c.before.interval_of-j.result * w + c.interval_of-k.result * (w * f.before.intervals-h.result) < most_blocks
 few c = search number_few
 
-mul-result : tie.Need-overflow-mul-result
-mul-result c = omega (arith, few c)
+overflow_mul-result : tie.Need-overflow_mul-result
+overflow_mul-result c = omega (arith, few c)
 
-add-result : tie.Need-overflow-add-result
-add-result c = omega (arith, few c)
+overflow_add-result : tie.Need-overflow_add-result
+overflow_add-result c = omega (arith, few c)
 
-mul-result-2 : tie.Need-overflow-mul-result-2
-mul-result-2 c =
+overflow_mul-result-2 : tie.Need-overflow_mul-result-2
+overflow_mul-result-2 c =
     let f = c.before.before.before in
-    let h : f.before.intervals.result * f.intervals2.result ≤ most_blocks = search layer_few in omega arith
+    let h : f.before.intervals-w.result * f.intervals-h.result ≤ most_blocks = search layer_few in omega arith
 
-mul-result-3 : tie.Need-overflow-mul-result-3
-mul-result-3 c = omega (arith, few c)
+overflow_mul-result-3 : tie.Need-overflow_mul-result-3
+overflow_mul-result-3 c = omega (arith, few c)
 
-add-result-2 : tie.Need-overflow-add-result-2
-add-result-2 c = omega (arith, few c)
+overflow_add-result-2 : tie.Need-overflow_add-result-2
+overflow_add-result-2 c = omega (arith, few c)
 
 returns : tie.Need-returns
 returns c = search number_lowest
@@ -54,14 +54,14 @@ pub lowest_block_spec : {M : Type 1} → statement M
 lowest_block_spec =
     tie.close
     (tie.spec
-    intervals-requires
-    intervals-requires-2
-    interval-of-requires
-    interval-of-requires-2
-    interval-of-requires-3
-    mul-result
-    add-result
-    mul-result-2
-    mul-result-3
-    add-result-2
+    intervals-w-requires
+    intervals-h-requires
+    interval_of-i-requires
+    interval_of-j-requires
+    interval_of-k-requires
+    overflow_mul-result
+    overflow_add-result
+    overflow_mul-result-2
+    overflow_mul-result-3
+    overflow_add-result-2
     returns)

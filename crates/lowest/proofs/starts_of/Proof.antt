@@ -5,40 +5,40 @@ use borrow.Author.Rules.{rules}
 use Rattle.lowest.proofs.starts_of.Statement.{statement}
 use Rattle.lowest.proofs.starts_of.Tie as tie
 
-intervals-requires : tie.Need-intervals-requires
-intervals-requires c κs = search rules
+intervals-w-requires : tie.Need-intervals-w-requires
+intervals-w-requires c κs = search rules
 
-intervals-requires-2 : tie.Need-intervals-requires-2
-intervals-requires-2 c κs = search rules
+intervals-h-requires : tie.Need-intervals-h-requires
+intervals-h-requires c κs = search rules
 
-rem-one-if : tie.Need-nonzero-rem-one-if
+nonzero_rem-b : tie.Need-nonzero_rem-b
 unfolding intervals
-rem-one-if c = search rules
+nonzero_rem-b c = search rules
 
-one-if-requires : tie.Need-one-if-requires
-one-if-requires c κs = search rules
+one_if-requires : tie.Need-one_if-requires
+one_if-requires c κs = search rules
 
-div-one-if : tie.Need-nonzero-div-one-if
+nonzero_div-b : tie.Need-nonzero_div-b
 unfolding intervals
-div-one-if c = search rules
+nonzero_div-b c = search rules
 
-rem-one-if-2 : tie.Need-nonzero-rem-one-if-2
+nonzero_rem-b-2 : tie.Need-nonzero_rem-b-2
 unfolding intervals
-rem-one-if-2 c = search rules
+nonzero_rem-b-2 c = search rules
 
-one-if-requires-2 : tie.Need-one-if-requires-2
-one-if-requires-2 c κs = search rules
+one_if-requires-2 : tie.Need-one_if-requires-2
+one_if-requires-2 c κs = search rules
 
-div-one-if-2 : tie.Need-nonzero-div-one-if-2
+nonzero_div-b-2 : tie.Need-nonzero_div-b-2
 unfolding intervals
-div-one-if-2 c = search rules
+nonzero_div-b-2 c = search rules
 
-div-one-if-3 : tie.Need-nonzero-div-one-if-3
+nonzero_div-b-3 : tie.Need-nonzero_div-b-3
 unfolding intervals
-div-one-if-3 c = search rules
+nonzero_div-b-3 c = search rules
 
-one-if-requires-3 : tie.Need-one-if-requires-3
-one-if-requires-3 c κs = search rules
+one_if-requires-3 : tie.Need-one_if-requires-3
+one_if-requires-3 c κs = search rules
 
 returns : tie.Need-returns
 returns c = search start_is
@@ -47,14 +47,14 @@ pub starts_of_spec : {M : Type 1} → statement M
 starts_of_spec =
     tie.close
     (tie.spec
-    intervals-requires
-    intervals-requires-2
-    rem-one-if
-    one-if-requires
-    div-one-if
-    rem-one-if-2
-    one-if-requires-2
-    div-one-if-2
-    div-one-if-3
-    one-if-requires-3
+    intervals-w-requires
+    intervals-h-requires
+    nonzero_rem-b
+    one_if-requires
+    nonzero_div-b
+    nonzero_rem-b-2
+    one_if-requires-2
+    nonzero_div-b-2
+    nonzero_div-b-3
+    one_if-requires-3
     returns)

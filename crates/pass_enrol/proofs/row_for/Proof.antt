@@ -12,7 +12,7 @@ cell_at-p-requires : tie.Need-cell_at-p-requires
 cell_at-p-requires c κs = let p = c.before.before.requires in (p.0, p.2 c.if-position-eq0.false)
 
 row_at-requires : tie.Need-row_at-requires
-row_at-requires c κs = let p = c.before.before.before.requires in (sized_within (omega arith) p.0.sized, p.1, local_within _ _ _ c.Cell-at.ensures (p.2 c.before.if-position-eq0.false))
+row_at-requires c κs = let p = c.before.before.before.requires in (sized_within (omega arith) p.0.sized, p.1, local_within _ _ _ c.cell_at-p.ensures (p.2 c.before.if-position-eq0.false))
 
 returns : tie.Need-returns
 returns c = search row_some

@@ -85,7 +85,7 @@ loop-i-preserved c =
     let a = st.args in
     let i = a8.before.loop-i.invariant in
     let r = number_row st.requires.0 _ _ _ st.requires.2 _ (st.requires.3.at _ (omega arith)) _ a4.before.before.row_for-row.ensures in
-    (omega arith, omega arith, rows_next _ _ _ (λ x k. row_in (size_of a.block) a.shift a.map.now a.j (suc x) k) _ _ _ _ i.2 c.before.before.write_front.ensures (λ k _. row_entry_lem _ _ _ _ _ _ _ r a4.before.Shifted-row.ensures k))
+    (omega arith, omega arith, rows_next _ _ _ (λ x k. row_in (size_of a.block) a.shift a.map.now a.j (suc x) k) _ _ _ _ i.2 c.before.before.write_front.ensures (λ k _. row_entry_lem _ _ _ _ _ _ _ r a4.before.shifted_row-stored.ensures k))
 
 shape_of-rows : tie.Need-shape_of-rows invariant-loop-i decreases-loop-i
 shape_of-rows c = search rules

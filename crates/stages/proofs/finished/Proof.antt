@@ -38,7 +38,7 @@ returns-in-Enrol : tie.Need-returns-in-Enrol
 returns-in-Enrol c = search done_enrol
 
 returns-in-Seam : tie.Need-returns-in-Seam
-returns-in-Seam c = done_seam _ _ _ _ _ _ _ c.before.before.before.block_count-blocks.ensures c.before.enum_told-in-Seam-1.given.1 c.seams_ticked.ensures
+returns-in-Seam c = done_seam _ _ _ _ _ _ _ c.before.before.block_count-blocks.ensures c.before.in-Seam.is c.seams_ticked.ensures
 
 returns-in-Crossing : tie.Need-returns-in-Crossing
 returns-in-Crossing c = search done_crossing
