@@ -1,5 +1,6 @@
 // The tests of a crossing step: the judge's, then the links of the block's faces and curves, and with the last block all links and rows.
 #![tactic(auto)]
+
 ghost use Rattle.std.specs.Prelude.{◌≡◌, ◌≤◌, ◌<◌, leb, get_or};
 ghost use Rattle.cutting.specs.Cutting.{most_blocks};
 ghost use Rattle.joiner.specs.Stages.{crossing_step};

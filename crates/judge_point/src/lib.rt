@@ -1,5 +1,6 @@
 // The tests of a point step: the judge's, then the final numbers of the block's curves, and whether its points have room.
 #![tactic(auto)]
+
 ghost use Rattle.std.specs.Prelude.{◌≡◌, length};
 ghost use Rattle.cells.specs.Extents.{Sized};
 ghost use Rattle.cells.specs.Grid.{cells};

@@ -1,5 +1,6 @@
 // The tests of a seam step: the judge's, those of the second block, and whether the blocks differ in the layer that they share.
 #![tactic(auto)]
+
 ghost use Rattle.std.specs.Prelude.{◌≡◌, true, ◌+◌, ◌*◌, ◌≤◌, length};
 ghost use Rattle.cells.specs.Extents.{Sized};
 ghost use Rattle.cells.specs.Grid.{cells};

@@ -1,5 +1,6 @@
 // The labeller of one block.
 #![tactic(auto)]
+
 ghost use Rattle.std.specs.Prelude.{◌≡◌, ◌≤◌, length};
 ghost use Rattle.lists.specs.Lists.{zeros};
 ghost use Rattle.cells.specs.Box.{triple};

@@ -23,7 +23,7 @@ use Rattle.cells.proofs.GridLaws.{voxel_inside, cell_voxel}
 use Rattle.extents.proofs.SizeLaws.{size_fits}
 use Rattle.labels.specs.Components.{largest}
 use Rattle.labels.specs.OrderCounts.{cells_of_order}
-use Rattle.labels.specs.Number.{edges, active_of, number as Number·number, map_down, labels}
+use Rattle.labels.specs.Number.{edges, active_of, number as number_named, map_down, labels}
 use Rattle.labels.proofs.NumberLaws.{rep_leaders}
 use Rattle.labels.proofs.LabelLaws.{labels_numbering, shared_row, label_at, row_over}
 use Rattle.labels.proofs.CountLaws.{largest_leaders, count_down}
@@ -79,7 +79,7 @@ module _ (e : Triple) (codes : List ℕ) where
 
   -- every cell of the order is then the first of its component
   all_lead : (p : ℕ) → p < cells e → order e p < 3 → DifferentNumbers e (labels e codes) 3 → leads (order e p) p ≡ true
-  unfolding leader active_of active Number·number
+  unfolding leader active_of active number_named
   all_lead p h l D =
       let j = order e p in
       let f : ℕ → ℕ = rep (edges e (over j) j) in
@@ -91,7 +91,7 @@ module _ (e : Triple) (codes : List ℕ) where
       let o : order e (f p) ≡ j = eqb-true (order e (f p)) j (and_first (eqb (order e (f p)) j) (active e (over j) (f p)) (H.actives p a)) in
       let k : f p < cells e = omega (arith, rep_low (edges e (over j) j) p) in
       let s : get_or (labels e codes) p 0 ≡ get_or (labels e codes) (f p) 0
-      = label_at e codes p h l ∙ label_root f act H p a ∙ sym (label_at e codes (f p) k (omega arith) ∙ ap (λ (i : ℕ). Number·number e (over i) i (f p)) o) in
+      = label_at e codes p h l ∙ label_root f act H p a ∙ sym (label_at e codes (f p) k (omega arith) ∙ ap (λ (i : ℕ). number_named e (over i) i (f p)) o) in
       and_both (act p) (eqb (f p) p) a (eq-eqb (f p) p (sym ((different_down (3 - j) j (omega arith) D).apart p (f p) h k refl o s)))
 
   -- Numbers at the voxels that all differ reach the three numbers.

@@ -12,7 +12,7 @@ ghost use Rattle.pass_seam.specs.Walks.{number_at, cells_differ, differ_at, laye
 
 use union_find::unite;
 
-// Where the cells of a layer stand in a map: column u of row v at start + u·column + typeof.v.row.
+// Where the cells of a layer stand in a map: column u of row v at start + u·column + v·row.
 #[derive(Clone, Copy)]
 pub struct Layer {
     pub start: u32,

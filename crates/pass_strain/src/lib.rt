@@ -1,5 +1,6 @@
 // The pass that adds a block's readings to the totals, face cell by face cell, line by line.
 #![tactic(auto)]
+
 ghost use Rattle.std.specs.Prelude.{◌≡◌, ◌+◌, ◌-◌, ◌*◌, ◌/◌, ◌%◌, ◌≤◌, ◌<◌, length};
 ghost use Rattle.cells.specs.Box.{triple, place};
 ghost use Rattle.cells.specs.Extents.{Sized};

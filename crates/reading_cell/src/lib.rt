@@ -1,5 +1,6 @@
 // The lookup in a closed job: the final number of a cell, named by its place in the volume.
 #![tactic(auto)]
+
 ghost use Rattle.std.specs.Prelude.{◌≡◌, ◌&&◌, [], ◌+◌, ◌^◌, ◌<◌, ltb};
 ghost use Rattle.cells.specs.Box.{triple, index};
 ghost use Rattle.cells.specs.Grid.{sides};

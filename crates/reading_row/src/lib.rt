@@ -1,5 +1,6 @@
 // The row reading of a closed job: the row of one face, curve or point, as a part of the lent table of its kind.
 #![tactic(auto)]
+
 ghost use Rattle.std.specs.Prelude.{◌≡◌, ◌-◌, ◌*◌, ◌≤◌, ◌<◌, length, take, drop};
 ghost use Rattle.joiner.specs.Calls.{reading, answer};
 ghost use Rattle.joiner.specs.Outcomes.{CallStep};

@@ -16,9 +16,9 @@ use Rattle.cells.specs.Extents.{Sized, off_size}
 use Rattle.extents.proofs.SizeLaws.{size_fits}
 use Rattle.labels.specs.OrderCounts.{cells_of_order}
 use Rattle.writer.specs.declared.Written.{Written}
-use Rattle.writer.specs.Writing.{Outcome as Writing-as-Outcome, outcome as Writing·outcome}
+use Rattle.writer.specs.Writing.{Outcome as WritingOutcome, outcome as writing_outcome}
 use Rattle.reader.specs.declared.Head.{Head}
-use Rattle.reader.specs.Loaded.{Outcome as Reading-as-Outcome, outcome as Reading·outcome}
+use Rattle.reader.specs.Loaded.{Outcome as ReadingOutcome, outcome as reading_outcome}
 use Rattle.labeller.specs.declared.Labelled.{Labelled}
 use Rattle.labeller.specs.Labelling.{Outcome, outcome}
 use Rattle.maxima.specs.declared.Most.{Most}
@@ -67,7 +67,7 @@ most_kept e t r c c' promise =
     let told = promise ∙ ap (λ (a : Most). export_most a c) (most_refused e t) in
     (ap (λ (o : ExportedMost). o.refusal) told, ap (λ (o : ExportedMost). o.counts) told ∙ sym (counts_kept 1 0 0 0 c (omega arith)))
 
-module _ (a : Written) (t : List ℕ) (l : ℕ) (o : Writing-as-Outcome) (promise : Writing·outcome a t ≡ o) where
+module _ (a : Written) (t : List ℕ) (l : ℕ) (o : WritingOutcome) (promise : writing_outcome a t ≡ o) where
   pub writing_stored : a.refusal ≡ 0 → exported_writing a.refusal t a.length ≡ export_writing o l
   unfolding export_writing
   writing_stored z = rw (← promise, eq-eqb a.refusal 0 z)
@@ -76,7 +76,7 @@ module _ (a : Written) (t : List ℕ) (l : ℕ) (o : Writing-as-Outcome) (promis
   unfolding export_writing
   writing_refused n = rw (← promise, ne_eqb a.refusal 0 n)
 
-module _ (a : Head) (t h : List ℕ) (o : Reading-as-Outcome) (promise : Reading·outcome a t ≡ o) where
+module _ (a : Head) (t h : List ℕ) (o : ReadingOutcome) (promise : reading_outcome a t ≡ o) where
   pub reading_stored : a.refusal ≡ 0
       → exported_reading a.refusal t (set (set (set (set (set (set h 0 a.nx) 1 a.ny) 2 a.nz) 3 a.ox) 4 a.oy) 5 a.oz) ≡ export_reading o h
   unfolding export_reading

@@ -1,5 +1,6 @@
 // The opening of a job.
 #![tactic(auto)]
+
 ghost use Rattle.std.specs.Prelude.{◌≡◌, ◌≤◌, length};
 ghost use Rattle.lists.specs.Lists.{zeros};
 ghost use Rattle.cutting.specs.Cutting.{most_blocks};

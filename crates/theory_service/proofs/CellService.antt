@@ -23,7 +23,7 @@ use Rattle.theory_totals.proofs.StrainStatement.{base_fair, strain_statement}
 use Rattle.theory_cells.specs.Book.{number_at}
 use Rattle.theory_cells.specs.Statement.{earlier_calls, CellRun, CellFair, CellMeasured, Supposed, Needs, Handed}
 use Rattle.theory_cells.proofs.CellStatement.{earlier_run, cell_statement, list_answered}
-use Rattle.theory_service.specs.Contracts.{Held, state_in, OpenedBy}
+use Rattle.theory_service.specs.EntryContracts.{Held, state_in, OpenedBy}
 use Rattle.theory_service.specs.CellContracts.{CalledCells, requested, filled, ServiceEvent, ServiceCalls, none, next, next_added, next_cells}
 use Rattle.theory_service.proofs.Service.{opened_opening, called_step}
 use Rattle.theory_service.proofs.StrainService.{called_strain}

@@ -14,7 +14,7 @@ use Rattle.strain_calls.specs.Tables.{TotalTables}
 use Rattle.strain_calls.specs.Outcomes.{TotalsOpening}
 use Rattle.job.specs.Lent.{no_tables}
 use Rattle.theory_frames.proofs.FrameLaws.{framed}
-use Rattle.theory_service.specs.Contracts.{Held, state_in, CalledThrough, enrolled, joined, crossed, pointed, looked, read, OpenedBy, opened, Calls, none, next}
+use Rattle.theory_service.specs.EntryContracts.{Held, state_in, CalledThrough, enrolled, joined, crossed, pointed, looked, read, OpenedBy, opened, Calls, none, next}
 
 -- An opening through `open` is one of the joiner, with the tables of the readings.
 pub opened_opening : {o : Told} {lent : Tables} {w v : TotalTables} {r : ℕ} {h : Held} → OpenedBy o lent w r h v → TotalsOpening o lent w r (state_in h) v

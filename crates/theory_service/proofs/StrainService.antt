@@ -16,7 +16,7 @@ use Rattle.strain_calls.specs.Outcomes.{StrainStep}
 use Rattle.theory_totals.specs.Book.{no_readings}
 use Rattle.theory_totals.specs.Statement.{StrainEvent, LongFair, StrainMeasured, BringsLists, TotalRead}
 use Rattle.theory_totals.proofs.StrainStatement.{strain_statement}
-use Rattle.theory_service.specs.Contracts.{Held, state_in, OpenedBy}
+use Rattle.theory_service.specs.EntryContracts.{Held, state_in, OpenedBy}
 use Rattle.theory_service.specs.StrainContracts.{CalledStrain, strained, totalled, LongCalls, none, next, next_added}
 use Rattle.theory_service.proofs.Service.{opened_opening, called_step}
 

@@ -12,7 +12,7 @@ use Rattle.cell_calls.specs.Cells.{CellLists}
 use Rattle.cell_calls.specs.Calls.{CellCall, request, fill, CellAnswer}
 use Rattle.cell_calls.specs.Outcomes.{CellStep}
 use Rattle.theory_cells.specs.Statement.{CellEvent, earlier, about_cells}
-use Rattle.theory_service.specs.Contracts.{Held, held, state_in, CalledThrough}
+use Rattle.theory_service.specs.EntryContracts.{Held, held, state_in, CalledThrough}
 use Rattle.theory_service.specs.StrainContracts.{CalledStrain}
 
 -- A call of item 12 with its answer, on what is held, which stays: the premise is the `ensures` of the public entry, whatever the tables are that it is not lent.

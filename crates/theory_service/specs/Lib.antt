@@ -1,4 +1,4 @@
 -- The definitions of the crate.
-pub mod Contracts
+pub mod EntryContracts
 pub mod StrainContracts
 pub mod CellContracts

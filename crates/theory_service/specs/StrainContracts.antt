@@ -10,7 +10,7 @@ use Rattle.strain_calls.specs.Tables.{TotalTables}
 use Rattle.strain_calls.specs.Calls.{StrainCall, strain, total, StrainAnswer, strain_answer, no_totals}
 use Rattle.strain_calls.specs.Outcomes.{StrainPromise, TotalPromise}
 use Rattle.theory_totals.specs.Statement.{StrainEvent}
-use Rattle.theory_service.specs.Contracts.{Held, held, state_in, CalledThrough}
+use Rattle.theory_service.specs.EntryContracts.{Held, held, state_in, CalledThrough}
 
 -- A call of item 1 with its answer, on what is held and the tables of the readings, to those tables after it: the premise is what the public entry promises,
 -- whatever the tables are that it is not lent. What is held stays. (The methods of the crate `methods` have these promises, proved out of the public entries' contracts.)

@@ -17,7 +17,7 @@ use Rattle.cells.specs.Box.{triple, stride, volume, index, place}
 use Rattle.cells.specs.Extents.{is_extent, off_size}
 use Rattle.cells.specs.Grid.{sides, cells, parity, order, voxel_cell, voxel, along, upper_neighbours}
 use Rattle.cells.specs.Row.{row_of, row, occupied, active}
-use Rattle.labels.specs.Number.{pairs, alike, edges_at, order_below, edges, active_of, number as Number·number, numbered_at, numbered, code_at, map_down, labels}
+use Rattle.labels.specs.Number.{pairs, alike, edges_at, order_below, edges, active_of, number as number_named, numbered_at, numbered, code_at, map_down, labels}
 use Rattle.labels.specs.Components.{of_order, largest, component, row_at_first, component_row}
 use Rattle.cutting.specs.Cutting.{Cutting, ascends, cut_list, intervals, low_end, high_end, block_sides, blocks, good_cut, interval, origin, block_extents, embed}
 use Rattle.joiner.specs.Job.{Face, Curve, Point, Closed, State, same_stage, count_of, from_of, node, lengths_fit, number_trays}
@@ -214,7 +214,7 @@ kinds b = cond (eqb b 0) kinds₀ kinds₁
 
 -- Its map, by the maps of the blocks.
 pub uncut_map_lem : uncut_from cutting maps ≡ 1 ∷ 1 ∷ 2 ∷ 2 ∷ 1 ∷ []
-unfolding refused merge_ids join_classes joins rep count_below leader number_by label voxel_cell occupied active pairs alike edges_at order_below edges active_of Number·number numbered_at numbered code_at map_down labels code_in codes_of
+unfolding refused merge_ids join_classes joins rep count_below leader number_by label voxel_cell occupied active pairs alike edges_at order_below edges active_of number_named numbered_at numbered code_at map_down labels code_in codes_of
 uncut_map_lem = refl
 
 -- The totals of its faces are those that are read.
@@ -334,7 +334,7 @@ columns_read = refl
 
 -- The totals of the face of the uncut volume.
 pub columns_uncut : face_totals (triple 2 3 1) (uncut_from columns (λ b. column_map)) (reading_from columns powers strains_only) 1 ≡ column_totals
-unfolding refused merge_ids join_classes joins rep count_below leader number_by label voxel_cell occupied active pairs alike edges_at order_below edges active_of Number·number numbered_at numbered code_at map_down labels code_in codes_of
+unfolding refused merge_ids join_classes joins rep count_below leader number_by label voxel_cell occupied active pairs alike edges_at order_below edges active_of number_named numbered_at numbered code_at map_down labels code_in codes_of
 columns_uncut = refl
 
 -- ---- a voxel outside: 2×1×1 with codes 5 0, in one block
@@ -364,7 +364,7 @@ border_totals = record { lower = side (fin false 3 (negsuc 0)) 1 0 0; higher = n
 
 -- The face cell is active, with the row 5 0.
 pub border_map_lem : uncut_from border (λ b. border_map) ≡ border_map
-unfolding refused merge_ids join_classes joins rep count_below leader number_by label voxel_cell occupied active pairs alike edges_at order_below edges active_of Number·number numbered_at numbered code_at map_down labels code_in codes_of
+unfolding refused merge_ids join_classes joins rep count_below leader number_by label voxel_cell occupied active pairs alike edges_at order_below edges active_of number_named numbered_at numbered code_at map_down labels code_in codes_of
 border_map_lem = refl
 
 pub border_row : component_row (triple 2 1 1) border_map 2 1 ≡ 5 ∷ 0 ∷ 0 ∷ 0 ∷ 0 ∷ 0 ∷ []

@@ -44,7 +44,7 @@ entry_of-requires : tie.Need-entry_of-requires
 entry_of-requires c κs = search rules
 
 judge_map-requires : tie.Need-judge_map-requires
-judge_map-requires c κs = let fit = c.before in ((sized fit.before).1, fits_size _ _ _ _ _ _ _ fit.fits2.ensures)
+judge_map-requires c κs = let fit = c.before in ((sized fit.before).1, fits_size _ _ _ _ _ _ _ fit.fits-whole.ensures)
 
 returns : tie.Need-returns
 returns c = search judged_then

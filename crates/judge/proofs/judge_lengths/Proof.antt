@@ -35,8 +35,8 @@ fits-requires c κs =
     begun_sized a.job _ _ _ _ a.call a.z _ _ _ _ ask.before.stage_of.ensures ask.reached-number.ensures passed.if-number-ne0.false _ c.before.block_at-block.ensures _ c.block_count-count.ensures
 
 -- The refusal, once the lengths are tested.
-decided : (fit : tie.After-fits2) → let ask = fit.before.before.before.before in let a = (start ask).args in
-    cond (not fit.fits2.result) 6 0 ≡ lengths_judged (job_of a.job a.cx.now a.cy.now a.cz.now) a.ticks.now a.call a.z a.b a.step a.length
+decided : (fit : tie.After-fits) → let ask = fit.before.before.before.before in let a = (start ask).args in
+    cond (not fit.fits.result) 6 0 ≡ lengths_judged (job_of a.job a.cx.now a.cy.now a.cz.now) a.ticks.now a.call a.z a.b a.step a.length
 decided fit = search lengths_last
 
 returns-then-not-fits : tie.Need-returns-then-not-fits

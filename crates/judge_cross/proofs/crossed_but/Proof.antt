@@ -4,24 +4,24 @@ use Rattle.judge_cross.proofs.TestLaws.{crossed_here, crossed_else}
 use Rattle.judge_cross.proofs.crossed_but.Statement.{statement}
 use Rattle.judge_cross.proofs.crossed_but.Tie as tie
 
-mul-step : tie.Need-overflow-mul-step
-mul-step c = search rules
+overflow_mul-step : tie.Need-overflow_mul-step
+overflow_mul-step c = search rules
 
-add_step : tie.Need-overflow-add-step
-add_step c = search rules
+overflow_add-step : tie.Need-overflow_add-step
+overflow_add-step c = search rules
 
-step-of-requires : tie.Need-step-of-requires
-step-of-requires c κs = search rules
+step_of-requires : tie.Need-step_of-requires
+step_of-requires c κs = search rules
+
+returns-then-step_of-step : tie.Need-returns-then-step_of-step
+returns-then-step_of-step c = search crossed_here
+
+is_ticked-requires : tie.Need-is_ticked-requires
+is_ticked-requires c κs = search rules
 
 returns : tie.Need-returns
-returns c = search crossed_here
-
-is-ticked-requires : tie.Need-is-ticked-requires
-is-ticked-requires c κs = search rules
-
-returns-2 : tie.Need-returns-2
-returns-2 c = search crossed_else
+returns c = search crossed_else
 
 pub crossed_but_spec : {M : Type 1} → statement M
 crossed_but_spec =
-    tie.close (tie.spec mul-step add_step step-of-requires returns is-ticked-requires returns-2)
+    tie.close (tie.spec overflow_mul-step overflow_add-step step_of-requires returns-then-step_of-step is_ticked-requires returns)

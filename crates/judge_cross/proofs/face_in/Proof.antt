@@ -3,11 +3,11 @@ use borrow.Author.Rules.{rules}
 use Rattle.judge_cross.proofs.face_in.Statement.{statement}
 use Rattle.judge_cross.proofs.face_in.Tie as tie
 
-read-or-zero-requires : tie.Need-read-or-zero-requires
-read-or-zero-requires c κs = search rules
+read_or_zero-requires : tie.Need-read_or_zero-requires
+read_or_zero-requires c κs = search rules
 
 returns : tie.Need-returns
 returns c = cc
 
 pub face_in_spec : {M : Type 1} → statement M
-face_in_spec = tie.close (tie.spec read-or-zero-requires returns)
+face_in_spec = tie.close (tie.spec read_or_zero-requires returns)

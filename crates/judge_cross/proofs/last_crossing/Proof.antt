@@ -1,4 +1,6 @@
 -- `judge_cross::last_crossing` meets its contract.
+use mathlib.Core.Bool.{not}
+use mathlib.Core.Path.{ap}
 use Prim.Native.Nat.{◌-◌, ◌≤◌}
 use native.Mathlib.Omega.{arith}
 use borrow.Author.Rules.{rules}
@@ -7,49 +9,49 @@ use Rattle.judge_cross.specs.Tests.{crossed_but, last_in}
 use Rattle.judge_cross.proofs.last_crossing.Statement.{statement}
 use Rattle.judge_cross.proofs.last_crossing.Tie as tie
 
-abbrev invariant-loop : tie.invariant-loop
-invariant-loop ticks b blocks x₀ x = (x ≤ blocks) × TrueBelow (crossed_but ticks b) x
+abbrev invariant-loop-x : tie.invariant-loop-x
+invariant-loop-x ticks b blocks x₀ x = (x ≤ blocks) × TrueBelow (crossed_but ticks b) x
 
-abbrev decreases-loop : tie.decreases-loop
-decreases-loop ticks b blocks x₀ x = blocks - x
+abbrev decreases-loop-x : tie.decreases-loop-x
+decreases-loop-x ticks b blocks x₀ x = blocks - x
 
-loop-holds : tie.Need-loop-init invariant-loop decreases-loop
-loop-holds c = (omega arith, true_below_none (crossed_but c.before.args.ticks.now c.before.args.b))
+loop-x-init : tie.Need-loop-x-init invariant-loop-x decreases-loop-x
+loop-x-init c = (omega arith, true_below_none (crossed_but c.before.args.ticks.now c.before.args.b))
 
-crossed-but-requires : tie.Need-crossed-but-requires invariant-loop decreases-loop
-crossed-but-requires c κs = search rules
+crossed_but-requires : tie.Need-crossed_but-requires invariant-loop-x decreases-loop-x
+crossed_but-requires c κs = search rules
 
-returns : tie.Need-returns invariant-loop decreases-loop
+returns-then-not-crossed_but : tie.Need-returns-then-not-crossed_but invariant-loop-x decreases-loop-x
 unfolding last_in
-returns c =
+returns-then-not-crossed_but c =
     let back4 = c.before.before.before.before in
-    true_below_broken (crossed_but back4.before.args.ticks.now back4.before.args.b) _ _ _ (omega arith) c.before.crossed-but.ensures c.if1.true
+    true_below_broken (crossed_but back4.before.args.ticks.now back4.before.args.b) _ _ _ (omega arith) c.before.crossed_but.ensures (ap not c.if-not-crossed_but.true)
 
-add-x : tie.Need-overflow-add-x invariant-loop decreases-loop
-add-x c = search rules
+overflow_step-x : tie.Need-overflow_step-x invariant-loop-x decreases-loop-x
+overflow_step-x c = search rules
 
-loop-less : tie.Need-loop-smaller invariant-loop decreases-loop
-loop-less c = search rules
+loop-x-smaller : tie.Need-loop-x-smaller invariant-loop-x decreases-loop-x
+loop-x-smaller c = search rules
 
-loop-again : tie.Need-loop-preserved invariant-loop decreases-loop
-loop-again c =
+loop-x-preserved : tie.Need-loop-x-preserved invariant-loop-x decreases-loop-x
+loop-x-preserved c =
     let back4 = c.before.before.before.before in
-    (omega arith, true_below_more (crossed_but back4.before.args.ticks.now back4.before.args.b) _ _ c.before.before.before.loop.invariant.1 c.before.crossed-but.ensures c.if1.false)
+    (omega arith, true_below_more (crossed_but back4.before.args.ticks.now back4.before.args.b) _ _ c.before.before.before.loop-x.invariant.1 c.before.crossed_but.ensures (ap not c.if-not-crossed_but.false))
 
-returns-2 : tie.Need-returns-2 invariant-loop decreases-loop
+returns : tie.Need-returns invariant-loop-x decreases-loop-x
 unfolding last_in
-returns-2 c = true_below_all (crossed_but c.before.before.before.args.ticks.now c.before.before.before.args.b) _ _ (omega arith) c.before.loop.invariant.1
+returns c = true_below_all (crossed_but c.before.before.before.args.ticks.now c.before.before.before.args.b) _ _ (omega arith) c.before.loop-x.invariant.1
 
 pub last_crossing_spec : {M : Type 1} → statement M
 last_crossing_spec =
     tie.close
     (tie.spec
-    invariant-loop
-    decreases-loop
-    loop-holds
-    crossed-but-requires
-    returns
-    add-x
-    loop-less
-    loop-again
-    returns-2)
+    invariant-loop-x
+    decreases-loop-x
+    loop-x-init
+    crossed_but-requires
+    returns-then-not-crossed_but
+    overflow_step-x
+    loop-x-smaller
+    loop-x-preserved
+    returns)

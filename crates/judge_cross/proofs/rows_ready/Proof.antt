@@ -6,21 +6,21 @@ use Rattle.judge_cross.specs.Tests.{numberable}
 use Rattle.judge_cross.proofs.rows_ready.Statement.{statement}
 use Rattle.judge_cross.proofs.rows_ready.Tie as tie
 
-last-crossing-requires : tie.Need-last-crossing-requires
-last-crossing-requires c κs = search rules
+last_crossing-requires : tie.Need-last_crossing-requires
+last_crossing-requires c κs = search rules
 
-all-ready-requires : tie.Need-all-ready-requires
-all-ready-requires c κs = search rules
+all_ready-requires : tie.Need-all_ready-requires
+all_ready-requires c κs = search rules
+
+returns-then-last_crossing : tie.Need-returns-then-last_crossing
+unfolding numberable
+returns-then-last_crossing c = search cond_here
 
 returns : tie.Need-returns
 unfolding numberable
-returns c = search cond_here
-
-returns-2 : tie.Need-returns-2
-unfolding numberable
-returns-2 c = cond_next _ _ _ _ _ c.before.last-crossing.ensures c.if1.false refl
+returns c = cond_next _ _ _ _ _ c.before.last_crossing.ensures c.if-last_crossing.false refl
 
 pub rows_ready_spec : {M : Type 1} → statement M
 rows_ready_spec =
     tie.close
-    (tie.spec last-crossing-requires all-ready-requires returns returns-2)
+    (tie.spec last_crossing-requires all_ready-requires returns-then-last_crossing returns)

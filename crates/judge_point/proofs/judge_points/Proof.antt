@@ -5,53 +5,53 @@ use Rattle.judge_point.proofs.TestLaws.{points_first, points_map, points_late}
 use Rattle.judge_point.proofs.judge_points.Statement.{statement}
 use Rattle.judge_point.proofs.judge_points.Tie as tie
 
-mul-step : tie.Need-overflow-mul-step
-mul-step c = search rules
+overflow_mul-step : tie.Need-overflow_mul-step
+overflow_mul-step c = search rules
 
-add_step : tie.Need-overflow-add-step
-add_step c = search rules
+overflow_add-step : tie.Need-overflow_add-step
+overflow_add-step c = search rules
 
-judge-requires : tie.Need-judge-requires
-judge-requires c κs = search rules
+judge-number-requires : tie.Need-judge-number-requires
+judge-number-requires c κs = search rules
 
 refused-requires : tie.Need-refused-requires
 refused-requires c κs = search rules
 
-returns : tie.Need-returns
-returns c =
+returns-then-number-ne0 : tie.Need-returns-then-number-ne0
+returns-then-number-ne0 c =
     search points_first
 
-block-at-requires : tie.Need-block-at-requires
-block-at-requires c κs = search rules
+block_at-block-requires : tie.Need-block_at-block-requires
+block_at-block-requires c κs = search rules
 
-entry-of-requires : tie.Need-entry-of-requires
-entry-of-requires c κs = search rules
+entry_of-requires : tie.Need-entry_of-requires
+entry_of-requires c κs = search rules
 
 late-requires : tie.Need-late-requires
 late-requires c κs =
     let ask = c.before.before.before in
     let at0 = ask.before.before.before.before in
     let start = at0.before.before.before.before.args in
-    points_map start.job _ _ _ _ start.lengths _ [] _ _ _ ask.judge.ensures c.before.before.if1.false _ c.before.block_at.ensures
+    points_map start.job _ _ _ _ start.lengths _ [] _ _ _ ask.judge-number.ensures c.before.before.if-number-ne0.false _ c.before.block_at-block.ensures
 
-returns-2 : tie.Need-returns-2
-returns-2 c =
+returns : tie.Need-returns
+returns c =
     let told = c.before.before in
     let ask = told.before.before in
     let at0 = ask.before.before.before.before in
     let start = at0.before.before.before.before.args in
-    points_late start.job _ _ _ _ start.lengths _ _ _ _ _ ask.judge.ensures told.before.if1.false _ told.block_at.ensures _ c.before.entry_of.ensures _ c.late.ensures
+    points_late start.job _ _ _ _ start.lengths _ _ _ _ _ ask.judge-number.ensures told.before.if-number-ne0.false _ told.block_at-block.ensures _ c.before.entry_of.ensures _ c.late.ensures
 
 pub judge_points_spec : {M : Type 1} → statement M
 judge_points_spec =
     tie.close
     (tie.spec
-    mul-step
-    add_step
-    judge-requires
+    overflow_mul-step
+    overflow_add-step
+    judge-number-requires
     refused-requires
-    returns
-    block-at-requires
-    entry-of-requires
+    returns-then-number-ne0
+    block_at-block-requires
+    entry_of-requires
     late-requires
-    returns-2)
+    returns)

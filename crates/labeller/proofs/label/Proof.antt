@@ -5,27 +5,27 @@ use Rattle.labeller.proofs.LabellingLaws.{ready_of, label_refused, label_accepte
 use Rattle.labeller.proofs.label.Statement.{statement}
 use Rattle.labeller.proofs.label.Tie as tie
 
-refusal-requires : tie.Need-refusal-requires
-refusal-requires c κs = search rules
+refusal-number-requires : tie.Need-refusal-number-requires
+refusal-number-requires c κs = search rules
+
+returns-then-number-ne0 : tie.Need-returns-then-number-ne0
+returns-then-number-ne0 c = label_refused _ _ _ _ _ c.before.refusal-number.ensures c.if-number-ne0.true
+
+label_block-requires : tie.Need-label_block-requires
+label_block-requires c κs = ready_of _ _ _ _ (sym c.before.before.before.refusal-number.ensures ∙ c.before.before.if-number-ne0.false)
+
+shape_of-map : tie.Need-shape_of-map
+shape_of-map c = search rules
+
+shape_of-work : tie.Need-shape_of-work
+shape_of-work c = search rules
 
 returns : tie.Need-returns
-returns c = label_refused _ _ _ _ _ c.before.refusal.ensures c.if1.true
-
-label-block-requires : tie.Need-label-block-requires
-label-block-requires c κs = ready_of _ _ _ _ (sym c.before.before.before.refusal.ensures ∙ c.before.before.if1.false)
-
-same_length : tie.Need-same-length
-same_length c = search rules
-
-same-length-2 : tie.Need-same-length-2
-same-length-2 c = search rules
-
-returns-2 : tie.Need-returns-2
-returns-2 c =
+returns c =
     let back4 = c.before.before.before.before in
-    label_accepted _ _ _ _ _ back4.before.before.before.before.refusal.ensures back4.before.before.before.if1.false _ _ _ c.before.before.before.before.label-block.ensures
+    label_accepted _ _ _ _ _ back4.before.before.before.before.refusal-number.ensures back4.before.before.before.if-number-ne0.false _ _ _ c.before.before.before.before.label_block.ensures
 
 pub label_spec : {M : Type 1} → statement M
 label_spec =
     tie.close
-    (tie.spec refusal-requires returns label-block-requires same_length same-length-2 returns-2)
+    (tie.spec refusal-number-requires returns-then-number-ne0 label_block-requires shape_of-map shape_of-work returns)

@@ -17,13 +17,13 @@ start c = let lent = c.before in lent.before.before.before.before
 abbrev filled : tie.After-clear → tie.After-fill
 filled c = c.before.before.before.before
 
-abbrev cleared : tie.After-number-order-arg2 → tie.After-clear
+abbrev cleared : tie.After-number_order-arg-2-1 → tie.After-clear
 cleared c = c.before.before.before.before
 
-abbrev faces : tie.After-number-order2 → tie.After-number-order
+abbrev faces : tie.After-number_order-curves → tie.After-number_order-faces
 faces c = let lent = c.before.before.before in lent.before.before.before.before
 
-abbrev curves : tie.After-number-cells-arg2 → tie.After-number-order2
+abbrev curves : tie.After-number_cells-arg-2-1 → tie.After-number_order-curves
 curves c = let lent = c.before.before in lent.before.before.before.before
 
 fill-requires : tie.Need-fill-requires
@@ -32,24 +32,24 @@ fill-requires c κs = search rules
 clear-requires : tie.Need-clear-requires
 clear-requires c κs = search rules
 
-number-order-requires : tie.Need-number-order-requires
-number-order-requires c κs =
+number_order-faces-requires : tie.Need-number_order-faces-requires
+number_order-faces-requires c κs =
     let st = start (filled (cleared c)) in
-    (st.pre.sized, search rules, (cleared c).clear.ensures ∙ ap zeros (search rules), omega arith)
+    (st.requires.sized, search rules, (cleared c).clear.ensures ∙ ap zeros (search rules), omega arith)
 
-number-order-requires-2 : tie.Need-number-order-requires-2
-number-order-requires-2 c κs = search rules
+number_order-curves-requires : tie.Need-number_order-curves-requires
+number_order-curves-requires c κs = search rules
 
-number-cells-requires : tie.Need-number-cells-requires
-number-cells-requires c κs =
+number_cells-points-requires : tie.Need-number_cells-points-requires
+number_cells-points-requires c κs =
     let st = start (filled (cleared (faces (curves c)).before)) in
-    (st.pre.sized, search rules, omega arith, points_spanning _ _ (curves c).number-order2.ensures.1.1)
+    (st.requires.sized, search rules, omega arith, points_spanning _ _ (curves c).number_order-curves.ensures.1.1)
 
-same_length : tie.Need-same-length
-same_length c = search rules
+shape_of-map : tie.Need-shape_of-map
+shape_of-map c = search rules
 
-same-length-2 : tie.Need-same-length-2
-same-length-2 c = search rules
+shape_of-work : tie.Need-shape_of-work
+shape_of-work c = search rules
 
 returns : tie.Need-returns
 returns c =
@@ -59,9 +59,9 @@ returns c =
     let codes = filled (cleared first.before) in
     let a = (start codes).args in
     let e = triple a.nx a.ny a.nz in
-    let F = first.number_order.ensures in
-    let C = second.number-order2.ensures in
-    let P = points.number-cells.ensures in
+    let F = first.number_order-faces.ensures in
+    let C = second.number_order-curves.ensures in
+    let P = points.number_cells-points.ensures in
     block_labelled e a.codes.now _ _ _ _ _ _ _ _ codes.fill.ensures (F.0, F.1.0) (C.0, C.1.0) (P.0, P.1.0 ∙ largest_leaders e _ 0) P.1.1
 
 pub label_block_spec : {M : Type 1} → statement M
@@ -70,9 +70,9 @@ label_block_spec =
     (tie.spec
     fill-requires
     clear-requires
-    number-order-requires
-    number-order-requires-2
-    number-cells-requires
-    same_length
-    same-length-2
+    number_order-faces-requires
+    number_order-curves-requires
+    number_cells-points-requires
+    shape_of-map
+    shape_of-work
     returns)

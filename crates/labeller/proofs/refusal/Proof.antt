@@ -8,29 +8,29 @@ use Rattle.extents.proofs.SizeLaws.{sized_of}
 use Rattle.labeller.proofs.refusal.Statement.{statement}
 use Rattle.labeller.proofs.refusal.Tie as tie
 
-off-size-requires : tie.Need-off-size-requires
-off-size-requires c κs = search rules
+off_size-requires : tie.Need-off_size-requires
+off_size-requires c κs = search rules
+
+returns-then-off_size : tie.Need-returns-then-off_size
+returns-then-off_size c = rw refusal_is (search (cond_here, cond_next) depth 10)
+
+wrong_tray-requires : tie.Need-wrong_tray-requires
+wrong_tray-requires c κs =
+    let a = c.before.before.args in
+    sized_of 64 (triple a.nx a.ny a.nz) (sym c.before.off_size.ensures ∙ c.if-off_size.false)
+
+returns-then-wrong_tray : tie.Need-returns-then-wrong_tray
+returns-then-wrong_tray c = rw refusal_is (search (cond_here, cond_next) depth 10)
 
 returns : tie.Need-returns
 returns c = rw refusal_is (search (cond_here, cond_next) depth 10)
-
-wrong-tray-requires : tie.Need-wrong-tray-requires
-wrong-tray-requires c κs =
-    let a = c.before.before.args in
-    sized_of 64 (triple a.nx a.ny a.nz) (sym c.before.off-size.ensures ∙ c.if1.false)
-
-returns-2 : tie.Need-returns-2
-returns-2 c = rw refusal_is (search (cond_here, cond_next) depth 10)
-
-returns-3 : tie.Need-returns-3
-returns-3 c = rw refusal_is (search (cond_here, cond_next) depth 10)
 
 pub refusal_spec : {M : Type 1} → statement M
 refusal_spec =
     tie.close
     (tie.spec
-    off-size-requires
-    returns
-    wrong-tray-requires
-    returns-2
-    returns-3)
+    off_size-requires
+    returns-then-off_size
+    wrong_tray-requires
+    returns-then-wrong_tray
+    returns)

@@ -11,45 +11,45 @@ use Rattle.labeller.specs.Labelling.{wrong_tray}
 use Rattle.labeller.proofs.wrong_tray.Statement.{statement}
 use Rattle.labeller.proofs.wrong_tray.Tie as tie
 
-mul-if1 : tie.Need-overflow-mul-if1
-mul-if1 c = omega (arith, area_high c.requires)
+overflow_mul-nx : tie.Need-overflow_mul-nx
+overflow_mul-nx c = omega (arith, area_high c.requires)
 
-mul-if1-2 : tie.Need-overflow-mul-if1-2
+overflow_mul-nx-2 : tie.Need-overflow_mul-nx-2
 unfolding volume
-mul-if1-2 c = let v : c.args.nx * c.args.ny * c.args.nz ≤ 262144 = volume_high c.requires in omega arith
+overflow_mul-nx-2 c = let v : c.args.nx * c.args.ny * c.args.nz ≤ 262144 = volume_high c.requires in omega arith
+
+returns-then-codes-nx : tie.Need-returns-then-codes-nx
+unfolding wrong_tray volume
+returns-then-codes-nx c =
+    let a = c.before.args in
+    rw (ne_eqb a.codes (volume (triple a.nx a.ny a.nz)) c.if-codes-nx.true)
+
+grid_cells-cells-requires : tie.Need-grid_cells-cells-requires
+grid_cells-cells-requires c κs = search rules
+
+returns-then-map-cells : tie.Need-returns-then-map-cells
+unfolding wrong_tray volume
+returns-then-map-cells c =
+    let else1 = c.before.before in
+    let a = else1.before.args in
+    let e = triple a.nx a.ny a.nz in
+    rw (eq-eqb a.codes (volume e) else1.if-codes-nx.false, ne_eqb a.map (cells e) (λ h. c.if-map-cells.true (h ∙ sym c.before.grid_cells-cells.ensures)))
 
 returns : tie.Need-returns
 unfolding wrong_tray volume
 returns c =
-    let a = c.before.args in
-    rw (ne_eqb a.codes (volume (triple a.nx a.ny a.nz)) c.if1.true)
-
-grid-cells-requires : tie.Need-grid-cells-requires
-grid-cells-requires c κs = search rules
-
-returns-2 : tie.Need-returns-2
-unfolding wrong_tray volume
-returns-2 c =
     let else1 = c.before.before in
     let a = else1.before.args in
     let e = triple a.nx a.ny a.nz in
-    rw (eq-eqb a.codes (volume e) else1.if1.false, ne_eqb a.map (cells e) (λ h. c.if2.true (h ∙ sym c.before.grid-cells.ensures)))
-
-returns-3 : tie.Need-returns-3
-unfolding wrong_tray volume
-returns-3 c =
-    let else1 = c.before.before in
-    let a = else1.before.args in
-    let e = triple a.nx a.ny a.nz in
-    rw (← c.before.grid-cells.ensures, eq-eqb a.codes (volume e) else1.if1.false, eq-eqb a.map _ c.if2.false)
+    rw (← c.before.grid_cells-cells.ensures, eq-eqb a.codes (volume e) else1.if-codes-nx.false, eq-eqb a.map _ c.if-map-cells.false)
 
 pub wrong_tray_spec : {M : Type 1} → statement M
 wrong_tray_spec =
     tie.close
     (tie.spec
-    mul-if1
-    mul-if1-2
-    returns
-    grid-cells-requires
-    returns-2
-    returns-3)
+    overflow_mul-nx
+    overflow_mul-nx-2
+    returns-then-codes-nx
+    grid_cells-cells-requires
+    returns-then-map-cells
+    returns)

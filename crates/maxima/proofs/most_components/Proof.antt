@@ -7,20 +7,20 @@ use Rattle.maxima.proofs.MaximaLaws.{most_accepted, most_refused}
 use Rattle.maxima.proofs.most_components.Statement.{statement}
 use Rattle.maxima.proofs.most_components.Tie as tie
 
-off-size-requires : tie.Need-off-size-requires
-off-size-requires c κs = search rules
+off_size-requires : tie.Need-off_size-requires
+off_size-requires c κs = search rules
+
+returns-then-off_size : tie.Need-returns-then-off_size
+unfolding refused
+returns-then-off_size c = sym (most_refused _ (sym c.before.off_size.ensures ∙ c.if-off_size.true))
+
+cell_counts-requires : tie.Need-cell_counts-requires
+cell_counts-requires c κs = sized_of 64 _ (sym c.before.off_size.ensures ∙ c.if-off_size.false)
 
 returns : tie.Need-returns
-unfolding refused
-returns c = sym (most_refused _ (sym c.before.off-size.ensures ∙ c.if1.true))
-
-cell-counts-requires : tie.Need-cell-counts-requires
-cell-counts-requires c κs = sized_of 64 _ (sym c.before.off-size.ensures ∙ c.if1.false)
-
-returns-2 : tie.Need-returns-2
-returns-2 c =
+returns c =
     let test = c.before.before in
-    c.cell-counts.ensures ∙ sym (most_accepted _ (sym test.off-size.ensures ∙ c.before.if1.false))
+    c.cell_counts.ensures ∙ sym (most_accepted _ (sym test.off_size.ensures ∙ c.before.if-off_size.false))
 
 pub most_components_spec : {M : Type 1} → statement M
-most_components_spec = tie.close (tie.spec off-size-requires returns cell-counts-requires returns-2)
+most_components_spec = tie.close (tie.spec off_size-requires returns-then-off_size cell_counts-requires returns)

@@ -6,14 +6,14 @@ use Rattle.cells.proofs.ExtentLaws.{product_high}
 use Rattle.maxima.proofs.product.Statement.{statement}
 use Rattle.maxima.proofs.product.Tie as tie
 
-mul-result : tie.Need-overflow-mul-result
-mul-result c = omega (arith, mul-le-mul {n₂ = 64} {m₂ = 64} c.requires.0 c.requires.1)
+overflow_mul-result : tie.Need-overflow_mul-result
+overflow_mul-result c = omega (arith, mul-le-mul {n₂ = 64} {m₂ = 64} c.requires.0 c.requires.1)
 
-mul-result-2 : tie.Need-overflow-mul-result-2
-mul-result-2 c = omega (arith, product_high 64 _ _ _ c.requires.0 c.requires.1 c.requires.2)
+overflow_mul-result-2 : tie.Need-overflow_mul-result-2
+overflow_mul-result-2 c = omega (arith, product_high 64 _ _ _ c.requires.0 c.requires.1 c.requires.2)
 
 returns : tie.Need-returns
 returns c = (refl, product_high 64 _ _ _ c.requires.0 c.requires.1 c.requires.2)
 
 pub product_spec : {M : Type 1} → statement M
-product_spec = tie.close (tie.spec mul-result mul-result-2 returns)
+product_spec = tie.close (tie.spec overflow_mul-result overflow_mul-result-2 returns)

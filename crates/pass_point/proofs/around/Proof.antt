@@ -18,78 +18,78 @@ on_y st = reads_y (triple st.args.nx st.args.ny st.args.nz) st.args.p st.require
 on_z : (st : tie.Start) → Reads st.args.map.now st.args.p ((2 * st.args.nx - 1) * (2 * st.args.ny - 1))
 on_z st = reads_z (triple st.args.nx st.args.ny st.args.nz) st.args.p st.requires.level st.args.map.now st.requires.size st.requires.within
 
-mul-w : tie.Need-overflow-mul-w
-mul-w c = search rules
+overflow_mul-w : tie.Need-overflow_mul-w
+overflow_mul-w c = search rules
 
-sub-w : tie.Need-overflow-sub-w
-sub-w c = search rules
+overflow_sub-w : tie.Need-overflow_sub-w
+overflow_sub-w c = search rules
 
-mul-wh : tie.Need-overflow-mul-wh
-mul-wh c = search rules
+overflow_mul-wh : tie.Need-overflow_mul-wh
+overflow_mul-wh c = search rules
 
-sub-wh : tie.Need-overflow-sub-wh
-sub-wh c = search rules
+overflow_sub-wh : tie.Need-overflow_sub-wh
+overflow_sub-wh c = search rules
 
-mul-wh-2 : tie.Need-overflow-mul-wh-2
-mul-wh-2 c = omega (arith, layer_high c.requires.sized)
+overflow_mul-wh-2 : tie.Need-overflow_mul-wh-2
+overflow_mul-wh-2 c = omega (arith, layer_high c.requires.sized)
 
-sub-t8 : tie.Need-overflow-sub-t8
-sub-t8 c = (on_x c).low
+overflow_sub-result : tie.Need-overflow_sub-result
+overflow_sub-result c = (on_x c).low
 
-mul-t9 : tie.Need-overflow-mul-t9
-mul-t9 c = search rules
+offset_bounds-map-p : tie.Need-offset_bounds-map-p
+offset_bounds-map-p c = search rules
 
-shared-slice-read-t11 : tie.Need-shared-slice-read-t11
-shared-slice-read-t11 c = search rules
+bounds-map-p : tie.Need-bounds-map-p
+bounds-map-p c = search rules
 
-add-t12 : tie.Need-overflow-add-t12
-add-t12 c = search rules
+overflow_add-result : tie.Need-overflow_add-result
+overflow_add-result c = search rules
 
-mul-t13 : tie.Need-overflow-mul-t13
-mul-t13 c = search rules
+offset_bounds-map-p-2 : tie.Need-offset_bounds-map-p-2
+offset_bounds-map-p-2 c = search rules
 
-shared-slice-read-t15 : tie.Need-shared-slice-read-t15
-shared-slice-read-t15 c = (on_x c.before.before).high
+bounds-map-p-2 : tie.Need-bounds-map-p-2
+bounds-map-p-2 c = (on_x c.before.before).high
 
-sub-t16 : tie.Need-overflow-sub-t16
-sub-t16 c = (on_y c.before.before).low
+overflow_sub-result-2 : tie.Need-overflow_sub-result-2
+overflow_sub-result-2 c = (on_y c.before.before).low
 
-mul-t17 : tie.Need-overflow-mul-t17
-mul-t17 c = search rules
+offset_bounds-map-p-3 : tie.Need-offset_bounds-map-p-3
+offset_bounds-map-p-3 c = search rules
 
-shared-slice-read-t19 : tie.Need-shared-slice-read-t19
-shared-slice-read-t19 c = search rules
+bounds-map-p-3 : tie.Need-bounds-map-p-3
+bounds-map-p-3 c = search rules
 
-add-t20 : tie.Need-overflow-add-t20
-add-t20 c = search rules
+overflow_add-result-2 : tie.Need-overflow_add-result-2
+overflow_add-result-2 c = search rules
 
-mul-t21 : tie.Need-overflow-mul-t21
-mul-t21 c = search rules
+offset_bounds-map-p-4 : tie.Need-offset_bounds-map-p-4
+offset_bounds-map-p-4 c = search rules
 
-shared-slice-read-t23 : tie.Need-shared-slice-read-t23
-shared-slice-read-t23 c = (on_y c.before.before.before.before).high
+bounds-map-p-4 : tie.Need-bounds-map-p-4
+bounds-map-p-4 c = (on_y c.before.before.before.before).high
 
-sub-t24 : tie.Need-overflow-sub-t24
-sub-t24 c = (on_z c.before.before.before.before).low
+overflow_sub-result-3 : tie.Need-overflow_sub-result-3
+overflow_sub-result-3 c = (on_z c.before.before.before.before).low
 
-mul-t25 : tie.Need-overflow-mul-t25
-mul-t25 c = search rules
+offset_bounds-map-p-5 : tie.Need-offset_bounds-map-p-5
+offset_bounds-map-p-5 c = search rules
 
-shared-slice-read-t27 : tie.Need-shared-slice-read-t27
-shared-slice-read-t27 c = search rules
+bounds-map-p-5 : tie.Need-bounds-map-p-5
+bounds-map-p-5 c = search rules
 
-add-t28 : tie.Need-overflow-add-t28
-add-t28 c =
+overflow_add-result-3 : tie.Need-overflow_add-result-3
+overflow_add-result-3 c =
     let back4 = c.before.before.before.before in
     omega (arith, (on_z back4.before).high)
 
-mul-t29 : tie.Need-overflow-mul-t29
-mul-t29 c =
+offset_bounds-map-p-6 : tie.Need-offset_bounds-map-p-6
+offset_bounds-map-p-6 c =
     let back4 = c.before.before.before.before in
     omega (arith, (on_z back4.before).high)
 
-shared-slice-read-t31 : tie.Need-shared-slice-read-t31
-shared-slice-read-t31 c =
+bounds-map-p-6 : tie.Need-bounds-map-p-6
+bounds-map-p-6 c =
     let back4 = c.before.before.before.before in
     (on_z back4.before.before).high
 
@@ -103,27 +103,27 @@ pub around_spec : {M : Type 1} → statement M
 around_spec =
     tie.close
     (tie.spec
-    mul-w
-    sub-w
-    mul-wh
-    sub-wh
-    mul-wh-2
-    sub-t8
-    mul-t9
-    shared-slice-read-t11
-    add-t12
-    mul-t13
-    shared-slice-read-t15
-    sub-t16
-    mul-t17
-    shared-slice-read-t19
-    add-t20
-    mul-t21
-    shared-slice-read-t23
-    sub-t24
-    mul-t25
-    shared-slice-read-t27
-    add-t28
-    mul-t29
-    shared-slice-read-t31
+    overflow_mul-w
+    overflow_sub-w
+    overflow_mul-wh
+    overflow_sub-wh
+    overflow_mul-wh-2
+    overflow_sub-result
+    offset_bounds-map-p
+    bounds-map-p
+    overflow_add-result
+    offset_bounds-map-p-2
+    bounds-map-p-2
+    overflow_sub-result-2
+    offset_bounds-map-p-3
+    bounds-map-p-3
+    overflow_add-result-2
+    offset_bounds-map-p-4
+    bounds-map-p-4
+    overflow_sub-result-3
+    offset_bounds-map-p-5
+    bounds-map-p-5
+    overflow_add-result-3
+    offset_bounds-map-p-6
+    bounds-map-p-6
     returns)

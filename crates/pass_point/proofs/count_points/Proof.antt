@@ -12,48 +12,48 @@ use Rattle.pass_point.proofs.PointLaws.{found_all, lines_next, lines_room, lines
 use Rattle.pass_point.proofs.count_points.Statement.{statement}
 use Rattle.pass_point.proofs.count_points.Tie as tie
 
-abbrev invariant-loop : tie.invariant-loop
-invariant-loop map nx ny nz numbers from lines n₀ l₀ n l =
+abbrev invariant-loop-l : tie.invariant-loop-l
+invariant-loop-l map nx ny nz numbers from lines n₀ l₀ n l =
     let e = triple nx ny nz in
     (l ≤ lines) × (n + length (found_among e numbers from map (from_line e 0 l)) ≡ length (found_cells e numbers from map))
 
-abbrev decreases-loop : tie.decreases-loop
-decreases-loop map nx ny nz numbers from lines n₀ l₀ n l = lines - l
+abbrev decreases-loop-l : tie.decreases-loop-l
+decreases-loop-l map nx ny nz numbers from lines n₀ l₀ n l = lines - l
 
-line-count-requires : tie.Need-line-count-requires invariant-loop decreases-loop
-line-count-requires c κs = search rules
+line_count-lines-requires : tie.Need-line_count-lines-requires invariant-loop-l decreases-loop-l
+line_count-lines-requires c κs = search rules
 
-loop-holds : tie.Need-loop-init invariant-loop decreases-loop
-loop-holds c = (omega arith, ap (λ ps. 0 + length ps) (found_all _ _ _ _) ∙ zero-add _)
+loop-l-init : tie.Need-loop-l-init invariant-loop-l decreases-loop-l
+loop-l-init c = (omega arith, ap (λ ps. 0 + length ps) (found_all _ _ _ _) ∙ zero-add _)
 
-count-line-requires : tie.Need-count-line-requires invariant-loop decreases-loop
-count-line-requires c κs =
+count_line-n-requires : tie.Need-count_line-n-requires invariant-loop-l decreases-loop-l
+count_line-n-requires c κs =
     let turn = c.before in
     let p = turn.before.before.before.before.requires in
-    (p.0, p.1, omega arith, lines_room _ _ _ _ _ _ turn.loop.invariant.1 p.0 (omega arith))
+    (p.0, p.1, omega arith, lines_room _ _ _ _ _ _ turn.loop-l.invariant.1 p.0 (omega arith))
 
-add-l : tie.Need-overflow-add-l invariant-loop decreases-loop
-add-l c = search rules
+overflow_add-l : tie.Need-overflow_add-l invariant-loop-l decreases-loop-l
+overflow_add-l c = search rules
 
-loop-less : tie.Need-loop-smaller invariant-loop decreases-loop
-loop-less c = search rules
+loop-l-smaller : tie.Need-loop-l-smaller invariant-loop-l decreases-loop-l
+loop-l-smaller c = search rules
 
-loop-again : tie.Need-loop-preserved invariant-loop decreases-loop
-loop-again c = (omega arith, lines_next _ _ _ _ _ _ c.before.before.loop.invariant.1 (omega arith) _ c.count_line.ensures)
+loop-l-preserved : tie.Need-loop-l-preserved invariant-loop-l decreases-loop-l
+loop-l-preserved c = (omega arith, lines_next _ _ _ _ _ _ c.before.before.loop-l.invariant.1 (omega arith) _ c.count_line-n.ensures)
 
-returns : tie.Need-returns invariant-loop decreases-loop
-returns c = lines_last _ _ _ _ _ _ c.before.loop.invariant.1 (omega arith)
+returns : tie.Need-returns invariant-loop-l decreases-loop-l
+returns c = lines_last _ _ _ _ _ _ c.before.loop-l.invariant.1 (omega arith)
 
 pub count_points_spec : {M : Type 1} → statement M
 count_points_spec =
     tie.close
     (tie.spec
-    invariant-loop
-    decreases-loop
-    line-count-requires
-    loop-holds
-    count-line-requires
-    add-l
-    loop-less
-    loop-again
+    invariant-loop-l
+    decreases-loop-l
+    line_count-lines-requires
+    loop-l-init
+    count_line-n-requires
+    overflow_add-l
+    loop-l-smaller
+    loop-l-preserved
     returns)

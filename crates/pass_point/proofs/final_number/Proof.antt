@@ -4,25 +4,25 @@ use Rattle.pass_point.proofs.PointLaws.{final_none, final_some}
 use Rattle.pass_point.proofs.final_number.Statement.{statement}
 use Rattle.pass_point.proofs.final_number.Tie as tie
 
+returns-then-n-eq0 : tie.Need-returns-then-n-eq0
+returns-then-n-eq0 c = search final_none
+
+overflow_sub-i : tie.Need-overflow_sub-i
+overflow_sub-i c = search rules
+
+overflow_cast-i-2 : tie.Need-overflow_cast-i-2
+overflow_cast-i-2 c = search rules
+
+overflow_add-i : tie.Need-overflow_add-i
+overflow_add-i c = search rules
+
+read_or_zero-requires : tie.Need-read_or_zero-requires
+read_or_zero-requires c κs = search rules
+
 returns : tie.Need-returns
-returns c = search final_none
-
-sub-i : tie.Need-overflow-sub-i
-sub-i c = search rules
-
-cast-i : tie.Need-overflow-cast-i
-cast-i c = search rules
-
-add-i : tie.Need-overflow-add-i
-add-i c = search rules
-
-read-or-zero-requires : tie.Need-read-or-zero-requires
-read-or-zero-requires c κs = search rules
-
-returns-2 : tie.Need-returns-2
-returns-2 c = search final_some
+returns c = search final_some
 
 pub final_number_spec : {M : Type 1} → statement M
 final_number_spec =
     tie.close
-    (tie.spec returns sub-i cast-i add-i read-or-zero-requires returns-2)
+    (tie.spec returns-then-n-eq0 overflow_sub-i overflow_cast-i-2 overflow_add-i read_or_zero-requires returns)

@@ -7,11 +7,11 @@ use Rattle.pass_point.proofs.found_row.Tie as tie
 around-requires : tie.Need-around-requires
 around-requires c κs = search rules
 
-row-over-requires : tie.Need-row-over-requires
-row-over-requires c κs = search rules
+row_over-requires : tie.Need-row_over-requires
+row_over-requires c κs = search rules
 
 returns : tie.Need-returns
 returns c = search row_of_around
 
 pub found_row_spec : {M : Type 1} → statement M
-found_row_spec = tie.close (tie.spec around-requires row-over-requires returns)
+found_row_spec = tie.close (tie.spec around-requires row_over-requires returns)

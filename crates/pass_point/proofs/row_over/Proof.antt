@@ -9,23 +9,23 @@ use Rattle.pass_point.proofs.PointLaws.{final_zeros}
 use Rattle.pass_point.proofs.row_over.Statement.{statement}
 use Rattle.pass_point.proofs.row_over.Tie as tie
 
-same-row-requires : tie.Need-same-row-requires
-same-row-requires c κs = search rules
+same_row-requires : tie.Need-same_row-requires
+same_row-requires c κs = search rules
 
-returns : tie.Need-returns
-returns c =
+returns-then-same_row : tie.Need-returns-then-same_row
+returns-then-same_row c =
     let a = c.before.before.before.args in
-    final_zeros a.numbers.now a.from ∙ sym (ap (λ l. row_of (finals_in a.numbers.now a.from l)) (same_row_lem a.a (replicate 6 0) (sym c.before.same_row.ensures ∙ c.if1.true)))
+    final_zeros a.numbers.now a.from ∙ sym (ap (λ l. row_of (finals_in a.numbers.now a.from l)) (same_row_lem a.a (replicate 6 0) (sym c.before.same_row.ensures ∙ c.if-same_row.true)))
 
 finals-requires : tie.Need-finals-requires
 finals-requires c κs = search rules
 
-row-of-six-requires : tie.Need-row-of-six-requires
-row-of-six-requires c κs = search rules
+row_of_six-requires : tie.Need-row_of_six-requires
+row_of_six-requires c κs = search rules
 
-returns-2 : tie.Need-returns-2
-returns-2 c = rw (← c.before.finals.ensures) c.row-of-six.ensures
+returns : tie.Need-returns
+returns c = rw (← c.before.finals.ensures) c.row_of_six.ensures
 
 pub row_over_spec : {M : Type 1} → statement M
 row_over_spec =
-    tie.close (tie.spec same-row-requires returns finals-requires row-of-six-requires returns-2)
+    tie.close (tie.spec same_row-requires returns-then-same_row finals-requires row_of_six-requires returns)

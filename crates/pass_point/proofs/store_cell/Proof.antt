@@ -4,67 +4,67 @@ use Rattle.pass_point.proofs.StoreLaws.{store_none, store_one, room_one}
 use Rattle.pass_point.proofs.store_cell.Statement.{statement}
 use Rattle.pass_point.proofs.store_cell.Tie as tie
 
-found-row-requires : tie.Need-found-row-requires
-found-row-requires c κs = search rules
+found_row-row-requires : tie.Need-found_row-row-requires
+found_row-row-requires c κs = search rules
 
-array-read-if1 : tie.Need-array-read-if1
-array-read-if1 c = search rules
+bounds-row-0 : tie.Need-bounds-row-0
+bounds-row-0 c = search rules
+
+returns-then-row-eq0 : tie.Need-returns-then-row-eq0
+returns-then-row-eq0 c = store_none _ _ _ _ _ _ _ _ _ _ _ c.before.found_row-row.ensures c.if-row-eq0.true
+
+overflow_mul-keys : tie.Need-overflow_mul-keys
+overflow_mul-keys c = search rules
+
+overflow_add-keys : tie.Need-overflow_add-keys
+overflow_add-keys c = search rules
+
+offset_bounds-keys-at : tie.Need-offset_bounds-keys-at
+offset_bounds-keys-at c = search rules
+
+bounds-keys-at : tie.Need-bounds-keys-at
+bounds-keys-at c =
+    let back4 = c.before.before.before.before in
+    (room_one _ _ _ _ _ _ _ _ _ c.before.found_row-row.ensures c.if-row-eq0.false back4.before.before.requires.4).0
+
+overflow_mul-at : tie.Need-overflow_mul-at
+overflow_mul-at c = search rules
+
+slice_bounds-write_front-end : tie.Need-slice_bounds-write_front-end
+slice_bounds-write_front-end c = search rules
+
+write_front-requires : tie.Need-write_front-requires
+write_front-requires c κs =
+    let back4 = c.before.before.before.before in
+    (room_one _ _ _ _ _ _ _ _ _ c.before.before.before.found_row-row.ensures c.before.before.if-row-eq0.false back4.before.before.before.before.requires.4).1
+
+overflow_add-result : tie.Need-overflow_add-result
+overflow_add-result c = search rules
+
+shape_of-keys : tie.Need-shape_of-keys
+shape_of-keys c = search rules
+
+shape_of-rows : tie.Need-shape_of-rows
+shape_of-rows c = search rules
 
 returns : tie.Need-returns
-returns c = store_none _ _ _ _ _ _ _ _ _ _ _ c.before.found_row_lem.ensures c.if1.true
-
-mul-keys : tie.Need-overflow-mul-keys
-mul-keys c = search rules
-
-add-keys : tie.Need-overflow-add-keys
-add-keys c = search rules
-
-mul-keys-2 : tie.Need-overflow-mul-keys-2
-mul-keys-2 c = search rules
-
-slice-write-keys : tie.Need-slice-write-keys
-slice-write-keys c =
-    let back4 = c.before.before.before.before in
-    (room_one _ _ _ _ _ _ _ _ _ c.before.found_row_lem.ensures c.if1.false back4.before.before.requires.4).0
-
-mul-write-front : tie.Need-overflow-mul-write-front
-mul-write-front c = search rules
-
-slice-aggregate-write-front : tie.Need-slice-aggregate-write-front
-slice-aggregate-write-front c = search rules
-
-write-front-requires : tie.Need-write-front-requires
-write-front-requires c κs =
-    let back4 = c.before.before.before.before in
-    (room_one _ _ _ _ _ _ _ _ _ c.before.before.before.found_row_lem.ensures c.before.before.if1.false back4.before.before.before.before.requires.4).1
-
-add-result : tie.Need-overflow-add-result
-add-result c = search rules
-
-same_length : tie.Need-same-length
-same_length c = search rules
-
-same-length-2 : tie.Need-same-length-2
-same-length-2 c = search rules
-
-returns-2 : tie.Need-returns-2
-returns-2 c = search store_one
+returns c = search store_one
 
 pub store_cell_spec : {M : Type 1} → statement M
 store_cell_spec =
     tie.close
     (tie.spec
-    found-row-requires
-    array-read-if1
-    returns
-    mul-keys
-    add-keys
-    mul-keys-2
-    slice-write-keys
-    mul-write-front
-    slice-aggregate-write-front
-    write-front-requires
-    add-result
-    same_length
-    same-length-2
-    returns-2)
+    found_row-row-requires
+    bounds-row-0
+    returns-then-row-eq0
+    overflow_mul-keys
+    overflow_add-keys
+    offset_bounds-keys-at
+    bounds-keys-at
+    overflow_mul-at
+    slice_bounds-write_front-end
+    write_front-requires
+    overflow_add-result
+    shape_of-keys
+    shape_of-rows
+    returns)

@@ -14,91 +14,91 @@ use Rattle.pass_point.proofs.StoreLaws.{Left, left_all, left_none, left_room, le
 use Rattle.pass_point.proofs.store_cells.Statement.{statement}
 use Rattle.pass_point.proofs.store_cells.Tie as tie
 
-abbrev invariant-loop : tie.invariant-loop
-invariant-loop keys₀ rows₀ at map nx ny nz block b numbers from l line first n₀ x₀ keys rows n x =
+abbrev invariant-loop-x : tie.invariant-loop-x
+invariant-loop-x keys₀ rows₀ at map nx ny nz block b numbers from l line first n₀ x₀ keys rows n x =
     let e = size_of block in
     Walking e 3 l x × Left (triple nx ny nz) block b map numbers from (on_line e 0 l) at keys₀ rows₀ (ahead (λ p. eqb (order e p) 0) line x) n keys rows
 
-abbrev decreases-loop : tie.decreases-loop
-decreases-loop keys₀ rows₀ at map nx ny nz block b numbers from l line first n₀ x₀ keys rows n x = line.width - x
+abbrev decreases-loop-x : tie.decreases-loop-x
+decreases-loop-x keys₀ rows₀ at map nx ny nz block b numbers from l line first n₀ x₀ keys rows n x = line.width - x
 
 -- The start, from the loop, and the test of the loop, from the store.
-abbrev entry : tie.At-loop invariant-loop decreases-loop → tie.Start invariant-loop decreases-loop
+abbrev entry : tie.At-loop-x invariant-loop-x decreases-loop-x → tie.Start invariant-loop-x decreases-loop-x
 entry turn = let known = turn.before in known.before.before.before.before
 
-abbrev test_of : tie.After-struct-known2 invariant-loop decreases-loop → tie.Then1 invariant-loop decreases-loop
+abbrev test_of : tie.After-struct_known-in-loop-x-1 invariant-loop-x decreases-loop-x → tie.In-loop-x invariant-loop-x decreases-loop-x
 test_of c = c.before.before.before
 
-loop-holds : tie.Need-loop-init invariant-loop decreases-loop
+loop-x-init : tie.Need-loop-x-init invariant-loop-x decreases-loop-x
 unfolding on_line
-loop-holds c =
+loop-x-init c =
     let L = c.before.before.before.before.requires.0.told in
     (walk_first L, left_all _ _ _ _ _ _ _ _ _ _ _ (cells_first L (order_tests _ 0 _ (omega arith))))
 
-add-store-cell : tie.Need-overflow-add-store-cell invariant-loop decreases-loop
-add-store-cell c =
+overflow_add-line : tie.Need-overflow_add-line invariant-loop-x decreases-loop-x
+overflow_add-line c =
     let test = test_of c in
-    omega (arith, along_fits (entry test.before.before).pre.0, test.if1.taken)
+    omega (arith, along_fits (entry test.before.before).requires.0, test.loop-x-test.true)
 
-add-store-cell-2 : tie.Need-overflow-add-store-cell-2 invariant-loop decreases-loop
-add-store-cell-2 c =
+overflow_add-first : tie.Need-overflow_add-first invariant-loop-x decreases-loop-x
+overflow_add-first c =
     let test = test_of c in
     let turn = test.before.before in
-    omega (arith, (along_here (entry turn).pre.0 _ turn.loop.inv.0 test.if1.taken).high)
+    omega (arith, (along_here (entry turn).requires.0 _ turn.loop-x.invariant.0 test.loop-x-test.true).high)
 
-store-cell-requires : tie.Need-store-cell-requires invariant-loop decreases-loop
-store-cell-requires c κs =
+store_cell-n-requires : tie.Need-store_cell-n-requires invariant-loop-x decreases-loop-x
+store_cell-n-requires c κs =
     let test = test_of c in
     let turn = test.before.before in
-    let p = (entry turn).pre in
-    let i = turn.loop.inv in
-    let k = test.if1.taken in
+    let p = (entry turn).requires in
+    let i = turn.loop-x.invariant in
+    let k = test.loop-x-test.true in
     let h = along_here p.0 _ i.0 k in
     let rest = cells_next p.0.told (order_tests _ 0 _ (omega arith)) i.0 k in
     (record { sized = p.0.lies.sized; size = p.0.size; within = h.within; level = h.level }, p.1, h.position, h.high, left_room _ _ _ _ _ _ _ _ _ _ _ _ _ _ i.1 _ _ rest p.2)
 
-add-x : tie.Need-overflow-add-x invariant-loop decreases-loop
-add-x c =
+overflow_add-x : tie.Need-overflow_add-x invariant-loop-x decreases-loop-x
+overflow_add-x c =
     let called = c.before.before.before.before in
     let test = test_of called.before in
-    omega (arith, along_fits (entry test.before.before).pre.0, test.if1.taken)
+    omega (arith, along_fits (entry test.before.before).requires.0, test.loop-x-test.true)
 
-loop-less : tie.Need-loop-smaller invariant-loop decreases-loop
-loop-less c = search rules
+loop-x-smaller : tie.Need-loop-x-smaller invariant-loop-x decreases-loop-x
+loop-x-smaller c = search rules
 
-loop-again : tie.Need-loop-preserved invariant-loop decreases-loop
-loop-again c =
+loop-x-preserved : tie.Need-loop-x-preserved invariant-loop-x decreases-loop-x
+loop-x-preserved c =
     let called = c.before.before.before.before in
     let test = test_of called.before in
     let turn = test.before.before in
-    let i = turn.loop.inv in
-    let rest = cells_next (entry turn).pre.0.told (order_tests _ 0 _ (omega arith)) i.0 test.if1.taken in
-    (walk_next i.0, left_next _ _ _ _ _ _ _ _ _ _ _ _ _ _ i.1 _ _ rest _ _ _ called.store-cell.ensures)
+    let i = turn.loop-x.invariant in
+    let rest = cells_next (entry turn).requires.0.told (order_tests _ 0 _ (omega arith)) i.0 test.loop-x-test.true in
+    (walk_next i.0, left_next _ _ _ _ _ _ _ _ _ _ _ _ _ _ i.1 _ _ rest _ _ _ called.store_cell-n.ensures)
 
-same_length : tie.Need-same-length invariant-loop decreases-loop
-same_length c = search rules
+shape_of-keys : tie.Need-shape_of-keys invariant-loop-x decreases-loop-x
+shape_of-keys c = search rules
 
-same-length-2 : tie.Need-same-length-2 invariant-loop decreases-loop
-same-length-2 c = search rules
+shape_of-rows : tie.Need-shape_of-rows invariant-loop-x decreases-loop-x
+shape_of-rows c = search rules
 
-returns : tie.Need-returns invariant-loop decreases-loop
+returns : tie.Need-returns invariant-loop-x decreases-loop-x
 returns c =
     let turn = c.before.before in
-    left_none _ _ _ _ _ _ _ _ _ _ _ _ _ _ turn.loop.invariant.1 (cells_last (entry turn).requires.0.told (order_tests _ 0 _ (omega arith)) c.if1.false)
+    left_none _ _ _ _ _ _ _ _ _ _ _ _ _ _ turn.loop-x.invariant.1 (cells_last (entry turn).requires.0.told (order_tests _ 0 _ (omega arith)) c.loop-x-test.false)
 
 pub store_cells_spec : {M : Type 1} → statement M
 store_cells_spec =
     tie.close
     (tie.spec
-    invariant-loop
-    decreases-loop
-    loop-holds
-    add-store-cell
-    add-store-cell-2
-    store-cell-requires
-    add-x
-    loop-less
-    loop-again
-    same_length
-    same-length-2
+    invariant-loop-x
+    decreases-loop-x
+    loop-x-init
+    overflow_add-line
+    overflow_add-first
+    store_cell-n-requires
+    overflow_add-x
+    loop-x-smaller
+    loop-x-preserved
+    shape_of-keys
+    shape_of-rows
     returns)

@@ -8,69 +8,69 @@ use borrow.Author.Rules.{rules}
 use Rattle.pass_strain.proofs.face_line.Statement.{statement}
 use Rattle.pass_strain.proofs.face_line.Tie as tie
 
-add-line-with : tie.Need-overflow-add-line-with
-add-line-with c = search rules
+overflow_add-y : tie.Need-overflow_add-y
+overflow_add-y c = search rules
 
-line-with-requires : tie.Need-line-with-requires
+line_with-line-requires : tie.Need-line_with-line-requires
 unfolding sides
-line-with-requires c κs = let p = c.requires in (p.0, p.1, odd_there _ _ _ _ p.2 p.3)
+line_with-line-requires c κs = let p = c.requires in (p.0, p.1, odd_there _ _ _ _ p.2 p.3)
 
-mul-h : tie.Need-overflow-mul-h
-mul-h c = search rules
+overflow_mul-h : tie.Need-overflow_mul-h
+overflow_mul-h c = search rules
 
-sub-h : tie.Need-overflow-sub-h
-sub-h c = search rules
+overflow_sub-h : tie.Need-overflow_sub-h
+overflow_sub-h c = search rules
 
-mul-first-stride : tie.Need-overflow-mul-first-stride
+overflow_mul-w : tie.Need-overflow_mul-w
 unfolding sides
-mul-first-stride c = rw c.line-with.ensures.width (omega (arith, bounds _ _ c.before.requires.0 c.before.requires.1))
+overflow_mul-w c = rw c.line_with-line.ensures.width (omega (arith, bounds _ _ c.before.requires.0 c.before.requires.1))
 
-first-stride-requires : tie.Need-first-stride-requires
-first-stride-requires c κs = search rules
+first_stride-requires : tie.Need-first_stride-requires
+first_stride-requires c κs = search rules
 
-mul-first-stride-2 : tie.Need-overflow-mul-first-stride-2
-mul-first-stride-2 c = omega (arith, bounds _ _ c.before.before.requires.0 c.before.before.requires.1)
+overflow_mul-nx : tie.Need-overflow_mul-nx
+overflow_mul-nx c = omega (arith, bounds _ _ c.before.before.requires.0 c.before.before.requires.1)
 
-first-stride-requires-2 : tie.Need-first-stride-requires-2
-first-stride-requires-2 c κs = search rules
+first_stride-requires-2 : tie.Need-first_stride-requires-2
+first_stride-requires-2 c κs = search rules
 
-mul-t17 : tie.Need-overflow-mul-t17
+overflow_mul-result : tie.Need-overflow_mul-result
 unfolding sides
-mul-t17 c = let p = c.before.before.before.requires in omega (arith, bounds _ _ p.0 p.1, spot_bounds _ _ _ _ p.2 p.3 p.0 p.1)
+overflow_mul-result c = let p = c.before.before.before.requires in omega (arith, bounds _ _ p.0 p.1, spot_bounds _ _ _ _ p.2 p.3 p.0 p.1)
 
-mul-t19 : tie.Need-overflow-mul-t19
-mul-t19 c = omega (arith, bounds _ _ c.before.before.before.requires.0 c.before.before.before.requires.1)
+overflow_mul-result-2 : tie.Need-overflow_mul-result-2
+overflow_mul-result-2 c = omega (arith, bounds _ _ c.before.before.before.requires.0 c.before.before.before.requires.1)
 
-mul-t20 : tie.Need-overflow-mul-t20
+overflow_mul-result-3 : tie.Need-overflow_mul-result-3
 unfolding sides
-mul-t20 c = let p = c.before.before.before.requires in omega (arith, bounds _ _ p.0 p.1, spot_bounds _ _ _ _ p.2 p.3 p.0 p.1)
+overflow_mul-result-3 c = let p = c.before.before.before.requires in omega (arith, bounds _ _ p.0 p.1, spot_bounds _ _ _ _ p.2 p.3 p.0 p.1)
 
-add-t21 : tie.Need-overflow-add-t21
+overflow_add-result : tie.Need-overflow_add-result
 unfolding sides
-add-t21 c = let p = c.before.before.before.requires in omega (arith, bounds _ _ p.0 p.1, spot_bounds _ _ _ _ p.2 p.3 p.0 p.1)
+overflow_add-result c = let p = c.before.before.before.requires in omega (arith, bounds _ _ p.0 p.1, spot_bounds _ _ _ _ p.2 p.3 p.0 p.1)
 
 returns : tie.Need-returns
 unfolding sides
 returns c =
     let told = c.before.before in
     let p = told.before.requires in
-    let L = told.line-with.ensures in
-    lies _ _ _ _ p.2 p.3 _ L refl refl (rw (← L.width) c.before.first-stride.ensures) c.first-stride2.ensures refl
+    let L = told.line_with-line.ensures in
+    lies _ _ _ _ p.2 p.3 _ L refl refl (rw (← L.width) c.before.first_stride.ensures) c.first_stride-2.ensures refl
 
 pub face_line_spec : {M : Type 1} → statement M
 face_line_spec =
     tie.close
     (tie.spec
-    add-line-with
-    line-with-requires
-    mul-h
-    sub-h
-    mul-first-stride
-    first-stride-requires
-    mul-first-stride-2
-    first-stride-requires-2
-    mul-t17
-    mul-t19
-    mul-t20
-    add-t21
+    overflow_add-y
+    line_with-line-requires
+    overflow_mul-h
+    overflow_sub-h
+    overflow_mul-w
+    first_stride-requires
+    overflow_mul-nx
+    first_stride-requires-2
+    overflow_mul-result
+    overflow_mul-result-2
+    overflow_mul-result-3
+    overflow_add-result
     returns)

@@ -14,131 +14,131 @@ use Rattle.pass_strain.proofs.ShownLaws.{Taking, take_none, listed_cell, take_ne
 use Rattle.pass_strain.proofs.take_line.Statement.{statement}
 use Rattle.pass_strain.proofs.take_line.Tie as tie
 
-abbrev invariant-loop : tie.invariant-loop
-invariant-loop sums₀ counts₀ list values kinds map numbers nx ny nz s from l y z face line many i₀ sums counts i =
+abbrev invariant-loop-i : tie.invariant-loop-i
+invariant-loop-i sums₀ counts₀ list values kinds map numbers nx ny nz s from l y z face line many i₀ sums counts i =
     (i ≤ many) × (length sums ≡ length sums₀) × (length counts ≡ length counts₀)
     × Taking (triple nx ny nz) (start_of s) (brought map numbers from values kinds) l line list sums₀ counts₀ i sums counts
 
-abbrev decreases-loop : tie.decreases-loop
-decreases-loop sums₀ counts₀ list values kinds map numbers nx ny nz s from l y z face line many i₀ sums counts i = many - i
+abbrev decreases-loop-i : tie.decreases-loop-i
+decreases-loop-i sums₀ counts₀ list values kinds map numbers nx ny nz s from l y z face line many i₀ sums counts i = many - i
 
 -- The places before the loop: where the cells are listed, where the line is told, and the start.
-abbrev shown : tie.At-loop invariant-loop decreases-loop → tie.After-list-shown invariant-loop decreases-loop
+abbrev shown : tie.At-loop-i invariant-loop-i decreases-loop-i → tie.After-list_shown-many invariant-loop-i decreases-loop-i
 shown turn = turn.before.before.before
 
-abbrev told : tie.After-list-shown invariant-loop decreases-loop → tie.After-face-line invariant-loop decreases-loop
+abbrev told : tie.After-list_shown-many invariant-loop-i decreases-loop-i → tie.After-face_line-face invariant-loop-i decreases-loop-i
 told c = c.before.before.before
 
-abbrev entry : tie.After-face-line invariant-loop decreases-loop → tie.Start invariant-loop decreases-loop
+abbrev entry : tie.After-face_line-face invariant-loop-i decreases-loop-i → tie.Start invariant-loop-i decreases-loop-i
 entry c =
     let known = c.before.before.before.before in
     known.before.before.before.before
 
 -- The next of the listed cells.
-cell : (c : tie.In-loop invariant-loop decreases-loop) → let k = shown c.before in let r = (told k).face-line.result.line in let x = get_or k.list-shown.last.0 c.before.loop.i 0 in
+cell : (c : tie.In-loop-i invariant-loop-i decreases-loop-i) → let k = shown c.before in let r = (told k).face_line-face.result.line in let x = get_or k.list_shown-many.new.list c.before.loop-i.i 0 in
     (x < r.width) × (r.start ≤ x) × (x % 2 ≡ r.start % 2)
 cell c =
     let k = shown c.before in
-    listed_cell _ _ _ _ _ _ _ _ _ (told k).face-line.ensures.line _ _ k.list-shown.ensures _ _ _ _ _ c.before.loop.invariant.3 c.loop-test.true
+    listed_cell _ _ _ _ _ _ _ _ _ (told k).face_line-face.ensures.line _ _ k.list_shown-many.ensures _ _ _ _ _ c.before.loop-i.invariant.3 c.loop-i-test.true
 
-face-line-requires : tie.Need-face-line-requires invariant-loop decreases-loop
-face-line-requires c κs = search rules
+face_line-face-requires : tie.Need-face_line-face-requires invariant-loop-i decreases-loop-i
+face_line-face-requires c κs = search rules
 
-list-shown-requires : tie.Need-list-shown-requires invariant-loop decreases-loop
+list_shown-many-requires : tie.Need-list_shown-many-requires invariant-loop-i decreases-loop-i
 unfolding sides
-list-shown-requires c κs =
+list_shown-many-requires c κs =
     let r = c.before.before in
     let p = (entry r).requires in
-    let L = r.face-line.ensures.line in
+    let L = r.face_line-face.ensures.line in
     (omega (arith, walk_room L p.1, p.0.whole), omega (arith, p.0.sized, L.width), omega (arith, p.4))
 
-loop-holds : tie.Need-loop-init invariant-loop decreases-loop
-loop-holds c =
+loop-i-init : tie.Need-loop-i-init invariant-loop-i decreases-loop-i
+loop-i-init c =
     let r = told c.before.before in
-    (omega arith, refl, refl, take_none _ _ _ _ _ r.face-line.ensures.line _ _ _)
+    (omega arith, refl, refl, take_none _ _ _ _ _ r.face_line-face.ensures.line _ _ _)
 
-mul-x : tie.Need-overflow-mul-x invariant-loop decreases-loop
-mul-x c = search rules
+offset_bounds-list-i : tie.Need-offset_bounds-list-i invariant-loop-i decreases-loop-i
+offset_bounds-list-i c = search rules
 
-slice-read-x : tie.Need-slice-read-x invariant-loop decreases-loop
-slice-read-x c = search rules
+bounds-list-i : tie.Need-bounds-list-i invariant-loop-i decreases-loop-i
+bounds-list-i c = search rules
 
-add-take-cell : tie.Need-overflow-add-take-cell invariant-loop decreases-loop
-add-take-cell c =
+overflow_add-line : tie.Need-overflow_add-line invariant-loop-i decreases-loop-i
+overflow_add-line c =
     let test = c.before.before.before.before in
     let r = told (shown test.before) in
-    let p = (entry r).pre in
-    omega (arith, walk_fits r.face-line.ensures.line _ (cell test).0 p.0.sized p.1)
+    let p = (entry r).requires in
+    omega (arith, walk_fits r.face_line-face.ensures.line _ (cell test).0 p.0.sized p.1)
 
-add-take-cell-2 : tie.Need-overflow-add-take-cell-2 invariant-loop decreases-loop
+overflow_add-x : tie.Need-overflow_add-x invariant-loop-i decreases-loop-i
 unfolding sides
-add-take-cell-2 c =
+overflow_add-x c =
     let known = c.before in
     let test = known.before.before.before.before in
     let r = told (shown test.before) in
-    let p = (entry r).pre in
-    let L = r.face-line.ensures in
+    let p = (entry r).requires in
+    let L = r.face_line-face.ensures in
     omega (arith, bounds _ _ p.0.sized p.1, p.0.sized, L.first, L.line.width, (cell test).0)
 
-take-cell-requires : tie.Need-take-cell-requires invariant-loop decreases-loop
-take-cell-requires c κs =
+take_cell-requires : tie.Need-take_cell-requires invariant-loop-i decreases-loop-i
+take_cell-requires c κs =
     let known = c.before in
     let test = known.before.before.before.before in
     let r = told (shown test.before) in
-    let p = (entry r).pre in
-    let L = r.face-line.ensures in
+    let p = (entry r).requires in
+    let L = r.face_line-face.ensures in
     let x = cell test in
     (line_beside _ _ _ L _ x.0 p.1 x.1 x.2 _ _ _ p.0, line_spot _ _ _ L _ x.0 p.1 x.1 x.2)
 
-add-i : tie.Need-overflow-add-i invariant-loop decreases-loop
-add-i c = search rules
+overflow_add-i : tie.Need-overflow_add-i invariant-loop-i decreases-loop-i
+overflow_add-i c = search rules
 
-loop-less : tie.Need-loop-smaller invariant-loop decreases-loop
-loop-less c = search rules
+loop-i-smaller : tie.Need-loop-i-smaller invariant-loop-i decreases-loop-i
+loop-i-smaller c = search rules
 
-loop-again : tie.Need-loop-preserved invariant-loop decreases-loop
-loop-again c =
+loop-i-preserved : tie.Need-loop-i-preserved invariant-loop-i decreases-loop-i
+loop-i-preserved c =
     let called = c.before.before.before.before in
     let known = called.before.before in
     let test = known.before.before.before.before in
     let k = shown test.before in
-    let t = test.loop-test.true in
-    let took = called.take-cell.ensures in
-    (omega (arith, t), search rules, search rules, take_next _ _ _ _ _ _ _ _ _ (told k).face-line.ensures.line _ _ k.list-shown.ensures _ _ _ _ _ test.before.loop.invariant.3 t _ _ took.0 took.1)
+    let t = test.loop-i-test.true in
+    let took = called.take_cell.ensures in
+    (omega (arith, t), search rules, search rules, take_next _ _ _ _ _ _ _ _ _ (told k).face_line-face.ensures.line _ _ k.list_shown-many.ensures _ _ _ _ _ test.before.loop-i.invariant.3 t _ _ took.0 took.1)
 
-same_length : tie.Need-same-length invariant-loop decreases-loop
-same_length c = search rules
+shape_of-sums : tie.Need-shape_of-sums invariant-loop-i decreases-loop-i
+shape_of-sums c = search rules
 
-same-length-2 : tie.Need-same-length-2 invariant-loop decreases-loop
-same-length-2 c = search rules
+shape_of-counts : tie.Need-shape_of-counts invariant-loop-i decreases-loop-i
+shape_of-counts c = search rules
 
-same-length-3 : tie.Need-same-length-3 invariant-loop decreases-loop
-same-length-3 c = search rules
+shape_of-list : tie.Need-shape_of-list invariant-loop-i decreases-loop-i
+shape_of-list c = search rules
 
-returns : tie.Need-returns invariant-loop decreases-loop
+returns : tie.Need-returns invariant-loop-i decreases-loop-i
 returns c =
     let turn = c.before in
     let k = shown turn in
-    taken_all _ _ _ _ _ _ _ _ _ (told k).face-line.ensures.line _ _ k.list-shown.ensures _ _ _ _ _ turn.loop.invariant.3 (omega arith) turn.loop.invariant.0
+    taken_all _ _ _ _ _ _ _ _ _ (told k).face_line-face.ensures.line _ _ k.list_shown-many.ensures _ _ _ _ _ turn.loop-i.invariant.3 (omega arith) turn.loop-i.invariant.0
 
-pub take-line_spec : {M : Type 1} → statement M
-take-line_spec =
+pub take_line_spec : {M : Type 1} → statement M
+take_line_spec =
     tie.close
     (tie.spec
-    invariant-loop
-    decreases-loop
-    face-line-requires
-    list-shown-requires
-    loop-holds
-    mul-x
-    slice-read-x
-    add-take-cell
-    add-take-cell-2
-    take-cell-requires
-    add-i
-    loop-less
-    loop-again
-    same_length
-    same-length-2
-    same-length-3
+    invariant-loop-i
+    decreases-loop-i
+    face_line-face-requires
+    list_shown-many-requires
+    loop-i-init
+    offset_bounds-list-i
+    bounds-list-i
+    overflow_add-line
+    overflow_add-x
+    take_cell-requires
+    overflow_add-i
+    loop-i-smaller
+    loop-i-preserved
+    shape_of-sums
+    shape_of-counts
+    shape_of-list
     returns)

@@ -5,45 +5,45 @@ use borrow.Author.Rules.{rules}
 use Rattle.pass_strain.proofs.take_voxel.Statement.{statement}
 use Rattle.pass_strain.proofs.take_voxel.Tie as tie
 
+returns-then-side-eq2 : tie.Need-returns-then-side-eq2
+unfolding sums_with counts_with
+returns-then-side-eq2 c = (search neither_after, search neither_after)
+
+overflow_sub-n : tie.Need-overflow_sub-n
+overflow_sub-n c = search rules
+
+overflow_mul-n : tie.Need-overflow_mul-n
+overflow_mul-n c = search rules
+
+overflow_add-n : tie.Need-overflow_add-n
+overflow_add-n c = search rules
+
+reading_at-requires : tie.Need-reading_at-requires
+reading_at-requires c κs = search rules
+
+take_reading-requires : tie.Need-take_reading-requires
+take_reading-requires c κs = search rules
+
+shape_of-sums : tie.Need-shape_of-sums
+shape_of-sums c = search rules
+
+shape_of-counts : tie.Need-shape_of-counts
+shape_of-counts c = search rules
+
 returns : tie.Need-returns
 unfolding sums_with counts_with
-returns c = (search neither_after, search neither_after)
+returns c = (search side_after, search side_after)
 
-sub-take-reading : tie.Need-overflow-sub-take-reading
-sub-take-reading c = search rules
-
-mul-take-reading : tie.Need-overflow-mul-take-reading
-mul-take-reading c = search rules
-
-add-take-reading : tie.Need-overflow-add-take-reading
-add-take-reading c = search rules
-
-reading-at-requires : tie.Need-reading-at-requires
-reading-at-requires c κs = search rules
-
-take-reading-requires : tie.Need-take-reading-requires
-take-reading-requires c κs = search rules
-
-same_length : tie.Need-same-length
-same_length c = search rules
-
-same-length-2 : tie.Need-same-length-2
-same-length-2 c = search rules
-
-returns-2 : tie.Need-returns-2
-unfolding sums_with counts_with
-returns-2 c = (search side_after, search side_after)
-
-pub take-voxel_spec : {M : Type 1} → statement M
-take-voxel_spec =
+pub take_voxel_spec : {M : Type 1} → statement M
+take_voxel_spec =
     tie.close
     (tie.spec
-    returns
-    sub-take-reading
-    mul-take-reading
-    add-take-reading
-    reading-at-requires
-    take-reading-requires
-    same_length
-    same-length-2
-    returns-2)
+    returns-then-side-eq2
+    overflow_sub-n
+    overflow_mul-n
+    overflow_add-n
+    reading_at-requires
+    take_reading-requires
+    shape_of-sums
+    shape_of-counts
+    returns)

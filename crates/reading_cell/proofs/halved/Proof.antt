@@ -4,39 +4,39 @@ use Rattle.reading_cell.proofs.BisectLaws.{halved_upper, halved_lower}
 use Rattle.reading_cell.proofs.halved.Statement.{statement}
 use Rattle.reading_cell.proofs.halved.Tie as tie
 
-add-middle : tie.Need-overflow-add-middle
-add-middle c = search rules
+overflow_add-middle : tie.Need-overflow_add-middle
+overflow_add-middle c = search rules
 
-cast-read-or-zero-u64 : tie.Need-overflow-cast-read-or-zero-u64
-cast-read-or-zero-u64 c = search rules
+overflow_cast-middle : tie.Need-overflow_cast-middle
+overflow_cast-middle c = search rules
 
-read-or-zero-u64-requires : tie.Need-read-or-zero-u64-requires
-read-or-zero-u64-requires c κs = search rules
+read_or_zero_u64-requires : tie.Need-read_or_zero_u64-requires
+read_or_zero_u64-requires c κs = search rules
 
-add-t9 : tie.Need-overflow-add-t9
-add-t9 c = search rules
+overflow_add-result : tie.Need-overflow_add-result
+overflow_add-result c = search rules
 
-sub-t10 : tie.Need-overflow-sub-t10
-sub-t10 c = search rules
+overflow_sub-result : tie.Need-overflow_sub-result
+overflow_sub-result c = search rules
 
-sub-t11 : tie.Need-overflow-sub-t11
-sub-t11 c = search rules
+overflow_sub-result-then-read_or_zero_u64-v : tie.Need-overflow_sub-result-then-read_or_zero_u64-v
+overflow_sub-result-then-read_or_zero_u64-v c = search rules
+
+returns-then-read_or_zero_u64-v : tie.Need-returns-then-read_or_zero_u64-v
+returns-then-read_or_zero_u64-v c = search halved_upper
 
 returns : tie.Need-returns
-returns c = search halved_upper
-
-returns-2 : tie.Need-returns-2
-returns-2 c = search halved_lower
+returns c = search halved_lower
 
 pub halved_spec : {M : Type 1} → statement M
 halved_spec =
     tie.close
     (tie.spec
-    add-middle
-    cast-read-or-zero-u64
-    read-or-zero-u64-requires
-    add-t9
-    sub-t10
-    sub-t11
-    returns
-    returns-2)
+    overflow_add-middle
+    overflow_cast-middle
+    read_or_zero_u64-requires
+    overflow_add-result
+    overflow_sub-result
+    overflow_sub-result-then-read_or_zero_u64-v
+    returns-then-read_or_zero_u64-v
+    returns)

@@ -4,43 +4,43 @@ use Rattle.reading_cell.proofs.NumberLaws.{number_voxel, number_face, number_cur
 use Rattle.reading_cell.proofs.number_of.Statement.{statement}
 use Rattle.reading_cell.proofs.number_of.Tie as tie
 
-order-at-requires : tie.Need-order-at-requires
-order-at-requires c κs = search rules
+order_at-order-requires : tie.Need-order_at-order-requires
+order_at-order-requires c κs = search rules
+
+returns-then-order-eq3 : tie.Need-returns-then-order-eq3
+returns-then-order-eq3 c = search number_voxel
+
+final_number-requires : tie.Need-final_number-requires
+final_number-requires c κs = search rules
+
+returns-then-order-eq2 : tie.Need-returns-then-order-eq2
+returns-then-order-eq2 c = search number_face
+
+final_number-requires-then-order-eq1 : tie.Need-final_number-requires-then-order-eq1
+final_number-requires-then-order-eq1 c κs = search rules
+
+returns-then-order-eq1 : tie.Need-returns-then-order-eq1
+returns-then-order-eq1 c = search number_curve
+
+position-v-requires : tie.Need-position-v-requires
+position-v-requires c κs = search rules
+
+point_number-requires : tie.Need-point_number-requires
+point_number-requires c κs = search rules
 
 returns : tie.Need-returns
-returns c = search number_voxel
-
-final-number-requires : tie.Need-final-number-requires
-final-number-requires c κs = search rules
-
-returns-2 : tie.Need-returns-2
-returns-2 c = search number_face
-
-final-number-requires-2 : tie.Need-final-number-requires-2
-final-number-requires-2 c κs = search rules
-
-returns-3 : tie.Need-returns-3
-returns-3 c = search number_curve
-
-position-requires : tie.Need-position-requires
-position-requires c κs = search rules
-
-point-number-requires : tie.Need-point-number-requires
-point-number-requires c κs = search rules
-
-returns-4 : tie.Need-returns-4
-returns-4 c = search number_point
+returns c = search number_point
 
 pub number_of_spec : {M : Type 1} → statement M
 number_of_spec =
     tie.close
     (tie.spec
-    order-at-requires
-    returns
-    final-number-requires
-    returns-2
-    final-number-requires-2
-    returns-3
-    position-requires
-    point-number-requires
-    returns-4)
+    order_at-order-requires
+    returns-then-order-eq3
+    final_number-requires
+    returns-then-order-eq2
+    final_number-requires-then-order-eq1
+    returns-then-order-eq1
+    position-v-requires
+    point_number-requires
+    returns)

@@ -5,18 +5,18 @@ use Rattle.reading_cell.specs.Inner.{order_at}
 use Rattle.reading_cell.proofs.order_at.Statement.{statement}
 use Rattle.reading_cell.proofs.order_at.Tie as tie
 
-add-result : tie.Need-overflow-add-result
-add-result c = search rules
+overflow_add-result : tie.Need-overflow_add-result
+overflow_add-result c = search rules
 
-add-result-2 : tie.Need-overflow-add-result-2
-add-result-2 c = search rules
+overflow_add-result-2 : tie.Need-overflow_add-result-2
+overflow_add-result-2 c = search rules
 
-sub-result : tie.Need-overflow-sub-result
-sub-result c = search rules
+overflow_sub-result : tie.Need-overflow_sub-result
+overflow_sub-result c = search rules
 
 returns : tie.Need-returns
 unfolding order_at
 returns c = refl
 
 pub order_at_spec : {M : Type 1} → statement M
-order_at_spec = tie.close (tie.spec add-result add-result-2 sub-result returns)
+order_at_spec = tie.close (tie.spec overflow_add-result overflow_add-result-2 overflow_sub-result returns)

@@ -1,7 +1,7 @@
 -- `reading_cell::refusal` meets its contract.
 use Prim.Native.Nat.{◌<◌}
-use mathlib.Core.Path.{◌≡◌}
-use mathlib.Core.Bool.{true}
+use mathlib.Core.Path.{◌≡◌, ap}
+use mathlib.Core.Bool.{true, not}
 use borrow.Author.Rules.{rules}
 use Rattle.cutting.specs.Cutting.{blocks, good_cut}
 use Rattle.job.specs.JobState.{told_of}
@@ -11,69 +11,69 @@ use Rattle.reading_cell.proofs.refusal.Statement.{statement}
 use Rattle.reading_cell.proofs.refusal.Tie as tie
 
 -- The start, from the first tests.
-abbrev start : tie.After-opened → tie.Start
+abbrev start : tie.After-opened-number → tie.Start
 start ask =
     let tables = ask.before.before.before.before in
     let cuts = tables.before.before.before in
     cuts.before.before.before
 
 -- The cuts are good, and there is such a block.
-passed : (there : tie.Else2) → let a = (start there.before.before.before).args in let k = (told_of a.job a.cx.now a.cy.now a.cz.now).cutting in
+passed : (there : tie.Else-not-has_place) → let a = (start there.before.before.before).args in let k = (told_of a.job a.cx.now a.cy.now a.cz.now).cutting in
     (good_cut k ≡ true) × (a.b < blocks k)
 passed there =
     let ask = there.before.before.before in
-    look_passed (start ask).args.job _ _ _ _ _ _ ask.opened.ensures there.before.before.if1.false _ there.before.has-place.ensures there.if2.false
+    look_passed (start ask).args.job _ _ _ _ _ _ ask.opened-number.ensures there.before.before.if-number-ne0.false _ there.before.has_place.ensures (ap not there.if-not-has_place.false)
 
-opened-requires : tie.Need-opened-requires
-opened-requires c κs = search rules
+opened-number-requires : tie.Need-opened-number-requires
+opened-number-requires c κs = search rules
 
-returns : tie.Need-returns
-returns c = search look_first
+returns-then-number-ne0 : tie.Need-returns-then-number-ne0
+returns-then-number-ne0 c = search look_first
 
-has-place-requires : tie.Need-has-place-requires
-has-place-requires c κs = search rules
+has_place-requires : tie.Need-has_place-requires
+has_place-requires c κs = search rules
 
-returns-2 : tie.Need-returns-2
-returns-2 c = search look_4
+returns-then-not-has_place : tie.Need-returns-then-not-has_place
+returns-then-not-has_place c = search look_4
 
-lengths-of-requires : tie.Need-lengths-of-requires
-lengths-of-requires c κs = search rules
+lengths_of-lengths-requires : tie.Need-lengths_of-lengths-requires
+lengths_of-lengths-requires c κs = search rules
 
-block-at-requires : tie.Need-block-at-requires
-block-at-requires c κs = search rules
+block_at-block-requires : tie.Need-block_at-block-requires
+block_at-block-requires c κs = search rules
 
-block-count-requires : tie.Need-block-count-requires
-block-count-requires c κs = few_of _ (passed c.before.before).0
+block_count-count-requires : tie.Need-block_count-count-requires
+block_count-count-requires c κs = few_of _ (passed c.before.before).0
 
-fits-requires : tie.Need-fits-requires
-fits-requires c κs =
+fits-whole-requires : tie.Need-fits-whole-requires
+fits-whole-requires c κs =
     let p = passed c.before.before.before in
-    (count_few _ p.0 _ (c.block-count.ensures _ _ _), block_sized _ p.0 _ p.1 _ (c.before.block_at.ensures _ _ _))
+    (count_few _ p.0 _ (c.block_count-count.ensures _ _ _), block_sized _ p.0 _ p.1 _ (c.before.block_at-block.ensures _ _ _))
 
-entry-of-requires : tie.Need-entry-of-requires
-entry-of-requires c κs = search rules
+entry_of-requires : tie.Need-entry_of-requires
+entry_of-requires c κs = search rules
 
-judge-map-requires : tie.Need-judge-map-requires
-judge-map-requires c κs =
+judge_map-requires : tie.Need-judge_map-requires
+judge_map-requires c κs =
     let told = c.before.before.before in
     let p = passed told.before.before in
-    (block_sized _ p.0 _ p.1 _ (told.block_at.ensures _ _ _), fits_size _ _ _ _ _ _ _ c.before.fits2.ensures)
+    (block_sized _ p.0 _ p.1 _ (told.block_at-block.ensures _ _ _), fits_size _ _ _ _ _ _ _ c.before.fits-whole.ensures)
 
-returns-3 : tie.Need-returns-3
-returns-3 c = search look_judged_lem
+returns : tie.Need-returns
+returns c = search look_judged_lem
 
 pub refusal_spec : {M : Type 1} → statement M
 refusal_spec =
     tie.close
     (tie.spec
-    opened-requires
-    returns
-    has-place-requires
-    returns-2
-    lengths-of-requires
-    block-at-requires
-    block-count-requires
-    fits-requires
-    entry-of-requires
-    judge-map-requires
-    returns-3)
+    opened-number-requires
+    returns-then-number-ne0
+    has_place-requires
+    returns-then-not-has_place
+    lengths_of-lengths-requires
+    block_at-block-requires
+    block_count-count-requires
+    fits-whole-requires
+    entry_of-requires
+    judge_map-requires
+    returns)

@@ -6,73 +6,73 @@ use Rattle.reading_row.proofs.RowLaws.{number_told, tallies_off, tallies_on}
 use Rattle.reading_row.proofs.refuse.Statement.{statement}
 use Rattle.reading_row.proofs.refuse.Tie as tie
 
-cast-off-size : tie.Need-overflow-cast-off-size
-cast-off-size c = search rules
+overflow_cast-job : tie.Need-overflow_cast-job
+overflow_cast-job c = search rules
 
-cast-off-size-2 : tie.Need-overflow-cast-off-size-2
-cast-off-size-2 c = search rules
+overflow_cast-job-2 : tie.Need-overflow_cast-job-2
+overflow_cast-job-2 c = search rules
 
-cast-off-size-3 : tie.Need-overflow-cast-off-size-3
-cast-off-size-3 c = search rules
+overflow_cast-job-3 : tie.Need-overflow_cast-job-3
+overflow_cast-job-3 c = search rules
 
-off-size-requires : tie.Need-off-size-requires
-off-size-requires c κs = search rules
+off_size-requires : tie.Need-off_size-requires
+off_size-requires c κs = search rules
 
-returns : tie.Need-returns
+returns-then-off_size : tie.Need-returns-then-off_size
 unfolding refusal_of
-returns c = search cond_here
+returns-then-off_size c = search cond_here
 
-same-stage-requires : tie.Need-same-stage-requires
-same-stage-requires c κs = search rules
+same_stage-requires : tie.Need-same_stage-requires
+same_stage-requires c κs = search rules
 
-returns-2 : tie.Need-returns-2
+returns-then-not-same_stage : tie.Need-returns-then-not-same_stage
 unfolding refusal_of
-returns-2 c = search (cond_next, cond_not_here) depth 12
+returns-then-not-same_stage c = search (cond_next, cond_not_here) depth 12
 
 numbered-requires : tie.Need-numbered-requires
 numbered-requires c κs = search rules
 
-has-number-requires : tie.Need-has-number-requires
-has-number-requires c κs = search rules
+has_number-requires : tie.Need-has_number-requires
+has_number-requires c κs = search rules
 
-returns-3 : tie.Need-returns-3
+returns-then-not-has_number : tie.Need-returns-then-not-has_number
 unfolding refusal_of
-returns-3 c = search (cond_next, cond_not_here, cond_not_next, number_told) depth 12
+returns-then-not-has_number c = search (cond_next, cond_not_here, cond_not_next, number_told) depth 12
 
-lent-fits-requires : tie.Need-lent-fits-requires
-lent-fits-requires c κs = search rules
+lent_fits-requires : tie.Need-lent_fits-requires
+lent_fits-requires c κs = search rules
 
-returns-4 : tie.Need-returns-4
+returns-then-not-lent_fits : tie.Need-returns-then-not-lent_fits
 unfolding refusal_of
-returns-4 c = search (cond_next, cond_not_here, cond_not_next, number_told) depth 12
+returns-then-not-lent_fits c = search (cond_next, cond_not_here, cond_not_next, number_told) depth 12
 
-tallies-fit-requires : tie.Need-tallies-fit-requires
-tallies-fit-requires c κs = search rules
+tallies_fit-requires : tie.Need-tallies_fit-requires
+tallies_fit-requires c κs = search rules
 
-returns-5 : tie.Need-returns-5
+returns-then-not-tallies_fit : tie.Need-returns-then-not-tallies_fit
 unfolding refusal_of
-returns-5 c = search (cond_next, cond_not_next, number_told, tallies_off) depth 12
+returns-then-not-tallies_fit c = search (cond_next, cond_not_next, number_told, tallies_off) depth 12
 
-returns-6 : tie.Need-returns-6
+returns : tie.Need-returns
 unfolding refusal_of
-returns-6 c = search (cond_next, cond_not_next, number_told, tallies_on) depth 12
+returns c = search (cond_next, cond_not_next, number_told, tallies_on) depth 12
 
 pub refuse_spec : {M : Type 1} → statement M
 refuse_spec =
     tie.close
     (tie.spec
-    cast-off-size
-    cast-off-size-2
-    cast-off-size-3
-    off-size-requires
-    returns
-    same-stage-requires
-    returns-2
+    overflow_cast-job
+    overflow_cast-job-2
+    overflow_cast-job-3
+    off_size-requires
+    returns-then-off_size
+    same_stage-requires
+    returns-then-not-same_stage
     numbered-requires
-    has-number-requires
-    returns-3
-    lent-fits-requires
-    returns-4
-    tallies-fit-requires
-    returns-5
-    returns-6)
+    has_number-requires
+    returns-then-not-has_number
+    lent_fits-requires
+    returns-then-not-lent_fits
+    tallies_fit-requires
+    returns-then-not-tallies_fit
+    returns)

@@ -4,21 +4,21 @@ use Rattle.reading_row.proofs.RowLaws.{ready, reading_refused, reading_accepted}
 use Rattle.reading_row.proofs.row.Statement.{statement}
 use Rattle.reading_row.proofs.row.Tie as tie
 
-refuse-requires : tie.Need-refuse-requires
-refuse-requires c κs = search rules
+refuse-declined-requires : tie.Need-refuse-declined-requires
+refuse-declined-requires c κs = search rules
 
-slice-aggregate-result : tie.Need-slice-aggregate-result
-slice-aggregate-result c = search rules
+slice_bounds-result-end : tie.Need-slice_bounds-result-end
+slice_bounds-result-end c = search rules
 
-returns : tie.Need-returns
-returns c = search reading_refused
+returns-then-declined-ne0 : tie.Need-returns-then-declined-ne0
+returns-then-declined-ne0 c = search reading_refused
 
 part-requires : tie.Need-part-requires
 part-requires c κs = search ready
 
-returns-2 : tie.Need-returns-2
-returns-2 c = search reading_accepted
+returns : tie.Need-returns
+returns c = search reading_accepted
 
 pub row_spec : {M : Type 1} → statement M
 row_spec =
-    tie.close (tie.spec refuse-requires slice-aggregate-result returns part-requires returns-2)
+    tie.close (tie.spec refuse-declined-requires slice_bounds-result-end returns-then-declined-ne0 part-requires returns)

@@ -10,23 +10,23 @@ clear-requires c κs = search rules
 clear-requires-2 : tie.Need-clear-requires-2
 clear-requires-2 c κs = search rules
 
-clear-sums-requires : tie.Need-clear-sums-requires
-clear-sums-requires c κs = search rules
+clear_sums-requires : tie.Need-clear_sums-requires
+clear_sums-requires c κs = search rules
 
-clear-counts-requires : tie.Need-clear-counts-requires
-clear-counts-requires c κs = search rules
+clear_counts-requires : tie.Need-clear_counts-requires
+clear_counts-requires c κs = search rules
 
-same_length : tie.Need-same-length
-same_length c = search rules
+shape_of-ticks : tie.Need-shape_of-ticks
+shape_of-ticks c = search rules
 
-same-length-2 : tie.Need-same-length-2
-same-length-2 c = search rules
+shape_of-came : tie.Need-shape_of-came
+shape_of-came c = search rules
 
-same-length-3 : tie.Need-same-length-3
-same-length-3 c = search rules
+shape_of-face_sums : tie.Need-shape_of-face_sums
+shape_of-face_sums c = search rules
 
-same-length-4 : tie.Need-same-length-4
-same-length-4 c = search rules
+shape_of-face_counts : tie.Need-shape_of-face_counts
+shape_of-face_counts c = search rules
 
 returns : tie.Need-returns
 returns c = search (rules, all_cleared)
@@ -37,10 +37,10 @@ accept_spec =
     (tie.spec
     clear-requires
     clear-requires-2
-    clear-sums-requires
-    clear-counts-requires
-    same_length
-    same-length-2
-    same-length-3
-    same-length-4
+    clear_sums-requires
+    clear_counts-requires
+    shape_of-ticks
+    shape_of-came
+    shape_of-face_sums
+    shape_of-face_counts
     returns)

@@ -1,6 +1,6 @@
 -- `methods::Joining::crossing` meets its contract.
 use borrow.Author.Rules.{rules}
-use Rattle.theory_service.specs.Contracts.{crossed}
+use Rattle.theory_service.specs.EntryContracts.{crossed}
 use Rattle.theory_service.proofs.Service.{called_step}
 use Rattle.methods.proofs.Joining.crossing.Statement.{statement}
 use Rattle.methods.proofs.Joining.crossing.Tie as tie

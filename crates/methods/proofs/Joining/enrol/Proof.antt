@@ -1,6 +1,6 @@
 -- `methods::Joining::enrol` meets its contract.
 use borrow.Author.Rules.{rules}
-use Rattle.theory_service.specs.Contracts.{enrolled}
+use Rattle.theory_service.specs.EntryContracts.{enrolled}
 use Rattle.theory_service.proofs.Service.{called_step}
 use Rattle.methods.proofs.Joining.enrol.Statement.{statement}
 use Rattle.methods.proofs.Joining.enrol.Tie as tie

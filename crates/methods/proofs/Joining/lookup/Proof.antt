@@ -1,6 +1,6 @@
 -- `methods::Joining::lookup` meets its contract.
 use borrow.Author.Rules.{rules}
-use Rattle.theory_service.specs.Contracts.{looked}
+use Rattle.theory_service.specs.EntryContracts.{looked}
 use Rattle.theory_service.proofs.Service.{called_step}
 use Rattle.methods.proofs.Joining.lookup.Statement.{statement}
 use Rattle.methods.proofs.Joining.lookup.Tie as tie

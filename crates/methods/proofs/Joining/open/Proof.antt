@@ -1,6 +1,6 @@
 -- `methods::Joining::open` meets its contract.
 use borrow.Author.Rules.{rules}
-use Rattle.theory_service.specs.Contracts.{opened}
+use Rattle.theory_service.specs.EntryContracts.{opened}
 use Rattle.theory_service.proofs.Service.{opened_opening}
 use Rattle.methods.proofs.Joining.open.Statement.{statement}
 use Rattle.methods.proofs.Joining.open.Tie as tie

@@ -1,6 +1,6 @@
 -- `methods::Joining::point` meets its contract.
 use borrow.Author.Rules.{rules}
-use Rattle.theory_service.specs.Contracts.{pointed}
+use Rattle.theory_service.specs.EntryContracts.{pointed}
 use Rattle.theory_service.proofs.Service.{called_step}
 use Rattle.methods.proofs.Joining.point.Statement.{statement}
 use Rattle.methods.proofs.Joining.point.Tie as tie

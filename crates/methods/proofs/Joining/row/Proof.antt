@@ -1,6 +1,6 @@
 -- `methods::Joining::row` meets its contract.
 use borrow.Author.Rules.{rules}
-use Rattle.theory_service.specs.Contracts.{read}
+use Rattle.theory_service.specs.EntryContracts.{read}
 use Rattle.theory_service.proofs.Service.{called_step}
 use Rattle.methods.proofs.Joining.row.Statement.{statement}
 use Rattle.methods.proofs.Joining.row.Tie as tie

@@ -1,6 +1,6 @@
 -- `methods::Joining::seam` meets its contract.
 use borrow.Author.Rules.{rules}
-use Rattle.theory_service.specs.Contracts.{joined}
+use Rattle.theory_service.specs.EntryContracts.{joined}
 use Rattle.theory_service.proofs.Service.{called_step}
 use Rattle.methods.proofs.Joining.seam.Statement.{statement}
 use Rattle.methods.proofs.Joining.seam.Tie as tie
