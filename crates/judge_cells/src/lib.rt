@@ -1,5 +1,6 @@
 // The tests of a list of cells that its two calls share: every cell is one of the grid, and the lists have one length.
 #![tactic(auto)]
+
 ghost use Rattle.std.specs.Prelude.{◌≡◌, ◌-◌, ◌*◌, min, ltb};
 ghost use Rattle.cells.specs.Box.{triple};
 ghost use Rattle.cells.specs.Grid.{sides};

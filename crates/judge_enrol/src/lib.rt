@@ -1,5 +1,6 @@
 // The tests of an enrolment: the judge's up to the lengths, then the tallies, and whether the map's faces and curves have room.
 #![tactic(auto)]
+
 ghost use Rattle.std.specs.Prelude.{◌≡◌, ◌+◌, ◌≤◌, ltb};
 ghost use Rattle.joiner.specs.Calls.{full};
 ghost use Rattle.job.specs.JobState.{by_kind, AnyCuts, job_of};

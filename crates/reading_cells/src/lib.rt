@@ -1,5 +1,6 @@
 // The answers of a list of cells of a closed job that are read from one block.
 #![tactic(auto)]
+
 ghost use Rattle.std.specs.Prelude.{◌≡◌, true, ◌&&◌, get_or, length};
 ghost use Rattle.lists.specs.Lists.{consecutive, tabulate, all_of, some_of};
 ghost use Rattle.cells.specs.Box.{triple};

@@ -1,5 +1,6 @@
 // The reading of a total: both sides of a face of a closed job, once the readings of all blocks have come.
 #![tactic(auto)]
+
 ghost use Rattle.std.specs.Prelude.{◌≡◌, ◌≤◌, ◌<◌};
 ghost use Rattle.lists.specs.Lists.{consecutive, all_of};
 ghost use Rattle.cells.specs.Box.{triple};

@@ -1,5 +1,6 @@
 // The numbers of the refusals (document 01, "What the service declines"). No refusal is 0.
 #![tactic(auto)]
+
 pub const OFF_SIZE: u32 = 1;
 
 pub const BAD_CUT: u32 = 2;

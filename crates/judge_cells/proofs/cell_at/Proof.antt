@@ -4,19 +4,19 @@ use Rattle.judge_cells.proofs.TestLaws.{at_is}
 use Rattle.judge_cells.proofs.cell_at.Statement.{statement}
 use Rattle.judge_cells.proofs.cell_at.Tie as tie
 
-read-or-zero-requires : tie.Need-read-or-zero-requires
-read-or-zero-requires c κs = search rules
+read_or_zero-requires : tie.Need-read_or_zero-requires
+read_or_zero-requires c κs = search rules
 
-read-or-zero-requires-2 : tie.Need-read-or-zero-requires-2
-read-or-zero-requires-2 c κs = search rules
+read_or_zero-requires-2 : tie.Need-read_or_zero-requires-2
+read_or_zero-requires-2 c κs = search rules
 
-read-or-zero-requires-3 : tie.Need-read-or-zero-requires-3
-read-or-zero-requires-3 c κs = search rules
+read_or_zero-requires-3 : tie.Need-read_or_zero-requires-3
+read_or_zero-requires-3 c κs = search rules
 
 returns : tie.Need-returns
-returns c = at_is _ _ _ _ _ c.before.before.read-or-zero.ensures c.before.read-or-zero2.ensures c.read-or-zero3.ensures
+returns c = at_is _ _ _ _ _ c.before.before.read_or_zero.ensures c.before.read_or_zero-2.ensures c.read_or_zero-3.ensures
 
 pub cell_at_spec : {M : Type 1} → statement M
 cell_at_spec =
     tie.close
-    (tie.spec read-or-zero-requires read-or-zero-requires-2 read-or-zero-requires-3 returns)
+    (tie.spec read_or_zero-requires read_or_zero-requires-2 read_or_zero-requires-3 returns)

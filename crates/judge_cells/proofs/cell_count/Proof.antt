@@ -11,7 +11,7 @@ less-requires-2 : tie.Need-less-requires-2
 less-requires-2 c κs = search rules
 
 returns : tie.Need-returns
-returns c = count_is _ _ _ c.before.less.ensures c.less2.ensures
+returns c = count_is _ _ _ c.before.less.ensures c.less-2.ensures
 
 pub cell_count_spec : {M : Type 1} → statement M
 cell_count_spec = tie.close (tie.spec less-requires less-requires-2 returns)

@@ -4,14 +4,14 @@ use Rattle.judge_cells.proofs.TestLaws.{axis_is}
 use Rattle.judge_cells.proofs.on_axis.Statement.{statement}
 use Rattle.judge_cells.proofs.on_axis.Tie as tie
 
-add-result : tie.Need-overflow-add-result
-add-result c = search rules
+overflow_add-result : tie.Need-overflow_add-result
+overflow_add-result c = search rules
 
-mul-result : tie.Need-overflow-mul-result
-mul-result c = search rules
+overflow_mul-result : tie.Need-overflow_mul-result
+overflow_mul-result c = search rules
 
 returns : tie.Need-returns
 returns c = search axis_is
 
 pub on_axis_spec : {M : Type 1} → statement M
-on_axis_spec = tie.close (tie.spec add-result mul-result returns)
+on_axis_spec = tie.close (tie.spec overflow_add-result overflow_mul-result returns)

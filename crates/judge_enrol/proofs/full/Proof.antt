@@ -7,14 +7,14 @@ use Rattle.judge_enrol.proofs.full.Tie as tie
 overfull-requires : tie.Need-overfull-requires
 overfull-requires c κs = search rules
 
-returns : tie.Need-returns
-returns c = search full_here
+returns-then-overfull : tie.Need-returns-then-overfull
+returns-then-overfull c = search full_here
 
 overfull-requires-2 : tie.Need-overfull-requires-2
 overfull-requires-2 c κs = search rules
 
-returns-2 : tie.Need-returns-2
-returns-2 c = search (rules, full_next)
+returns : tie.Need-returns
+returns c = search (rules, full_next)
 
 pub full_spec : {M : Type 1} → statement M
-full_spec = tie.close (tie.spec overfull-requires returns overfull-requires-2 returns-2)
+full_spec = tie.close (tie.spec overfull-requires returns-then-overfull overfull-requires-2 returns)

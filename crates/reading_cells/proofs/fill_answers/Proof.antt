@@ -10,92 +10,92 @@ use Rattle.reading_cells.proofs.AnswerLaws.{FilledTo, answers_more, answers_all}
 use Rattle.reading_cells.proofs.fill_answers.Statement.{statement}
 use Rattle.reading_cells.proofs.fill_answers.Tie as tie
 
-abbrev invariant-loop : tie.invariant-loop
-invariant-loop job from face-numbers curve-numbers point-firsts m xs ys zs answers₀ i₀ answers i =
+abbrev invariant-loop-i : tie.invariant-loop-i
+invariant-loop-i job from face-numbers curve-numbers point-firsts m xs ys zs answers₀ i₀ answers i =
     (i ≤ length answers₀) × (length answers ≡ length answers₀) × FilledTo job from face-numbers curve-numbers point-firsts m (cell_lists xs ys zs) answers₀ i answers
 
-abbrev decreases-loop : tie.decreases-loop
-decreases-loop job from face-numbers curve-numbers point-firsts m xs ys zs answers₀ i₀ answers i = length answers₀ - i
+abbrev decreases-loop-i : tie.decreases-loop-i
+decreases-loop-i job from face-numbers curve-numbers point-firsts m xs ys zs answers₀ i₀ answers i = length answers₀ - i
 
 -- The start, from a turn of the loop.
-abbrev start : tie.At-loop invariant-loop decreases-loop → tie.Start invariant-loop decreases-loop
+abbrev start : tie.At-loop-i invariant-loop-i decreases-loop-i → tie.Start invariant-loop-i decreases-loop-i
 start turn =
     let lists = turn.before.before.before.before in
     let numbers = lists.before.before.before.before in
     numbers.before
 
 -- Places are below the limit.
-few_places : (turn : tie.In-loop invariant-loop decreases-loop) → turn.before.loop.i < 4096
-few_places turn = omega (arith, turn.before.loop.invariant.1, (start turn.before).pre.few)
+few_places : (turn : tie.In-loop-i invariant-loop-i decreases-loop-i) → turn.before.loop-i.i < 4096
+few_places turn = omega (arith, turn.before.loop-i.invariant.1, (start turn.before).requires.few)
 
-loop-holds : tie.Need-loop-init invariant-loop decreases-loop
-loop-holds c = (omega arith, refl, front_none _ _)
+loop-i-init : tie.Need-loop-i-init invariant-loop-i decreases-loop-i
+loop-i-init c = (omega arith, refl, front_none _ _)
 
-cell-at-requires : tie.Need-cell-at-requires invariant-loop decreases-loop
-cell-at-requires c κs = search rules
+cell_at-c-requires : tie.Need-cell_at-c-requires invariant-loop-i decreases-loop-i
+cell_at-c-requires c κs = search rules
 
-mul-old : tie.Need-overflow-mul-old invariant-loop decreases-loop
-mul-old c = let few = few_places c.before in search (rules, few)
+offset_bounds-answers-i : tie.Need-offset_bounds-answers-i invariant-loop-i decreases-loop-i
+offset_bounds-answers-i c = let few = few_places c.before in search (rules, few)
 
-slice-read-old : tie.Need-slice-read-old invariant-loop decreases-loop
-slice-read-old c = search rules
+bounds-answers-i : tie.Need-bounds-answers-i invariant-loop-i decreases-loop-i
+bounds-answers-i c = search rules
 
-answer-at-requires : tie.Need-answer-at-requires invariant-loop decreases-loop
-answer-at-requires c κs =
+answer_at-requires : tie.Need-answer_at-requires invariant-loop-i decreases-loop-i
+answer_at-requires c κs =
     let at = c.before in
     let turn = at.before.before in
     let B = (start turn).requires in
-    (B.sized, B.small_block, rw at.Cell-at.ensures (B.inside _ (omega (arith, turn.loop.invariant.1))))
+    (B.sized, B.small_block, rw at.cell_at-c.ensures (B.inside _ (omega (arith, turn.loop-i.invariant.1))))
 
-mul-answers : tie.Need-overflow-mul-answers invariant-loop decreases-loop
-mul-answers c = let few = few_places c.before.before.before in search (rules, few)
+offset_bounds-answers-i-in-loop-i : tie.Need-offset_bounds-answers-i-in-loop-i invariant-loop-i decreases-loop-i
+offset_bounds-answers-i-in-loop-i c = let few = few_places c.before.before.before in search (rules, few)
 
-slice-write-answers : tie.Need-slice-write-answers invariant-loop decreases-loop
-slice-write-answers c = search rules
+bounds-answers-i-in-loop-i : tie.Need-bounds-answers-i-in-loop-i invariant-loop-i decreases-loop-i
+bounds-answers-i-in-loop-i c = search rules
 
-add-i : tie.Need-overflow-add-i invariant-loop decreases-loop
-add-i c = let few = few_places c.before.before.before in search (rules, few)
+overflow_add-i : tie.Need-overflow_add-i invariant-loop-i decreases-loop-i
+overflow_add-i c = let few = few_places c.before.before.before in search (rules, few)
 
-loop-less : tie.Need-loop-smaller invariant-loop decreases-loop
-loop-less c = search rules
+loop-i-smaller : tie.Need-loop-i-smaller invariant-loop-i decreases-loop-i
+loop-i-smaller c = search rules
 
-loop-again : tie.Need-loop-preserved invariant-loop decreases-loop
-loop-again c =
+loop-i-preserved : tie.Need-loop-i-preserved invariant-loop-i decreases-loop-i
+loop-i-preserved c =
     let at = c.before.before in
     let turn = at.before.before in
-    let now = turn.loop in
+    let now = turn.loop-i in
     let held = now.invariant in
     let inside : now.i < length (start turn).args.answers.now = omega (arith, held.1) in (
       omega (arith, inside),
       length-set {A = ℕ} now.answers now.i c.answer_at.result ∙ held.1,
-      answers_more _ _ _ _ _ _ _ (start turn).args.answers.now _ _ _ _ _ _ _ inside held.2 at.Cell-at.ensures refl c.answer_at.ensures,
+      answers_more _ _ _ _ _ _ _ (start turn).args.answers.now _ _ _ _ _ _ _ inside held.2 at.cell_at-c.ensures refl c.answer_at.ensures,
     )
 
-same_length : tie.Need-same-length invariant-loop decreases-loop
-same_length c = search rules
+shape_of-answers : tie.Need-shape_of-answers invariant-loop-i decreases-loop-i
+shape_of-answers c = search rules
 
-returns : tie.Need-returns invariant-loop decreases-loop
+returns : tie.Need-returns invariant-loop-i decreases-loop-i
 returns c =
     let turn = c.before in
-    let held = turn.loop.invariant in
-    let done : turn.loop.i ≡ length (start turn).args.answers.now = omega (arith, held.0, held.1) in
+    let held = turn.loop-i.invariant in
+    let done : turn.loop-i.i ≡ length (start turn).args.answers.now = omega (arith, held.0, held.1) in
     answers_all _ _ _ _ _ _ _ (start turn).args.answers.now _ _ done held.2
 
 pub fill_answers_spec : {M : Type 1} → statement M
 fill_answers_spec =
     tie.close
     (tie.spec
-    invariant-loop
-    decreases-loop
-    loop-holds
-    cell-at-requires
-    mul-old
-    slice-read-old
-    answer-at-requires
-    mul-answers
-    slice-write-answers
-    add-i
-    loop-less
-    loop-again
-    same_length
+    invariant-loop-i
+    decreases-loop-i
+    loop-i-init
+    cell_at-c-requires
+    offset_bounds-answers-i
+    bounds-answers-i
+    answer_at-requires
+    offset_bounds-answers-i-in-loop-i
+    bounds-answers-i-in-loop-i
+    overflow_add-i
+    loop-i-smaller
+    loop-i-preserved
+    shape_of-answers
     returns)

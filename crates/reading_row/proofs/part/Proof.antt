@@ -9,19 +9,19 @@ enum_told-1 : tie.Need-enum_told-1
 enum_told-1 c = search rules
 
 row_of-requires : tie.Need-row_of-requires
-row_of-requires c κs = let lent = c.before.before in row_there _ _ _ _ _ Kind.Face c.enum_told-1.given.1 lent.before.before.before.requires
+row_of-requires c κs = let lent = c.before.before in row_there _ _ _ _ _ Kind.Face c.in-Face.is lent.before.before.requires
 
 enum_told-in-Curve : tie.Need-enum_told-in-Curve
 enum_told-in-Curve c = search rules
 
 row_of-requires-in-Curve : tie.Need-row_of-requires-in-Curve
-row_of-requires-in-Curve c κs = let lent = c.before.before in row_there _ _ _ _ _ Kind.Curve c.enum_told-in-Curve-1.given.1 lent.before.before.before.requires
+row_of-requires-in-Curve c κs = let lent = c.before.before in row_there _ _ _ _ _ Kind.Curve c.in-Curve.is lent.before.before.requires
 
 enum_told-in-Point : tie.Need-enum_told-in-Point
 enum_told-in-Point c = search rules
 
 row_of-requires-in-Point : tie.Need-row_of-requires-in-Point
-row_of-requires-in-Point c κs = let lent = c.before.before in row_there _ _ _ _ _ Kind.Point c.enum_told-in-Point-1.given.1 lent.before.before.before.requires
+row_of-requires-in-Point c κs = let lent = c.before.before in row_there _ _ _ _ _ Kind.Point c.in-Point.is lent.before.before.requires
 
 returns-in-Face : tie.Need-returns-in-Face
 returns-in-Face c = search row_same

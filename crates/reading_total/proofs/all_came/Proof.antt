@@ -1,4 +1,6 @@
 -- `reading_total::all_came` meets its contract.
+use mathlib.Core.Bool.{not}
+use mathlib.Core.Path.{ap}
 use Prim.Native.Nat.{◌-◌, ◌≤◌}
 use native.Mathlib.Omega.{arith}
 use borrow.Author.Rules.{rules}
@@ -7,43 +9,43 @@ use Rattle.stages.specs.Ticks.{ticked_in}
 use Rattle.reading_total.proofs.all_came.Statement.{statement}
 use Rattle.reading_total.proofs.all_came.Tie as tie
 
-abbrev invariant-loop : tie.invariant-loop
-invariant-loop came count i₀ i = (i ≤ count) × TrueBelow (ticked_in came) i
+abbrev invariant-loop-i : tie.invariant-loop-i
+invariant-loop-i came count i₀ i = (i ≤ count) × TrueBelow (ticked_in came) i
 
-abbrev decreases-loop : tie.decreases-loop
-decreases-loop came count i₀ i = count - i
+abbrev decreases-loop-i : tie.decreases-loop-i
+decreases-loop-i came count i₀ i = count - i
 
-loop-holds : tie.Need-loop-init invariant-loop decreases-loop
-loop-holds c = (omega arith, true_below_none _)
+loop-i-init : tie.Need-loop-i-init invariant-loop-i decreases-loop-i
+loop-i-init c = (omega arith, true_below_none _)
 
-is-ticked-requires : tie.Need-is-ticked-requires invariant-loop decreases-loop
-is-ticked-requires c κs = search rules
+is_ticked-requires : tie.Need-is_ticked-requires invariant-loop-i decreases-loop-i
+is_ticked-requires c κs = search rules
 
-returns : tie.Need-returns invariant-loop decreases-loop
-returns c = true_below_broken _ _ _ _ (omega arith) c.before.is-ticked.ensures c.if1.true
+returns-then-not-is_ticked : tie.Need-returns-then-not-is_ticked invariant-loop-i decreases-loop-i
+returns-then-not-is_ticked c = true_below_broken _ _ _ _ (omega arith) c.before.is_ticked.ensures (ap not c.if-not-is_ticked.true)
 
-add-i : tie.Need-overflow-add-i invariant-loop decreases-loop
-add-i c = search rules
+overflow_add-i : tie.Need-overflow_add-i invariant-loop-i decreases-loop-i
+overflow_add-i c = search rules
 
-loop-less : tie.Need-loop-smaller invariant-loop decreases-loop
-loop-less c = search rules
+loop-i-smaller : tie.Need-loop-i-smaller invariant-loop-i decreases-loop-i
+loop-i-smaller c = search rules
 
-loop-again : tie.Need-loop-preserved invariant-loop decreases-loop
-loop-again c = (search rules, true_below_more _ _ _ c.before.before.before.loop.invariant.1 c.before.is-ticked.ensures c.if1.false)
+loop-i-preserved : tie.Need-loop-i-preserved invariant-loop-i decreases-loop-i
+loop-i-preserved c = (search rules, true_below_more _ _ _ c.before.before.before.loop-i.invariant.1 c.before.is_ticked.ensures (ap not c.if-not-is_ticked.false))
 
-returns-2 : tie.Need-returns-2 invariant-loop decreases-loop
-returns-2 c = search true_below_all
+returns : tie.Need-returns invariant-loop-i decreases-loop-i
+returns c = search true_below_all
 
 pub all_came_spec : {M : Type 1} → statement M
 all_came_spec =
     tie.close
     (tie.spec
-    invariant-loop
-    decreases-loop
-    loop-holds
-    is-ticked-requires
-    returns
-    add-i
-    loop-less
-    loop-again
-    returns-2)
+    invariant-loop-i
+    decreases-loop-i
+    loop-i-init
+    is_ticked-requires
+    returns-then-not-is_ticked
+    overflow_add-i
+    loop-i-smaller
+    loop-i-preserved
+    returns)
