@@ -70,7 +70,7 @@ class Declare(unittest.TestCase):
         for path, old, new, told in (
             ('crates/service/src/lib.rt', 'fn tugrelis_seam(', 'fn tugrelis_stitch(', 'seam, stitch'),
             ('crates/service/src/lib.rt', 'codes: &[u32]', 'codes: &[Code]', 'codes: &[Code] cannot be exported'),
-            ('crates/service/src/lib.rt', '#[no_mangle]\n', '#[no_mangle]\n#[cold]\n', 'another form'),
+            ('crates/service/src/lib.rt', '#[unsafe(no_mangle)]\n', '#[unsafe(no_mangle)]\n#[cold]\n', 'another form'),
             ('crates/refusals/src/lib.rt', 'pub const BAD_CUT', 'pub const BAD_CUTS', 'BAD_CUT, BAD_CUTS'),
             ('host/tugrelis.h.in', '. */\n@label@', '. */\n\n@label@', 'label'),
             ('host/tugrelis.h.in', '@label@', '@label@\n@label@', 'label'),

@@ -1,21 +1,24 @@
 """Tests of what host/sample says while it proves, with a stand-in for rt that ends with a failure."""
 import os
+import re
 import subprocess
 import tempfile
 import unittest
 
 ROOT = os.path.dirname(os.path.dirname(os.path.abspath(__file__)))
 FAILS_IN_PROVING = '''#!/bin/sh
-echo "logic=proved functions=1"
-echo "rt: lists proved (2 s)"
-echo "rt: cells proved (unchanged since it was last proved)"
-echo "rt: rows NOT PROVED (exit 1, 3 s)"
-echo "rt: FAILED: rows"
+echo "fn lists::count: proved"
+echo "crate lists: modules loaded=30 checked=7"
+echo "logic=proved functions=1 sum=0"
+echo "crate cells: modules loaded=8 checked=0"
+echo "logic=proved functions=0 sum=0"
+echo "crate rows: modules loaded=9 checked=1"
+echo "logic=not-proved"
+echo "rt: the library rows did not build, so nothing above it was checked" >&2
 exit 1
 '''
 FAILS_IN_BUILDING = '''#!/bin/sh
-[ "$1" = check ] && exit 0
-echo "rt: the link failed" >&2
+echo "rt: the library was not compiled" >&2
 exit 2
 '''
 
@@ -23,8 +26,8 @@ exit 2
 def reached(crate):
     """The crate and all that it uses, itself or through others: what rt proves for it."""
     with open(os.path.join(ROOT, 'crates.txt'), encoding='utf-8') as f:
-        lines = [line for line in f if line.startswith(crate + ':')]
-    return {crate}.union(*(reached(name) for line in lines for name in line.split(':')[1].split()))
+        lines = [line.split(':')[1] for line in f if re.match(rf'{crate}( staticlib)?:', line)]
+    return {crate}.union(*(reached(name) for line in lines for name in line.split()))
 
 
 class Sample(unittest.TestCase):
@@ -42,7 +45,7 @@ class Sample(unittest.TestCase):
     def test_progress_and_a_crate_that_is_not_proved(self):
         many = len(reached('service'))
         told, said = self.sample(FAILS_IN_PROVING)
-        self.assertIn('rt: rows NOT PROVED (exit 1, 3 s)\nrt: FAILED: rows\n', told)
+        self.assertIn('logic=not-proved\nrt: the library rows did not build, so nothing above it was checked\n', told)
         lines = said.splitlines()
         self.assertEqual(len(lines), 3, said)
         self.assertIn(f'proving {many} crates', lines[0])
@@ -51,7 +54,7 @@ class Sample(unittest.TestCase):
 
     def test_a_library_that_is_not_built(self):
         told, _ = self.sample(FAILS_IN_BUILDING)
-        self.assertIn('rt: the link failed\n', told)
+        self.assertIn('rt: the library was not compiled\n', told)
 
 
 if __name__ == '__main__':

@@ -1,6 +1,8 @@
 // Examples of block records, written and read back, and damaged in each way that document 01 names. One line each.
 #![tactic(auto)]
+
 use reader::{Head, read_record};
+use std::io;
 use writer::write_record;
 
 // What is printed where an example could not be tried. No refusal has this number.
@@ -39,18 +41,15 @@ fn same(a: &[u32], b: &[u32]) -> bool {
 }
 
 // Writes " WHAT NUMBER".
-fn tell(what: &[u8], number: u64) {
-    io::write_all(1, b" ");
-    io::write_all(1, what);
-    io::write_all(1, b" ");
-    io::print_decimal(1, number);
+fn tell(rt: &impl Print, what: &str, number: u64) -> io::Result<()> {
+    print!(rt; " {what} {number}")
 }
 
 // Writes the line "NAME WHAT NUMBER".
-fn say(name: &[u8], what: &[u8], number: u32) {
-    io::write_all(1, name);
-    tell(what, number as u64);
-    io::write_all(1, b"\n");
+fn say(rt: &impl Print, name: &str, what: &str, number: u32) -> io::Result<()> {
+    print!(rt; "{name}")?;
+    tell(rt, what, number as u64)?;
+    println!(rt; "")
 }
 
 fn wide(b: u8) -> u64 {
@@ -58,18 +57,18 @@ fn wide(b: u8) -> u64 {
 }
 
 // Writes the first n bytes of a tray on a line, where they are few.
-fn show(name: &[u8], tray: &[u8], n: usize) {
+fn show(rt: &impl Print, name: &str, tray: &[u8], n: usize) -> io::Result<()> {
     if n > 99 || n > tray.len() {
-        return;
+        return Ok(());
     }
-    io::write_all(1, name);
+    print!(rt; "{name}")?;
     let mut i: usize = 0;
     while i < n {
-        io::write_all(1, b" ");
-        io::print_decimal(1, wide(tray[i]));
+        let number = wide(tray[i]);
+        print!(rt; " {number}")?;
         i += 1;
     }
-    io::write_all(1, b"\n");
+    println!(rt; "")
 }
 
 // Reads the first n bytes of a tray.
@@ -151,109 +150,118 @@ fn placed(h: Head, nx: u16, ny: u16, nz: u16) -> bool {
 
 // Writes a map, reads it back, and answers the length of the record. What is special of the map stands after the name.
 fn round(
-    name: &[u8],
-    what: &[u8],
+    rt: &impl Print,
+    name: &str,
+    what: &str,
     nx: u16,
     ny: u16,
     nz: u16,
     map: &[u32],
     back: &mut [u32],
     tray: &mut [u8],
-) -> usize {
+) -> io::Result<usize> {
     let w = write_record(nx, ny, nz, 1, 2, 3, map, tray);
     let h = read_front(tray, w.length, back);
     let alike = placed(h, nx, ny, nz) && same(map, back);
-    io::write_all(1, name);
-    io::write_all(1, what);
-    tell(b"write", w.refusal as u64);
-    tell(b"length", w.length as u64);
-    tell(b"read", h.refusal as u64);
-    tell(b"same", alike as u64);
-    io::write_all(1, b"\n");
-    w.length
+    print!(rt; "{name}{what}")?;
+    tell(rt, "write", w.refusal as u64)?;
+    tell(rt, "length", w.length as u64)?;
+    tell(rt, "read", h.refusal as u64)?;
+    tell(rt, "same", alike as u64)?;
+    println!(rt; "")?;
+    Ok(w.length)
 }
 
 // Records with bits or numbers that are wrong.
-fn bits(name: &[u8], tray: &[u8; 700], n: usize, c: usize) {
+fn bits(rt: &impl Print, name: &str, tray: &[u8; 700], n: usize, c: usize) -> io::Result<()> {
     if c < 1 {
-        return;
+        return Ok(());
     }
     if c > 127 {
-        return;
+        return Ok(());
     }
     if n < 4 {
-        return;
+        return Ok(());
     }
     let end = 8 * ((c + 7) / 8);
-    say(name, b"spare", refused_bit(tray, c, n, c));
-    say(name, b"last spare", refused_bit(tray, end - 1, n, c));
-    say(name, b"zero", refused_zero(tray, n - 4, n, c));
+    say(rt, name, "spare", refused_bit(tray, c, n, c))?;
+    say(rt, name, "last spare", refused_bit(tray, end - 1, n, c))?;
+    say(rt, name, "zero", refused_zero(tray, n - 4, n, c))
 }
 
 // Records with the bit of a voxel cleared and 4 bytes less: those of another map, with that voxel outside.
-fn voxels(name: &[u8], tray: &[u8; 700], n: usize, c: usize) {
+fn voxels(rt: &impl Print, name: &str, tray: &[u8; 700], n: usize, c: usize) -> io::Result<()> {
     if c < 1 {
-        return;
+        return Ok(());
     }
     if n < 4 {
-        return;
+        return Ok(());
     }
-    say(name, b"voxel", refused_bit(tray, 0, n - 4, c));
-    say(name, b"last voxel", refused_bit(tray, c - 1, n - 4, c));
+    say(rt, name, "voxel", refused_bit(tray, 0, n - 4, c))?;
+    say(rt, name, "last voxel", refused_bit(tray, c - 1, n - 4, c))
 }
 
 // Records whose length is wrong.
-fn lengths(name: &[u8], tray: &[u8; 700], n: usize, c: usize) {
+fn lengths(rt: &impl Print, name: &str, tray: &[u8; 700], n: usize, c: usize) -> io::Result<()> {
     if n < 1 {
-        return;
+        return Ok(());
     }
     if n > 699 {
-        return;
+        return Ok(());
     }
-    say(name, b"too few", refused(tray, n - 1, c));
-    say(name, b"too many", refused(tray, n + 1, c));
-    say(name, b"head alone", refused(tray, 12, c));
-    say(name, b"11 bytes", refused(tray, 11, c));
-    say(name, b"no bytes", refused(tray, 0, c));
+    say(rt, name, "too few", refused(tray, n - 1, c))?;
+    say(rt, name, "too many", refused(tray, n + 1, c))?;
+    say(rt, name, "head alone", refused(tray, 12, c))?;
+    say(rt, name, "11 bytes", refused(tray, 11, c))?;
+    say(rt, name, "no bytes", refused(tray, 0, c))
 }
 
 // Map trays whose length is wrong.
-fn trays(name: &[u8], tray: &[u8; 700], n: usize, c: usize) {
+fn trays(rt: &impl Print, name: &str, tray: &[u8; 700], n: usize, c: usize) -> io::Result<()> {
     if c < 1 {
-        return;
+        return Ok(());
     }
     if c > 127 {
-        return;
+        return Ok(());
     }
-    say(name, b"short map", refused(tray, n, c - 1));
-    say(name, b"long map", refused(tray, n, c + 1));
+    say(rt, name, "short map", refused(tray, n, c - 1))?;
+    say(rt, name, "long map", refused(tray, n, c + 1))
 }
 
 // Records whose extents or origin are off size. Byte 7 is the high one of the first origin.
-fn heads(name: &[u8], tray: &[u8; 700], n: usize, c: usize) {
-    say(name, b"x 0", refused_byte(tray, 0, 0, n, c));
-    say(name, b"y 0", refused_byte(tray, 2, 0, n, c));
-    say(name, b"z 0", refused_byte(tray, 4, 0, n, c));
-    say(name, b"x 65", refused_byte(tray, 0, 65, n, c));
-    say(name, b"y 65", refused_byte(tray, 2, 65, n, c));
-    say(name, b"z 65", refused_byte(tray, 4, 65, n, c));
-    say(name, b"origin 1025", refused_byte(tray, 7, 4, n, c));
+fn heads(rt: &impl Print, name: &str, tray: &[u8; 700], n: usize, c: usize) -> io::Result<()> {
+    say(rt, name, "x 0", refused_byte(tray, 0, 0, n, c))?;
+    say(rt, name, "y 0", refused_byte(tray, 2, 0, n, c))?;
+    say(rt, name, "z 0", refused_byte(tray, 4, 0, n, c))?;
+    say(rt, name, "x 65", refused_byte(tray, 0, 65, n, c))?;
+    say(rt, name, "y 65", refused_byte(tray, 2, 65, n, c))?;
+    say(rt, name, "z 65", refused_byte(tray, 4, 65, n, c))?;
+    say(rt, name, "origin 1025", refused_byte(tray, 7, 4, n, c))
 }
 
 // Writings whose extents, origin or tray are wrong, and one whose tray is just long enough.
-fn writings(name: &[u8], nx: u16, ny: u16, nz: u16, map: &[u32], n: usize) {
+fn writings(
+    rt: &impl Print,
+    name: &str,
+    nx: u16,
+    ny: u16,
+    nz: u16,
+    map: &[u32],
+    n: usize,
+) -> io::Result<()> {
     if n < 1 {
-        return;
+        return Ok(());
     }
-    say(name, b"write x 0", declined(0, ny, nz, 1, map, n));
-    say(name, b"write y 65", declined(nx, 65, nz, 1, map, n));
+    say(rt, name, "write x 0", declined(0, ny, nz, 1, map, n))?;
+    say(rt, name, "write y 65", declined(nx, 65, nz, 1, map, n))?;
     say(
+        rt,
         name,
-        b"write origin 1024",
+        "write origin 1024",
         declined(nx, ny, nz, 1024, map, n),
-    );
-    say(name, b"write full", declined(nx, ny, nz, 1, map, n));
-    say(name, b"write short", declined(nx, ny, nz, 1, map, n - 1));
+    )?;
+    say(rt, name, "write full", declined(nx, ny, nz, 1, map, n))?;
+    say(rt, name, "write short", declined(nx, ny, nz, 1, map, n - 1))
 }
 
 // Puts a voxel outside.
@@ -264,68 +272,92 @@ fn put_outside(map: &mut [u32], p: usize) {
 }
 
 // A map with 0 at the last voxel, and one with 0 at the first too, written and read back.
-fn outside(name: &[u8], nx: u16, ny: u16, nz: u16, map: &mut [u32], back: &mut [u32]) {
+fn outside(
+    rt: &impl Print,
+    name: &str,
+    nx: u16,
+    ny: u16,
+    nz: u16,
+    map: &mut [u32],
+    back: &mut [u32],
+) -> io::Result<()> {
     if map.len() == 0 {
-        return;
+        return Ok(());
     }
     let last = map.len() - 1;
     let mut tray = [0u8; 700];
     put_outside(map, last);
-    round(name, b" last outside", nx, ny, nz, map, back, &mut tray);
+    round(rt, name, " last outside", nx, ny, nz, map, back, &mut tray)?;
     put_outside(map, 0);
-    let n = round(name, b" both outside", nx, ny, nz, map, back, &mut tray);
-    show(name, &tray, n);
+    let n = round(rt, name, " both outside", nx, ny, nz, map, back, &mut tray)?;
+    show(rt, name, &tray, n)
 }
 
 // Writes a map, reads it back, reads what is damaged, and answers the length of the record.
-fn readings(name: &[u8], nx: u16, ny: u16, nz: u16, map: &[u32], back: &mut [u32]) -> usize {
+fn readings(
+    rt: &impl Print,
+    name: &str,
+    nx: u16,
+    ny: u16,
+    nz: u16,
+    map: &[u32],
+    back: &mut [u32],
+) -> io::Result<usize> {
     let mut tray = [0u8; 700];
     let c = map.len();
-    let n = round(name, b"", nx, ny, nz, map, back, &mut tray);
-    show(name, &tray, n);
-    bits(name, &tray, n, c);
-    voxels(name, &tray, n, c);
-    lengths(name, &tray, n, c);
-    trays(name, &tray, n, c);
-    heads(name, &tray, n, c);
-    n
+    let n = round(rt, name, "", nx, ny, nz, map, back, &mut tray)?;
+    show(rt, name, &tray, n)?;
+    bits(rt, name, &tray, n, c)?;
+    voxels(rt, name, &tray, n, c)?;
+    lengths(rt, name, &tray, n, c)?;
+    trays(rt, name, &tray, n, c)?;
+    heads(rt, name, &tray, n, c)?;
+    Ok(n)
 }
 
 // All examples of one shape.
-fn shape(name: &[u8], nx: u16, ny: u16, nz: u16, map: &mut [u32], back: &mut [u32]) {
+fn shape(
+    rt: &impl Print,
+    name: &str,
+    nx: u16,
+    ny: u16,
+    nz: u16,
+    map: &mut [u32],
+    back: &mut [u32],
+) -> io::Result<()> {
     fill(map);
-    let n = readings(name, nx, ny, nz, map, back);
-    writings(name, nx, ny, nz, map, n);
-    outside(name, nx, ny, nz, map, back);
+    let n = readings(rt, name, nx, ny, nz, map, back)?;
+    writings(rt, name, nx, ny, nz, map, n)?;
+    outside(rt, name, nx, ny, nz, map, back)
 }
 
-fn one() {
+fn one(rt: &impl Print) -> io::Result<()> {
     let mut map = [0u32; 1];
     let mut back = [0u32; 1];
-    shape(b"1x1x1", 1, 1, 1, &mut map, &mut back);
+    shape(rt, "1x1x1", 1, 1, 1, &mut map, &mut back)
 }
 
-fn row() {
+fn row(rt: &impl Print) -> io::Result<()> {
     let mut map = [0u32; 127];
     let mut back = [0u32; 127];
-    shape(b"64x1x1", 64, 1, 1, &mut map, &mut back);
+    shape(rt, "64x1x1", 64, 1, 1, &mut map, &mut back)
 }
 
-fn flat() {
+fn flat(rt: &impl Print) -> io::Result<()> {
     let mut map = [0u32; 15];
     let mut back = [0u32; 15];
-    shape(b"2x3x1", 2, 3, 1, &mut map, &mut back);
+    shape(rt, "2x3x1", 2, 3, 1, &mut map, &mut back)
 }
 
-fn solid() {
+fn solid(rt: &impl Print) -> io::Result<()> {
     let mut map = [0u32; 75];
     let mut back = [0u32; 75];
-    shape(b"3x3x2", 3, 3, 2, &mut map, &mut back);
+    shape(rt, "3x3x2", 3, 3, 2, &mut map, &mut back)
 }
 
-fn main() {
-    one();
-    row();
-    flat();
-    solid();
+fn main(rt: HostRuntime) -> io::Result<()> {
+    one(&rt)?;
+    row(&rt)?;
+    flat(&rt)?;
+    solid(&rt)
 }
