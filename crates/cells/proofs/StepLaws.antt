@@ -11,33 +11,33 @@ use Rattle.cells.specs.Steps.{steps_along, steps_of, step_at, pattern, moved}
 use Rattle.cells.proofs.GridLaws.{odd_lt}
 
 -- a property of each entry of a list
-abbrev pub All : (ℕ → Type 0) → List ℕ → Type 0
-All P [] = Unit {0}
-All P (x ∷ xs) = P x × All P xs
+abbrev pub AllOf : (ℕ → Type 0) → List ℕ → Type 0
+AllOf P [] = Unit {0}
+AllOf P (x ∷ xs) = P x × AllOf P xs
 
 module _ (P : ℕ → Type 0) where
-  all_get_d : (l : List ℕ) → P 0 → All P l → (k : ℕ) → P (get_or l k 0)
-  all_get_d [] z a k = z
-  all_get_d (x ∷ l) z a zero = a.0
-  all_get_d (x ∷ l) z a (suc k) = all_get_d l z a.1 k
+  all_get_or : (l : List ℕ) → P 0 → AllOf P l → (k : ℕ) → P (get_or l k 0)
+  all_get_or [] z a k = z
+  all_get_or (x ∷ l) z a zero = a.0
+  all_get_or (x ∷ l) z a (suc k) = all_get_or l z a.1 k
 
-  all_append : (l m : List ℕ) → All P l → All P m → All P (l ++ m)
+  all_append : (l m : List ℕ) → AllOf P l → AllOf P m → AllOf P (l ++ m)
   all_append [] m a b = b
   all_append (x ∷ l) m a b = (a.0, all_append l m a.1 b)
 
-  all_along : (t s : ℕ) → t < 2 → (t ≡ 1 → P s × P (s + 1)) → All P (steps_along t s)
+  all_along : (t s : ℕ) → t < 2 → (t ≡ 1 → P s × P (s + 1)) → AllOf P (steps_along t s)
   all_along zero s h f = tt
   all_along (suc t) s h f = let g = f (omega arith) in (g.0, (g.1, tt))
 
   -- what holds of both steps along each odd axis holds of every step of a pattern
-  pub all_steps_of : (b : ℕ) → (b % 2 ≡ 1 → P 1 × P 2) → (b / 2 % 2 ≡ 1 → P 3 × P 4) → (b / 4 % 2 ≡ 1 → P 5 × P 6) → All P (steps_of b)
+  pub all_steps_of : (b : ℕ) → (b % 2 ≡ 1 → P 1 × P 2) → (b / 2 % 2 ≡ 1 → P 3 × P 4) → (b / 4 % 2 ≡ 1 → P 5 × P 6) → AllOf P (steps_of b)
   all_steps_of b x y z =
       all_append (steps_along (b % 2) 1 ++ steps_along (b / 2 % 2) 3) (steps_along (b / 4 % 2) 5)
       (all_append (steps_along (b % 2) 1) (steps_along (b / 2 % 2) 3) (all_along (b % 2) 1 (omega arith) x) (all_along (b / 2 % 2) 3 (omega arith) y))
       (all_along (b / 4 % 2) 5 (omega arith) z)
 
   pub all_steps : (b : ℕ) → P 0 → (b % 2 ≡ 1 → P 1 × P 2) → (b / 2 % 2 ≡ 1 → P 3 × P 4) → (b / 4 % 2 ≡ 1 → P 5 × P 6) → (k : ℕ) → P (step_at b k)
-  all_steps b o x y z = all_get_d (steps_of b) o (all_steps_of b x y z)
+  all_steps b o x y z = all_get_or (steps_of b) o (all_steps_of b x y z)
 
 -- a step is one of 0 to 6
 pub step_lt : (b k : ℕ) → step_at b k < 7

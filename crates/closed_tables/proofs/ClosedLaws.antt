@@ -6,7 +6,7 @@ use Prim.Native.Nat.{ℕ, suc, ◌+◌, ◌*◌, ◌/◌, ◌%◌, ◌≤◌, �
 use native.Mathlib.Omega.{arith}
 use lib.ListN.{get_or, length, take}
 use Rattle.lists.specs.Lists.{tabulate, overlay}
-use Rattle.lists.proofs.Lists.{get_d_tabulate}
+use Rattle.lists.proofs.Lists.{get_or_tabulate}
 use Rattle.lists.proofs.Overlay.{front_at, overlay_same, overlay_front}
 use Rattle.joiner.specs.Job.{Kind, Face, Curve, Point, width, Tables, first_at}
 use Rattle.joiner.specs.Outcomes.{head_of, row_at, final_face, row_final}
@@ -21,7 +21,7 @@ row_in Point total i h = omega arith
 
 entry_told : (t : Tables) (κ : Kind) {rows : List ℕ} → t.rows κ ≡ rows → (x i : ℕ) → i < width κ → entry_at rows (width κ) x i ≡ get_or (row_at t κ x) i 0
 unfolding entry_at row_at
-entry_told t κ r x i h = rw (← r) (sym (get_d_tabulate (width κ) (λ j. get_or (t.rows κ) (width κ * x + j) 0) i h))
+entry_told t κ r x i h = rw (← r) (sym (get_or_tabulate (width κ) (λ j. get_or (t.rows κ) (width κ * x + j) 0) i h))
 
 curve_told : (t : Tables) {rows numbers : List ℕ} → t.rows Curve ≡ rows → t.numbers Face ≡ numbers → (x : ℕ) → curve_row numbers rows x ≡ row_final t Curve x
 unfolding curve_row ascending_four row_final row_at final_face face_in entry_at

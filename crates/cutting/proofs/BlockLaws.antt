@@ -19,7 +19,7 @@ use Rattle.cutting.specs.Cutting.{Cutting, good_cut, blocks, origin, block_exten
 use Rattle.lists.proofs.Cases.{by_test, picked}
 use Rattle.cells.proofs.BoxLaws.{Inside, place_index, index_inside, coord_each, same_triple}
 use Rattle.cells.proofs.GridLaws.{Upper, upper_neighbour, side_on, inside, length_up}
-use Rattle.lists.proofs.Lists.{get_d_tabulate, map_same}
+use Rattle.lists.proofs.Lists.{get_or_tabulate, map_same}
 use Rattle.labels.proofs.ComponentLaws.{Belongs, belongs_at}
 use Rattle.cutting.proofs.RenameLaws.{Tells, row_renamed, occupied_renamed}
 use Rattle.labels.proofs.LabelLaws.{labels_numbering, shared_row, numbered_active}
@@ -47,7 +47,7 @@ module _ (k : Cutting) (good : good_cut k ≡ true) (b : ℕ) (hb : b < blocks k
       let e : Triple = block_extents k b in
       let h : Triple = each (λ a. coord (place (sides e) p) a / 2) in
       let f : ℕ → ℕ = λ v. get_or codes (index k.extents (each (λ a. coord (origin k b) a + coord (place e v) a))) 0 in
-      get_d_tabulate (volume e) f (index e h) (index_inside e h halves_in)
+      get_or_tabulate (volume e) f (index e h) (index_inside e h halves_in)
       ∙ ap (λ (t : Triple). get_or codes (index k.extents t) 0)
       (each_same _ _ (λ a. ap (λ (n : ℕ). coord (origin k b) a + n) (place_index e h (halves_in X) (halves_in Y) a ∙ coord_each (λ a'. coord (place (sides e) p) a' / 2) a)))
       ∙ ap (λ (n : ℕ). get_or codes n 0) (sym voxel_embed)

@@ -76,23 +76,23 @@ seam_raised k b c a hb hc h = and_both (ltb b (blocks k) && ltb c (blocks k)) _ 
 
 module _ (k : Cutting) (good : good_cut k ≡ true) (t : ℕ) where
   -- on each axis, the intervals of a block at a place span the cell's coordinate
-  Fits : Triple → Type 0
-  Fits m = (a : Axis) → Spans (cuts k a) (coord m a) (coord (place (sides k.extents) t) a)
+  FitsSpans : Triple → Type 0
+  FitsSpans m = (a : Axis) → Spans (cuts k a) (coord m a) (coord (place (sides k.extents) t) a)
 
-  has_at : (m : Triple) → Inside (block_sides k) m → Fits m → BlockHas k (index (block_sides k) m) t
-  unfolding Fits
+  has_at : (m : Triple) → Inside (block_sides k) m → FitsSpans m → BlockHas k (index (block_sides k) m) t
+  unfolding FitsSpans
   has_at m i f =
       spans_has k good (index (block_sides k) m) (block_in k m i) t
       (λ a. subst (λ (n : ℕ). Spans (cuts k a) n (coord (place (sides k.extents) t) a)) (sym (interval_at k m i a)) (f a))
 
-  fits_of : (b : ℕ) → b < blocks k → BlockHas k b t → Fits (place (block_sides k) b)
-  unfolding Fits
+  fits_of : (b : ℕ) → b < blocks k → BlockHas k b t → FitsSpans (place (block_sides k) b)
+  unfolding FitsSpans
   fits_of b hb h a = subst (λ (n : ℕ). Spans (cuts k a) n (coord (place (sides k.extents) t) a)) (interval_is k b a) (has_spans k good b hb t h a)
 
   place_of : (m : Triple) → Inside (block_sides k) m → place (block_sides k) (index (block_sides k) m) ≡ m
   place_of m i = same_triple _ _ (place_index (block_sides k) m (i X) (i Y))
 
-  hop : (a : Axis) (m n : Triple) → Inside (block_sides k) m → Inside (block_sides k) n → Fits n → (n ≡ m) ⊎ ((n ≡ raised a m) ⊎ (m ≡ raised a n)) → {d : ℕ}
+  hop : (a : Axis) (m n : Triple) → Inside (block_sides k) m → Inside (block_sides k) n → FitsSpans n → (n ≡ m) ⊎ ((n ≡ raised a m) ⊎ (m ≡ raised a n)) → {d : ℕ}
       → SeamPath k t (index (block_sides k) n) d → SeamPath k t (index (block_sides k) m) d
   hop a m n i j f (inl e) {d} l = subst (λ (x : Triple). SeamPath k t (index (block_sides k) x) d) e l
   hop a m n i j f (inr (inl e)) l =
@@ -107,7 +107,7 @@ module _ (k : Cutting) (good : good_cut k ≡ true) (t : ℕ) where
       (has_at n j f) l
 
   pub seam_path : (b c : ℕ) → b < blocks k → c < blocks k → BlockHas k b t → BlockHas k c t → SeamPath k t b c
-  unfolding Fits raised blocks
+  unfolding FitsSpans raised blocks
   seam_path b c hb hc u v =
       subst (λ (x : ℕ). SeamPath k t x c) (index_place (block_sides k) b)
       (hop X m m1 m_in m1_in m1_fits (to_x (at X))
@@ -138,16 +138,16 @@ module _ (k : Cutting) (good : good_cut k ≡ true) (t : ℕ) where
       m2_in : Inside (block_sides k) m2
       m2_in = elim [ X ↦ n_in X | Y ↦ n_in Y | Z ↦ m_in Z ]
 
-      m_fits : Fits m
+      m_fits : FitsSpans m
       m_fits = fits_of b hb u
 
-      n_fits : Fits n
+      n_fits : FitsSpans n
       n_fits = fits_of c hc v
 
-      m1_fits : Fits m1
+      m1_fits : FitsSpans m1
       m1_fits = elim [ X ↦ n_fits X | Y ↦ m_fits Y | Z ↦ m_fits Z ]
 
-      m2_fits : Fits m2
+      m2_fits : FitsSpans m2
       m2_fits = elim [ X ↦ n_fits X | Y ↦ n_fits Y | Z ↦ m_fits Z ]
 
       at : (a : Axis) → Near (coord m a) (coord n a)
@@ -193,7 +193,7 @@ odd_interval n c t i j x hi hj u v o = go (near n c t i j x hi hj u v)
     go (inr (inr e)) = absurd (omega (arith, cut_ends n c t j (omega arith), ap (low_end c) e, v.below, u.above))
 
 pub point_block : (k : Cutting) → good_cut k ≡ true → (t b c : ℕ) → order k.extents t ≡ 0 → b < blocks k → c < blocks k → BlockHas k b t → BlockHas k c t → b ≡ c
-unfolding order parity blocks Fits
+unfolding order parity blocks FitsSpans
 point_block k good t b c o hb hc u v = sym (index_place (block_sides k) b) ∙ ap (index (block_sides k)) (same_triple m n same) ∙ index_place (block_sides k) c
   where
     m : Triple

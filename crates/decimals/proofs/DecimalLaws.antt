@@ -8,7 +8,7 @@ use native.Mathlib.Omega.{arith}
 use lib.Dec.{ltb}
 use borrow.Author.Tests.{le-leb, lt-ltb, le-ltb}
 use Rattle.lists.proofs.Cases.{by_test}
-use Rattle.decimals.specs.Decimals.{digit, decimal_in, decimal}
+use Rattle.decimals.specs.Decimals.{digit, decimal_in, decimal_digits}
 
 pub digit_byte : (d : ℕ) → d < 10 → digit (48 + d) ≡ true
 unfolding digit
@@ -32,10 +32,10 @@ digits_more (suc f) n h =
     (λ t. rw t (ap (λ (l : List ℕ). l ++ ((48 + n % 10) ∷ [])) (digits_more f (n / 10) (omega (arith, pow-suc 10 (suc f))))))
 
 -- of a number of 32 bits
-pub decimal_low : (n : ℕ) → n < 10 → decimal n ≡ (48 + n) ∷ []
-unfolding decimal
+pub decimal_low : (n : ℕ) → n < 10 → decimal_digits n ≡ (48 + n) ∷ []
+unfolding decimal_digits
 decimal_low n h = digits_low 9 n h
 
-pub decimal_high : (n : ℕ) → 10 ≤ n → n < 2 ^ 32 → decimal n ≡ decimal (n / 10) ++ ((48 + n % 10) ∷ [])
-unfolding decimal
+pub decimal_high : (n : ℕ) → 10 ≤ n → n < 2 ^ 32 → decimal_digits n ≡ decimal_digits (n / 10) ++ ((48 + n % 10) ∷ [])
+unfolding decimal_digits
 decimal_high n h k = digits_high 9 n h ∙ ap (λ (l : List ℕ). l ++ ((48 + n % 10) ∷ [])) (digits_more 8 (n / 10) (omega arith))

@@ -12,5 +12,5 @@ decimal_in zero n = []
 decimal_in (suc f) n = cond (ltb n 10) ((48 + n) ∷ []) (decimal_in f (n / 10) ++ ((48 + n % 10) ∷ []))
 
 -- A number of 32 bits has at most ten digits.
-unfoldable pub decimal : ℕ → List ℕ
-decimal n = decimal_in 10 n
+unfoldable pub decimal_digits : ℕ → List ℕ
+decimal_digits n = decimal_in 10 n

@@ -11,7 +11,7 @@ use lib.Seq.{ext_get_or}
 use borrow.Author.Tests.{leb-true, ltb-true}
 use Rattle.lists.specs.Lists.{consecutive, tabulate}
 use Rattle.lists.proofs.Cases.{and_first, and_second}
-use Rattle.lists.proofs.Lists.{get_d_tabulate, length-tabulate}
+use Rattle.lists.proofs.Lists.{get_or_tabulate, length-tabulate}
 use Rattle.joiner.specs.Job.{Kind, Face, Curve, Point, width, State, listed_trays}
 use Rattle.joiner.specs.Calls.{reading}
 use Rattle.joiner.specs.Declines.{lent_to, refusal}
@@ -46,7 +46,7 @@ module _ (s : State) (κ : Kind) (n : ℕ) (e : refusal s (reading κ n) ≡ 0) 
 entries_of_lem : (n : ℕ) (l : List ℕ) → length l ≡ n → tabulate n (λ i. get_or l i 0) ≡ l
 entries_of_lem n l e =
     ext_get_or 0 (tabulate n (λ i. get_or l i 0)) l (length-tabulate n (λ i. get_or l i 0) ∙ sym e)
-    (λ i h. get_d_tabulate n (λ i. get_or l i 0) i (omega (arith, length-tabulate n (λ i. get_or l i 0))))
+    (λ i h. get_or_tabulate n (λ i. get_or l i 0) i (omega (arith, length-tabulate n (λ i. get_or l i 0))))
 
 -- Filled to six places, it is still at the front.
 pub six_front : (κ : Kind) (l : List ℕ) → length l ≡ width κ → take (width κ) (six_of l) ≡ l

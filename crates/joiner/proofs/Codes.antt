@@ -20,7 +20,7 @@ use Rattle.joiner.specs.Calls.{differs}
 use Rattle.joiner.specs.Stages.{code_in, codes_of, has_cell, has_on, local, lowest_block, shared}
 use Rattle.joiner.specs.Statement.{Labelling}
 use Rattle.lists.proofs.Cases.{and_both, and_first, and_second}
-use Rattle.lists.proofs.Lists.{consecutive_in, consecutive_out, get_d_tabulate, keep_in, keep_out, map_same}
+use Rattle.lists.proofs.Lists.{consecutive_in, consecutive_out, get_or_tabulate, keep_in, keep_out, map_same}
 use Rattle.lists.proofs.Table.{at}
 use Rattle.lists.proofs.Tests.{first_in_lem, some_none}
 use Rattle.cells.proofs.BoxLaws.{Inside, index_inside, index_place, place_index, same_triple}
@@ -120,7 +120,7 @@ pub code_of : (k : Cutting) (maps : ℕ → List ℕ) (t : ℕ) → t < cells k.
     → get_or (codes_of k maps) (voxel k.extents t) 0 ≡ code_in k maps (place (sides k.extents) t)
 unfolding codes_of
 code_of k maps t ht o =
-    get_d_tabulate (volume k.extents) (λ v. code_in k maps (place (sides k.extents) (voxel_cell k.extents v))) (voxel k.extents t) (voxel_inside k.extents t ht)
+    get_or_tabulate (volume k.extents) (λ v. code_in k maps (place (sides k.extents) (voxel_cell k.extents v))) (voxel k.extents t) (voxel_inside k.extents t ht)
     ∙ ap (λ (x : ℕ). code_in k maps (place (sides k.extents) x)) (cell_voxel k.extents t ht o)
 
 -- maps that are equal on all blocks have equal codes

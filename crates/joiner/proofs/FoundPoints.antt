@@ -20,7 +20,7 @@ use Rattle.joiner.specs.Outcomes.{class_of, row_at, row_final}
 use Rattle.joiner.specs.Job.{Point, Tables, first_at, key_of, key_position}
 use Rattle.joiner.specs.Stages.{point_step}
 use Rattle.lists.proofs.Cases.{by_test}
-use Rattle.lists.proofs.Lists.{Ascends, ascends_at, ascends_consecutive, ascends_keep, get_or-in, in_get_or, get_d_tabulate, keep_in, keep_out}
+use Rattle.lists.proofs.Lists.{Ascends, ascends_at, ascends_consecutive, ascends_keep, get_or-in, in_get_or, get_or_tabulate, keep_in, keep_out}
 use Rattle.lists.proofs.Overlay.{overlay_at, overlay_before, rows_at, rows_before}
 use Rattle.lists.proofs.Table.{every}
 use Rattle.labels.proofs.ComponentLaws.{Belongs, belongs_at, least_at, of_order_in, of_order_out}
@@ -246,4 +246,4 @@ module _ (k : Cutting) (good : good_cut k ≡ true) (codes : List ℕ) where
   unfolding row_final row_at
   point_rows t done n P x hx i hi =
       let o = P.out x hx in
-      get_d_tabulate 6 (λ j. get_or (t.rows Point) (6 * x + j) 0) i hi ∙ o.row_at_lem i hi ∙ ap (λ (q : ℕ). get_or (row k.extents (uncut_map k codes) q) i 0) (sym o.first_at_lem)
+      get_or_tabulate 6 (λ j. get_or (t.rows Point) (6 * x + j) 0) i hi ∙ o.row_at_lem i hi ∙ ap (λ (q : ℕ). get_or (row k.extents (uncut_map k codes) q) i 0) (sym o.first_at_lem)

@@ -14,7 +14,7 @@ use Rattle.cells.specs.Row.{same_row}
 use Rattle.labels.specs.Number.{labels}
 use Rattle.joiner.specs.Book.{labelled, voxel_codes}
 use Rattle.joiner.specs.Statement.{Labelling}
-use Rattle.lists.proofs.Lists.{get_d_tabulate, length-tabulate}
+use Rattle.lists.proofs.Lists.{get_or_tabulate, length-tabulate}
 use Rattle.cells.proofs.GridLaws.{voxel_cell_lem, voxel_cell_inside, voxel_cell_order}
 use Rattle.cells.proofs.RowLaws.{row_same, same_row_lem}
 use Rattle.labels.proofs.LabelLaws.{labels_numbering}
@@ -27,7 +27,7 @@ module _ (e : Triple) (m : List ℕ) where
       ext_get_or 0 (tabulate (volume e) (λ v. get_or m (voxel_cell e v) 0)) l.codes (length-tabulate (volume e) (λ v. get_or m (voxel_cell e v) 0) ∙ sym l.many)
       (λ i h.
       let hi : i < volume e = omega (arith, length-tabulate (volume e) (λ v. get_or m (voxel_cell e v) 0)) in
-      get_d_tabulate (volume e) (λ v. get_or m (voxel_cell e v) 0) i hi
+      get_or_tabulate (volume e) (λ v. get_or m (voxel_cell e v) 0) i hi
       ∙ ap (λ (x : List ℕ). get_or x (voxel_cell e i) 0) l.left
       ∙ (labels_numbering e l.codes).voxels (voxel_cell e i) (voxel_cell_inside e i hi) (voxel_cell_order e i hi)
       ∙ ap (λ (v : ℕ). get_or l.codes v 0) (voxel_cell_lem e i hi))

@@ -17,7 +17,7 @@ use Rattle.lists.specs.Lists.{consecutive, keep}
 use Rattle.cells.specs.Row.{once}
 use Rattle.joiner.specs.Outcomes.{class_of, head_of, heads, is_one, leads, not_after, rank}
 use Rattle.joiner.specs.Job.{Kind, Tables, first_at}
-use Rattle.lists.proofs.Cases.{and_both, and_first, and_second, by_test, or_cases, or_left, or_right}
+use Rattle.lists.proofs.Cases.{and_both, and_first, and_second, by_test, or_either, or_left, or_right}
 use Rattle.lists.proofs.Lists.{Ascends, ascends_consecutive, ascends_keep, ascends_le, consecutive_in, consecutive_out, keep_in, keep_out}
 use Rattle.lists.proofs.Tests.{all_in, all_out, first_in_lem, implied, implies, keep_all, keep_same}
 use Rattle.joiner.proofs.Keys.{positions_le, positions_less}
@@ -32,7 +32,7 @@ module _ (t : Tables) (κ : Kind) where
 
   lex_out : (x y : ℕ) → not_after t κ x y ≡ true → Sooner x y
   unfolding not_after Q
-  lex_out x y e = go (or_cases (ltb (Q x) (Q y)) (eqb (Q x) (Q y) && leb x y) e)
+  lex_out x y e = go (or_either (ltb (Q x) (Q y)) (eqb (Q x) (Q y) && leb x y) e)
     where
       go : (ltb (Q x) (Q y) ≡ true) ⊎ ((eqb (Q x) (Q y) && leb x y) ≡ true) → Sooner x y
       go (inl a) = earlier (ltb-true _ _ a)

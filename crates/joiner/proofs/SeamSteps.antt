@@ -15,7 +15,7 @@ use Rattle.cells.specs.Box.{Axis, X, Y, Z, coord, index, place}
 use Rattle.cutting.specs.Cutting.{Cutting, block_sides, blocks, follows, interval, same_interval, seam}
 use Rattle.joiner.specs.Job.{Seam}
 use Rattle.joiner.specs.Stages.{products, seam_axis, seam_step, seams, steps_of}
-use Rattle.lists.proofs.Cases.{and_first, and_second, by_test, or_cases}
+use Rattle.lists.proofs.Cases.{and_first, and_second, by_test, or_either}
 use Rattle.lists.proofs.Lists.{consecutive_in, keep_in}
 use Rattle.cells.proofs.BoxLaws.{index_place, same_triple}
 use Rattle.cutting.proofs.CutLaws.{interval_is}
@@ -46,7 +46,7 @@ module _ (k : Cutting) (b c : ℕ) where
 
   pub seam_axes : seam k b c ≡ true → Axes k b c (seam_axis k b c)
   unfolding seam seam_axis follows_on L
-  seam_axes z = go (or_cases ((follows_on X && L Y && L Z) || (L X && follows_on Y && L Z)) (L X && L Y && follows_on Z) (and_second (ltb b (blocks k) && ltb c (blocks k)) _ z))
+  seam_axes z = go (or_either ((follows_on X && L Y && L Z) || (L X && follows_on Y && L Z)) (L X && L Y && follows_on Z) (and_second (ltb b (blocks k) && ltb c (blocks k)) _ z))
     where
       on_first : (follows_on X && L Y && L Z) ≡ true → Axes k b c (cond (follows_on X) 1 (cond (follows_on Y) 2 3))
       on_first t =
@@ -70,7 +70,7 @@ module _ (k : Cutting) (b c : ℕ) where
           rw (not_both X lx, not_both Y ly) (record { on_x = L_is X lx; on_y = L_is Y ly; on_z = F_is Z fz })
 
       go : (((follows_on X && L Y && L Z) || (L X && follows_on Y && L Z)) ≡ true) ⊎ ((L X && L Y && follows_on Z) ≡ true) → Axes k b c (cond (follows_on X) 1 (cond (follows_on Y) 2 3))
-      go (inl t) = inner (or_cases (follows_on X && L Y && L Z) (L X && follows_on Y && L Z) t)
+      go (inl t) = inner (or_either (follows_on X && L Y && L Z) (L X && follows_on Y && L Z) t)
         where
           inner : ((follows_on X && L Y && L Z) ≡ true) ⊎ ((L X && follows_on Y && L Z) ≡ true) → Axes k b c (cond (follows_on X) 1 (cond (follows_on Y) 2 3))
           inner (inl u) = on_first u

@@ -21,7 +21,7 @@ use Rattle.joiner.specs.Job.{Closed, Kind, State, Told, lengths_fit, order_of, s
 use Rattle.joiner.specs.Sheets.{ClosedJob, Sheet}
 use Rattle.joiner.specs.Stages.{code_in, codes_of, has_cell}
 use Rattle.joiner.specs.Statement.{Labelling, Uncut}
-use Rattle.lists.proofs.Lists.{get_d_tabulate, length-tabulate}
+use Rattle.lists.proofs.Lists.{get_or_tabulate, length-tabulate}
 use Rattle.cells.proofs.GridLaws.{voxel_cell_lem, voxel_cell_inside, voxel_cell_order}
 use Rattle.labels.proofs.LabelLaws.{labels_numbering}
 use Rattle.cutting.proofs.BlockLaws.{voxel_same}
@@ -39,7 +39,7 @@ codes_back k good codes own many h =
     (length-tabulate (volume k.extents) _ ∙ sym many)
     (λ v l.
     let hv : v < volume k.extents = omega (arith, length-tabulate (volume k.extents) (λ v. code_in k own (place (sides k.extents) (voxel_cell k.extents v)))) in
-    get_d_tabulate (volume k.extents) (λ v. code_in k own (place (sides k.extents) (voxel_cell k.extents v))) v hv
+    get_or_tabulate (volume k.extents) (λ v. code_in k own (place (sides k.extents) (voxel_cell k.extents v))) v hv
     ∙ code_here (voxel_cell k.extents v) (voxel_cell_inside k.extents v hv) (voxel_cell_order k.extents v hv)
     ∙ (labels_numbering k.extents codes).voxels (voxel_cell k.extents v) (voxel_cell_inside k.extents v hv) (voxel_cell_order k.extents v hv)
     ∙ ap (λ (x : ℕ). get_or codes x 0) (voxel_cell_lem k.extents v hv))

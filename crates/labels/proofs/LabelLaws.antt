@@ -11,7 +11,7 @@ use lib.ListN.{get_or, length}
 use lib.Seq.{ext_get_or}
 use borrow.Author.Tests.{eqb-true, eqb-false, eq-eqb, ne_eqb, ltb-true, ltb-false}
 use Rattle.lists.proofs.Cases.{by_test}
-use Rattle.lists.proofs.Lists.{length-tabulate, get_d_tabulate, map_same}
+use Rattle.lists.proofs.Lists.{length-tabulate, get_or_tabulate, map_same}
 use Rattle.cells.specs.Box.{Triple, X, Y, Z, stride}
 use Rattle.cells.specs.Grid.{sides, cells, parity, order, along, upper_neighbours, voxel}
 use Rattle.cells.specs.Row.{row_of, occupied, row, active}
@@ -65,7 +65,7 @@ active_below e m p t =
 
 pub numbered_at_lem : (e : Triple) (j : ℕ) (m : List ℕ) (p : ℕ) → p < cells e → get_or (numbered e j m) p 0 ≡ cond (eqb (order e p) j) (number e m j p) (get_or m p 0)
 unfolding numbered numbered_at
-numbered_at_lem e j m p h = get_d_tabulate (cells e) (numbered_at e j m) p h
+numbered_at_lem e j m p h = get_or_tabulate (cells e) (numbered_at e j m) p h
 
 pub numbered_own : (e : Triple) (j : ℕ) (m : List ℕ) (p : ℕ) → p < cells e → order e p ≡ j → get_or (numbered e j m) p 0 ≡ number e m j p
 numbered_own e j m p h o = numbered_at_lem e j m p h ∙ rw (eq-eqb (order e p) j o)
@@ -117,7 +117,7 @@ module _ (e : Triple) (codes : List ℕ) where
   labels_voxels : (p : ℕ) → p < cells e → order e p ≡ 3 → get_or (labels e codes) p 0 ≡ get_or codes (voxel e p) 0
   unfolding map_down code_at
   labels_voxels p h o =
-      sym (final_agree 3 0 refl p h (omega arith)) ∙ get_d_tabulate (cells e) (code_at e codes) p h ∙ rw (eq-eqb (order e p) 3 o)
+      sym (final_agree 3 0 refl p h (omega arith)) ∙ get_or_tabulate (cells e) (code_at e codes) p h ∙ rw (eq-eqb (order e p) 3 o)
 
   labels_inactive : (p : ℕ) → p < cells e → order e p < 3 → active e (labels e codes) p ≡ false → get_or (labels e codes) p 0 ≡ 0
   labels_inactive p h l t = label_at p h l ∙ number_inactive e (over (order e p)) (order e p) p (active_over p h l ∙ t)

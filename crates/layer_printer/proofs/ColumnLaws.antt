@@ -13,7 +13,7 @@ use Rattle.lists.specs.Lists.{all_of, laid}
 use Rattle.lists.proofs.Cases.{by_test}
 use Rattle.lists.proofs.Lists.{get_or-in}
 use Rattle.lists.proofs.Tests.{all_out}
-use Rattle.decimals.specs.Decimals.{decimal_in, decimal}
+use Rattle.decimals.specs.Decimals.{decimal_in, decimal_digits}
 use Rattle.decimals.proofs.DecimalLaws.{digit_byte, digits_low, digits_high}
 use Rattle.layer_printer.specs.Printed.{right_aligned, cell_columns, place_columns}
 use Rattle.layer_printer.specs.Places.{is_column}
@@ -69,8 +69,8 @@ columns_aligned (suc w) (suc f) n p h l =
 
 -- A number up to 99,999 by its five columns.
 pub number_columns : (n : ℕ) → 0 < n → n ≤ 99999
-    → right_aligned (decimal n) ≡ column_byte (n / 10000) ∷ column_byte (n / 1000) ∷ column_byte (n / 100) ∷ column_byte (n / 10) ∷ column_byte n ∷ []
-unfolding columns right_aligned decimal
+    → right_aligned (decimal_digits n) ≡ column_byte (n / 10000) ∷ column_byte (n / 1000) ∷ column_byte (n / 100) ∷ column_byte (n / 10) ∷ column_byte n ∷ []
+unfolding columns right_aligned decimal_digits
 number_columns n p h =
     let a : n / 10000 ≡ n / 10 / 10 / 10 / 10 = omega arith in
     let b : n / 1000 ≡ n / 10 / 10 / 10 = omega arith in
@@ -91,12 +91,12 @@ module _ (n : ℕ) where
   cell_large h = rw (ne_eqb n 0 (λ e. omega arith), lt-ltb 99999 n h)
 
   -- "Each number right-aligned in 5 columns."
-  pub cell_number_lem : 0 < n → n ≤ 99999 → cell_columns n ≡ right_aligned (decimal n)
+  pub cell_number_lem : 0 < n → n ≤ 99999 → cell_columns n ≡ right_aligned (decimal_digits n)
   unfolding cell_columns
   cell_number_lem p h = rw (ne_eqb n 0 (λ e. omega arith), le-ltb 99999 n h)
 
   -- what holds in each of the three ways holds
-  by_number : (P : List ℕ → Type 0) → P (32 ∷ 32 ∷ 32 ∷ 32 ∷ 46 ∷ []) → P (35 ∷ 35 ∷ 35 ∷ 35 ∷ 35 ∷ []) → (0 < n → n ≤ 99999 → P (right_aligned (decimal n))) → P (cell_columns n)
+  by_number : (P : List ℕ → Type 0) → P (32 ∷ 32 ∷ 32 ∷ 32 ∷ 46 ∷ []) → P (35 ∷ 35 ∷ 35 ∷ 35 ∷ 35 ∷ []) → (0 < n → n ≤ 99999 → P (right_aligned (decimal_digits n))) → P (cell_columns n)
   by_number P a b c =
       by_test (eqb n 0) (λ t. rw (cell_inactive (eqb-true n 0 t)) a)
       (λ t.

@@ -3,7 +3,7 @@
 use Rattle.std.specs.Prelude.{cond, ℕ, ◌+◌, ◌-◌, ◌*◌, ◌/◌, eqb, ltb, length, get_or, take, drop, replicate}
 use mathlib.Core.List.{List, [], ◌∷◌, ◌++◌, flat_map}
 use Rattle.lists.specs.Lists.{consecutive}
-use Rattle.decimals.specs.Decimals.{decimal}
+use Rattle.decimals.specs.Decimals.{decimal_digits}
 use Rattle.cells.specs.Box.{Triple}
 use Rattle.cells.specs.Grid.{sides}
 
@@ -13,7 +13,7 @@ right_aligned t = replicate (5 - length t) 32 ++ t
 
 -- The five columns of a cell that holds n: "inactive is a dot in the last column, above 99,999 is five hash signs".
 unfoldable pub cell_columns : ℕ → List ℕ
-cell_columns n = cond (eqb n 0) (right_aligned (46 ∷ [])) (cond (ltb 99999 n) (replicate 5 35) (right_aligned (decimal n)))
+cell_columns n = cond (eqb n 0) (right_aligned (46 ∷ [])) (cond (ltb 99999 n) (replicate 5 35) (right_aligned (decimal_digits n)))
 
 -- Place x of a line of cells: "places beyond the grid are blank".
 unfoldable pub place_columns : List ℕ → ℕ → List ℕ

@@ -3,7 +3,7 @@
 
 ghost use Rattle.std.specs.Prelude.{◌≡◌, [], ◌∷◌, ◌+◌, ◌-◌, ◌*◌, ◌<◌, ◌≤◌, min, length, replicate};
 ghost use Rattle.lists.specs.Lists.{laid};
-ghost use Rattle.decimals.specs.Decimals.{decimal};
+ghost use Rattle.decimals.specs.Decimals.{decimal_digits};
 ghost use Rattle.cells.specs.Box.{triple};
 ghost use Rattle.layer_printer.specs.Printed.{right_aligned, cell_columns, first_places, page_line, page, page_count, pages};
 ghost use Rattle.layer_printer.specs.Printing.{refusal_of, outcome, layer_printing};
@@ -45,7 +45,7 @@ fn put_five(tray: &mut [u8], at: usize, a: u8, b: u8, c: u8, d: u8, e: u8)
 // Lays the five columns of a number from 1 to 99,999.
 fn put_number(tray: &mut [u8], at: usize, n: u32)
     requires { (at + 5 ≤ length tray.old) × (0 < n) × (n ≤ 99999) }
-    ensures { tray.new ≡ laid at (right_aligned (decimal n)) tray.old }
+    ensures { tray.new ≡ laid at (right_aligned (decimal_digits n)) tray.old }
 {
     let a = column(n / 10000);
     let b = column(n / 1000);

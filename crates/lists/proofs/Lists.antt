@@ -108,9 +108,9 @@ pub length-tabulate : (n : ℕ) (f : ℕ → ℕ) → length (tabulate n f) ≡ 
 unfolding tabulate
 length-tabulate n f = length-map_consecutive f 0 n
 
-pub get_d_tabulate : (n : ℕ) (f : ℕ → ℕ) (k : ℕ) → k < n → get_or (tabulate n f) k 0 ≡ f k
+pub get_or_tabulate : (n : ℕ) (f : ℕ → ℕ) (k : ℕ) → k < n → get_or (tabulate n f) k 0 ≡ f k
 unfolding tabulate
-get_d_tabulate n f k h = get_or-map_consecutive f 0 n k 0 h ∙ ap f (zero-add k)
+get_or_tabulate n f k h = get_or-map_consecutive f 0 n k 0 h ∙ ap f (zero-add k)
 
 pub tabulate_snoc : (n : ℕ) (f : ℕ → ℕ) → tabulate (suc n) f ≡ tabulate n f ++ (f n ∷ [])
 unfolding tabulate
@@ -159,7 +159,7 @@ front_rest n d f k h =
     ap (λ j. get_or (tabulate n f ++ drop n d) j 0) e ∙ rw (get_or-append-add, get_or-drop, g)
 
 pub front_done : (n : ℕ) (d : List ℕ) (f : ℕ → ℕ) (k : ℕ) → k < n → get_or (tabulate n f ++ drop n d) k 0 ≡ f k
-front_done n d f k h = get_or-append (tabulate n f) (drop n d) 0 k (omega (arith, length-tabulate n f)) ∙ get_d_tabulate n f k h
+front_done n d f k h = get_or-append (tabulate n f) (drop n d) 0 k (omega (arith, length-tabulate n f)) ∙ get_or_tabulate n f k h
 
 -- ---- map and drop
 

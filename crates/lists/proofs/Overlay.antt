@@ -15,7 +15,7 @@ use lib.Seq.{ext_get_or, take_all, get_or-set_same, get_or-set_other, get_or-tak
 use borrow.Author.Tests.{eq-eqb, eqb-true, eqb-false, ne_eqb, ltb-true, ltb-false}
 use Rattle.lists.specs.Lists.{tabulate, zeros, overlay}
 use Rattle.lists.proofs.Cases.{by_test}
-use Rattle.lists.proofs.Lists.{length-tabulate, get_d_tabulate, tabulate_zeros, front_more}
+use Rattle.lists.proofs.Lists.{length-tabulate, get_or_tabulate, tabulate_zeros, front_more}
 
 -- no place, one more, all
 pub overlay_none : (xs : List ℕ) (from : ℕ) (f : ℕ → ℕ) → xs ≡ overlay xs from f 0
@@ -63,7 +63,7 @@ module _ (xs : List ℕ) (from : ℕ) (f : ℕ → ℕ) where
 
 -- an entry of a front that is tabled
 pub front_at : (xs : List ℕ) (n : ℕ) (f : ℕ → ℕ) → take n xs ≡ tabulate n f → (i : ℕ) → i < n → get_or xs i 0 ≡ f i
-front_at xs n f e i h = sym (get_or-take n xs i 0 h) ∙ ap (λ (l : List ℕ). get_or l i 0) e ∙ get_d_tabulate n f i h
+front_at xs n f e i h = sym (get_or-take n xs i 0 h) ∙ ap (λ (l : List ℕ). get_or l i 0) e ∙ get_or_tabulate n f i h
 
 -- n more values written over the front of xs
 pub front_overlay : (xs : List ℕ) (f : ℕ → ℕ) (p n : ℕ) → p + n ≤ length xs → overlay (tabulate p f ++ drop p xs) p (λ i. f (p + i)) n ≡ tabulate (p + n) f ++ drop (p + n) xs
@@ -136,7 +136,7 @@ overlay_front xs f n h =
     ext_get_or 0 (take n (overlay xs 0 f n)) (tabulate n f) (long ∙ sym (length-tabulate n f))
     (λ i l.
     let hi : i < n = omega (arith, long) in
-    get_or-take n (overlay xs 0 f n) i 0 hi ∙ ap (λ (j : ℕ). get_or (overlay xs 0 f n) j 0) (sym (zero-add i)) ∙ overlay_at xs 0 f n i hi (omega arith) ∙ sym (get_d_tabulate n f i hi))
+    get_or-take n (overlay xs 0 f n) i 0 hi ∙ ap (λ (j : ℕ). get_or (overlay xs 0 f n) j 0) (sym (zero-add i)) ∙ overlay_at xs 0 f n i hi (omega arith) ∙ sym (get_or_tabulate n f i hi))
   where
     long : length (take n (overlay xs 0 f n)) ≡ n
     long = length-take-le n (overlay xs 0 f n) (omega (arith, length-overlay xs 0 f n))

@@ -27,15 +27,15 @@ use Rattle.lowest.proofs.LowestLaws.{lowest_le, listed, ordered, index_le, own_l
 -- ---- a place of the volume
 
 module _ (k : Cutting) (good : good_cut k ≡ true) where
-  abbrev position : Triple → ℕ
-  position c = index (sides k.extents) c
+  abbrev cell_position : Triple → ℕ
+  cell_position c = index (sides k.extents) c
 
   module _ (c : Triple) (v : InVolume k c) where
-    position_in : position c < cells k.extents
+    position_in : cell_position c < cells k.extents
     unfolding cells
     position_in = index_inside (sides k.extents) c v
 
-    placed : place (sides k.extents) (position c) ≡ c
+    placed : place (sides k.extents) (cell_position c) ≡ c
     placed = same_triple _ _ (place_index (sides k.extents) c (v X) (v Y))
 
   -- ---- by the starts
@@ -83,7 +83,7 @@ module _ (k : Cutting) (good : good_cut k ≡ true) where
 
     -- The lowest block's intervals have the cell's coordinates, and no interval before the first ones has.
     its : (a : Axis) → Spans (cuts k a) (interval k l a) (coord c a)
-    its = rw (placed c v) at (has_spans k good l (lowest_there k good c v).0 (position c) (rw (placed c v) at (lowest_has_cell k good (position c) (position_in c v)).1))
+    its = rw (placed c v) at (has_spans k good l (lowest_there k good c v).0 (cell_position c) (rw (placed c v) at (lowest_has_cell k good (cell_position c) (position_in c v)).1))
 
     behind : (a : Axis) → coord i a ≤ interval k l a
     behind a =
@@ -111,7 +111,7 @@ module _ (k : Cutting) (good : good_cut k ≡ true) where
     has_first =
         let hb : b < blocks k = block_in k i i_in in
         rw (placed c v) at
-        (block_has_cell k good b hb (position c) (spans_has k good b hb (position c) (λ a. rw (placed c v, interval_at k i i_in a) (spans a))))
+        (block_has_cell k good b hb (cell_position c) (spans_has k good b hb (cell_position c) (λ a. rw (placed c v, interval_at k i i_in a) (spans a))))
 
     -- The block with these intervals is the lowest one that has the cell.
     pub first_lowest : b ≡ l

@@ -9,7 +9,7 @@ use lib.Dec.{eqb}
 use lib.ListN.{length, get_or}
 use borrow.Author.Tests.{eqb-true, eqb-false}
 use Rattle.lists.proofs.Cases.{by_test}
-use Rattle.lists.proofs.Lists.{length-tabulate, get_d_tabulate}
+use Rattle.lists.proofs.Lists.{length-tabulate, get_or_tabulate}
 use Rattle.cells.specs.Box.{Triple, volume}
 use Rattle.cells.specs.Extents.{Sized, off_size}
 use Rattle.cells.specs.Grid.{cells}
@@ -97,7 +97,7 @@ module _ (e : Triple) (z : Sized 64 e) where
   pub counted_codes_lem : (v : ℕ) → v < volume e → (1 ≤ get_or (counted_codes e) v 0) × (get_or (counted_codes e) v 0 ≤ 4294967295)
   unfolding counted_codes
   counted_codes_lem v h =
-      let c = get_d_tabulate (volume e) suc v h in
+      let c = get_or_tabulate (volume e) suc v h in
       let n : volume e ≤ 262144 = volume_high z in
       (omega arith, omega arith)
 

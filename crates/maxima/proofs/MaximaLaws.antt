@@ -9,7 +9,7 @@ use lib.Dec.{eqb}
 use lib.ListN.{get_or}
 use borrow.Author.Tests.{eqb-true, eq-eqb}
 use Rattle.lists.proofs.Cases.{and_first, and_both}
-use Rattle.lists.proofs.Lists.{get_d_tabulate}
+use Rattle.lists.proofs.Lists.{get_or_tabulate}
 use Rattle.closure.specs.Joined.{rep}
 use Rattle.closure.specs.Numbered.{count_below, leader}
 use Rattle.closure.proofs.Classes.{rep_low}
@@ -118,7 +118,7 @@ largest_block e j h = record { bound = λ codes. most e codes j h; reached = λ 
 -- The codes 1, 2, 3, .. all differ.
 pub counted_different : (e : Triple) → DifferentCodes e (counted_codes e)
 unfolding counted_codes
-counted_different e = record { apart = λ v w h k s. omega (arith, get_d_tabulate (volume e) suc v h, get_d_tabulate (volume e) suc w k) }
+counted_different e = record { apart = λ v w h k s. omega (arith, get_or_tabulate (volume e) suc v h, get_or_tabulate (volume e) suc w k) }
 
 -- No other number is the most.
 pub most_only : (e : Triple) (j n k : ℕ) → IsMost e j n → IsMost e j k → n ≡ k

@@ -34,13 +34,13 @@ unfolding edge_if
 if_in from x y r s h k q = rw (ne_eqb x 0 h, ne_eqb y 0 k, q, row_same s) (Memᴰ.head refl)
 
 -- what an edge tells of its numbers and rows
-record Equal (from x y : ℕ) (r s : List ℕ) (d : Edge) : Type 0 where
+record EqualRows (from x y : ℕ) (r s : List ℕ) (d : Edge) : Type 0 where
   one : x ≢ 0
   two : y ≢ 0
   rows : r ≡ s
   is : d ≡ edge (place_of from x) (place_of from y)
 
-if_out : (from x y : ℕ) (r s : List ℕ) (d : Edge) → Memᴰ d (edge_if from x y r s) → Equal from x y r s d
+if_out : (from x y : ℕ) (r s : List ℕ) (d : Edge) → Memᴰ d (edge_if from x y r s) → EqualRows from x y r s d
 unfolding edge_if
 if_out from x y r s d i =
     by_test (not (eqb x 0) && (not (eqb y 0) && same_row r s))

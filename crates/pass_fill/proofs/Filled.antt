@@ -10,7 +10,7 @@ use lib.Seq.{ext_get_or}
 use borrow.Author.Tests.{eqb-true, eqb-false, eq-eqb, ne_eqb}
 use Rattle.lists.specs.Lists.{tabulate}
 use Rattle.lists.proofs.Cases.{by_test}
-use Rattle.lists.proofs.Lists.{length-tabulate, get_d_tabulate}
+use Rattle.lists.proofs.Lists.{length-tabulate, get_or_tabulate}
 use Rattle.cells.specs.Box.{Triple}
 use Rattle.cells.specs.Grid.{cells, order, voxel, voxel_cell}
 use Rattle.cells.proofs.GridLaws.{voxel_inside, voxel_cell_lem, voxel_cell_inside, voxel_cell_order, cell_voxel}
@@ -19,7 +19,7 @@ use Rattle.pass_fill.specs.Filled.{EachCode, OtherZero}
 
 module _ (e : Triple) (codes m : List ℕ) (promise : m ≡ tabulate (cells e) (code_at e codes)) where
   at : (p : ℕ) → p < cells e → get_or m p 0 ≡ code_at e codes p
-  at p h = rw promise (get_d_tabulate (cells e) (code_at e codes) p h)
+  at p h = rw promise (get_or_tabulate (cells e) (code_at e codes) p h)
 
   pub fill_voxel : EachCode e codes m
   unfolding code_at
@@ -38,7 +38,7 @@ fill_only e codes m whole each others =
     ext_get_or 0 m _ (whole ∙ sym (length-tabulate (cells e) (code_at e codes)))
     (λ p h.
     let k : p < cells e = omega (arith, whole) in
-    sym (get_d_tabulate (cells e) (code_at e codes) p k
+    sym (get_or_tabulate (cells e) (code_at e codes) p k
     ∙ by_test (eqb (order e p) 3)
     (λ t. rw t (sym (each (voxel e p) (voxel_inside e p k)) ∙ ap (λ (q : ℕ). get_or m q 0) (cell_voxel e p k (eqb-true (order e p) 3 t))))
     (λ t. rw t (sym (others p k (eqb-false (order e p) 3 t))))))

@@ -29,7 +29,7 @@ use Rattle.labels.proofs.NumberLaws.{rep_leaders, rep_active, rep_inactive}
 use Rattle.labels.proofs.LabelLaws.{Agree, active_agree}
 use Rattle.lines.specs.Lines.{line_count}
 use Rattle.lines.proofs.LineLaws.{cells_lines}
-use Rattle.pass_number.specs.Scan.{Scan, scanned, scan_at, scan}
+use Rattle.pass_number.specs.Scan.{Scan, scanned, scan_at, scan_cells}
 use Rattle.pass_number.specs.Spanning.{Spanning}
 
 -- ---- one cell
@@ -61,16 +61,16 @@ at_total e p s =
 -- The cells qs, from position p on, are ahead: they make of s what the cells ps make of s₀.
 pub record Ahead (e : Triple) (ps : List ℕ) (s₀ : Scan) (p : ℕ) (qs : List ℕ) (s : Scan) : Type 0 where
   pub low : s.total ≤ p
-  pub rest : scan e qs s ≡ scan e ps s₀
+  pub rest : scan_cells e qs s ≡ scan_cells e ps s₀
 
 module _ {e : Triple} {ps : List ℕ} {s₀ : Scan} {p : ℕ} {s : Scan} where
   -- The next one is scanned, and the others are ahead, or none is.
   pub ahead_next : {q : ℕ} {qs : List ℕ} {t : Scan} → p < q → Ahead e ps s₀ p (p ∷ qs) s → t ≡ scan_at e p s → Ahead e ps s₀ q qs t
-  unfolding scan
+  unfolding scan_cells
   ahead_next h A i = record { low = rw i (omega (arith, A.low, at_total e p s)); rest = rw i A.rest }
 
-  pub ahead_none : Ahead e ps s₀ p [] s → s ≡ scan e ps s₀
-  unfolding scan
+  pub ahead_none : Ahead e ps s₀ p [] s → s ≡ scan_cells e ps s₀
+  unfolding scan_cells
   ahead_none A = A.rest
 
 -- ---- all cells
@@ -192,19 +192,19 @@ module _ (e : Triple) (j : ℕ) (m links : List ℕ) where
         own = by_test (active e m p) (λ a. by_test (eqb (parent links p) p) (first a) (later a)) inactive
 
     -- The next n cells.
-    numbers_next : (p n : ℕ) → p + n ≤ cells e → scan e (keep (λ q. eqb (order e q) j) (consecutive p n)) (numbered_to p) ≡ numbered_to (p + n)
-    unfolding scan consecutive
+    numbers_next : (p n : ℕ) → p + n ≤ cells e → scan_cells e (keep (λ q. eqb (order e q) j) (consecutive p n)) (numbered_to p) ≡ numbered_to (p + n)
+    unfolding scan_cells consecutive
     numbers_next p zero h = ap numbered_to (sym (add-zero p))
     numbers_next p (suc n) h =
         let k : p < cells e = omega arith in
         let s : suc p + n ≡ p + suc n = omega arith in
-        let from : Scan → Scan = scan e (keep (λ q. eqb (order e q) j) (consecutive (suc p) n)) in
+        let from : Scan → Scan = scan_cells e (keep (λ q. eqb (order e q) j) (consecutive (suc p) n)) in
         let rest : from (numbered_to (suc p)) ≡ numbered_to (p + suc n) = numbers_next (suc p) n (omega arith) ∙ ap numbered_to s in
         by_test (eqb (order e p) j) (λ u. rw u (ap from (own p k u) ∙ rest)) (λ u. rw u (ap from (other p k u) ∙ rest))
 
     -- The next line.
     pub numbers_line : (l : ℕ) → l < line_count e
-        → scan e (keep (λ q. eqb (order e q) j) (consecutive (l * (sides e).x) (sides e).x)) (numbered_to (l * (sides e).x)) ≡ numbered_to ((l + 1) * (sides e).x)
+        → scan_cells e (keep (λ q. eqb (order e q) j) (consecutive (l * (sides e).x) (sides e).x)) (numbered_to (l * (sides e).x)) ≡ numbered_to ((l + 1) * (sides e).x)
     numbers_line l h =
         let w = (sides e).x in
         let s : l * w + w ≡ (l + 1) * w = omega arith in

@@ -22,6 +22,6 @@ scan_at e p s =
     (scanned (set s.numbers p 0) s.links s.total)
 
 -- What the cells of a list make of it.
-unfoldable pub scan : Triple → List ℕ → Scan → Scan
-scan e [] s = s
-scan e (p ∷ ps) s = scan e ps (scan_at e p s)
+unfoldable pub scan_cells : Triple → List ℕ → Scan → Scan
+scan_cells e [] s = s
+scan_cells e (p ∷ ps) s = scan_cells e ps (scan_at e p s)

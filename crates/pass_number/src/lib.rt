@@ -11,7 +11,7 @@ ghost use Rattle.cells.specs.Extents.{Sized};
 ghost use Rattle.cells.specs.Grid.{cells, order};
 ghost use Rattle.labels.specs.Number.{edges, active_of, numbered};
 ghost use Rattle.lines.specs.Lines.{line_count, Strided};
-ghost use Rattle.pass_number.specs.Scan.{scanned, scan_at, scan};
+ghost use Rattle.pass_number.specs.Scan.{scanned, scan_at, scan_cells};
 ghost use Rattle.pass_number.specs.Spanning.{Spanning};
 
 use lines::{line_count, row_near, strided_line};
@@ -62,7 +62,7 @@ fn number_line(
 ) -> u32
     requires { Sized 64 (triple nx ny nz) × (length map.old ≡ cells (triple nx ny nz)) × (length links.old ≡ cells (triple nx ny nz)) × (j ≤ 2) × (l < line_count (triple nx ny nz)) × (total ≤ l * (2 * nx - 1)) }
     ensures { scanned map.new links.new result
-        ≡ scan (triple nx ny nz) (keep (λ p. eqb (order (triple nx ny nz) p) j) (consecutive (l * (2 * nx - 1)) (2 * nx - 1))) (scanned map.old links.old total) }
+        ≡ scan_cells (triple nx ny nz) (keep (λ p. eqb (order (triple nx ny nz) p) j) (consecutive (l * (2 * nx - 1)) (2 * nx - 1))) (scanned map.old links.old total) }
 {
     let n = 3 - j;
     let s = strided_line(nx, ny, nz, n, l);

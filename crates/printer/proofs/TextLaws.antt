@@ -10,7 +10,7 @@ use lib.Seq.{take-suc}
 use Rattle.lists.specs.Lists.{consecutive}
 use Rattle.lists.proofs.Lists.{consecutive_split}
 use Rattle.cells.specs.Box.{Triple}
-use Rattle.decimals.specs.Decimals.{decimal}
+use Rattle.decimals.specs.Decimals.{decimal_digits}
 use Rattle.text.specs.Listing.{spaced, line, lines_for}
 
 -- ---- numbers
@@ -18,7 +18,7 @@ use Rattle.text.specs.Listing.{spaced, line, lines_for}
 spaced_append : (a b : List ℕ) → spaced (a ++ b) ≡ spaced a ++ spaced b
 unfolding spaced
 spaced_append [] b = refl
-spaced_append (n ∷ a) b = rw (spaced_append a b) (ap (λ (l : List ℕ). 32 ∷ l) (sym (append_assoc (decimal n) (spaced a) (spaced b))))
+spaced_append (n ∷ a) b = rw (spaced_append a b) (ap (λ (l : List ℕ). 32 ∷ l) (sym (append_assoc (decimal_digits n) (spaced a) (spaced b))))
 
 pub spaced_three : (x y z : ℕ) → spaced (x ∷ y ∷ z ∷ []) ≡ spaced (x ∷ []) ++ spaced (y ∷ []) ++ spaced (z ∷ [])
 spaced_three x y z = spaced_append (x ∷ y ∷ []) (z ∷ []) ∙ ap (λ (l : List ℕ). l ++ spaced (z ∷ [])) (spaced_append (x ∷ []) (y ∷ []))

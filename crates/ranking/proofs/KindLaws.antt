@@ -119,8 +119,8 @@ module _ {links keys xs cs ss₀ ss₁ : List ℕ} {n r : ℕ} (lx : n ≤ lengt
   })
 
   module _ {ds ss₂ : List ℕ} (O : Ordered links keys n r cs ds ss₁ ss₂) where
-    read_again : (x : ℕ) → x < n → get_or ds x 0 ≡ root links x
-    read_again = written_read cs (root links) n ds O.classes (omega (arith, written_long xs (root links) n cs G.classes))
+    read_unchanged : (x : ℕ) → x < n → get_or ds x 0 ≡ root links x
+    read_unchanged = written_read cs (root links) n ds O.classes (omega (arith, written_long xs (root links) n cs G.classes))
 
     -- of any kind of tables with these keys and classes
     module _ (t : Tables) (κ : Kind) (K : t.keys κ ≡ keys) (M : (x : ℕ) → class_of t κ x ≡ root links x) where
@@ -140,7 +140,7 @@ module _ {links keys xs cs ss₀ ss₁ : List ℕ} {n r : ℕ} (lx : n ≤ lengt
       place_below i l = omega (arith, place_is i l, sorted_below t κ n (part ss₂ n r) sorted_heads i (omega (arith, count_is)))
 
       class_is : (i : ℕ) → i < r → get_or ds (get_or ss₂ (n + i) 0) 0 ≡ class_of t κ (get_or (part ss₂ n r) i 0)
-      class_is i l = read_again (get_or ss₂ (n + i) 0) (place_below i l) ∙ sym (M (get_or ss₂ (n + i) 0)) ∙ ap (class_of t κ) (sym (place_is i l))
+      class_is i l = read_unchanged (get_or ss₂ (n + i) 0) (place_below i l) ∙ sym (M (get_or ss₂ (n + i) 0)) ∙ ap (class_of t κ) (sym (place_is i l))
 
       different : Different ds ss₂ n r
       different = record {
@@ -160,7 +160,7 @@ module _ {links keys xs cs ss₀ ss₁ : List ℕ} {n r : ℕ} (lx : n ≤ lengt
         where
           number : (x : ℕ) → x < n → get_or ss₃ (get_or ds x 0) 0 ≡ rank t κ n x
           number x l =
-              ap (λ (c : ℕ). get_or ss₃ c 0) (read_again x l ∙ sym (M x))
+              ap (λ (c : ℕ). get_or ss₃ c 0) (read_unchanged x l ∙ sym (M x))
               ∙ rank_read t κ n (part ss₂ n r) sorted_heads ss₃
               (λ i m. let o : i < r = omega (arith, count_is) in ap (λ (c : ℕ). get_or ss₃ c 0) (sym (class_is i o)) ∙ P.at i o) x l
 

@@ -10,7 +10,7 @@ use lib.ListN.{length, get_or, take, drop, length-append, length-take, length-ma
 use lib.Seq.{get_or-take, get_or-drop, take-suc, split_at}
 use borrow.Author.Tests.{eqb-true, eqb-false, eq-eqb, ne_eqb}
 use Rattle.lists.proofs.Cases.{by_test, picked}
-use Rattle.lists.proofs.Lists.{length-tabulate, get_d_tabulate}
+use Rattle.lists.proofs.Lists.{length-tabulate, get_or_tabulate}
 use Rattle.closure.specs.Numbered.{count_below}
 use Rattle.records.specs.Fields.{bytes}
 use Rattle.records.specs.Record.{bit, map_byte, bitmap_length, bitmap, listed}
@@ -57,7 +57,7 @@ length-bitmap m = length-tabulate (bitmap_length (length m)) (map_byte m)
 
 pub bitmap_at : (m : List ℕ) (i : ℕ) → i < bitmap_length (length m) → get_or (bitmap m) i 0 ≡ map_byte m i
 unfolding bitmap
-bitmap_at m i h = get_d_tabulate (bitmap_length (length m)) (map_byte m) i h
+bitmap_at m i h = get_or_tabulate (bitmap_length (length m)) (map_byte m) i h
 
 pub below_bitmap : (m : List ℕ) → EntriesBelow 256 (bitmap m)
 below_bitmap m k h = rw (bitmap_at m k (omega (arith, length-bitmap m))) (map-byte_lt m k)

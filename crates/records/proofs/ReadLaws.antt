@@ -8,7 +8,7 @@ use lib.Dec.{eqb}
 use lib.ListN.{length, get_or}
 use borrow.Author.Tests.{eqb-true, eqb-false}
 use Rattle.lists.proofs.Cases.{by_test}
-use Rattle.lists.proofs.Lists.{length-tabulate, get_d_tabulate}
+use Rattle.lists.proofs.Lists.{length-tabulate, get_or_tabulate}
 use Rattle.closure.proofs.Numbers.{count_hit, count_miss, count_mono}
 use Rattle.records.specs.Fields.{field_at}
 use Rattle.records.specs.Record.{bitmap_length, bit_at, bits_before, number_of, decode_record}
@@ -49,7 +49,7 @@ length-decode n r = length-tabulate n (number_of n r)
 
 pub decode_at : (n : ℕ) (r : List ℕ) (c : ℕ) → c < n → get_or (decode_record n r) c 0 ≡ number_of n r c
 unfolding decode_record
-decode_at n r c h = get_d_tabulate n (number_of n r) c h
+decode_at n r c h = get_or_tabulate n (number_of n r) c h
 
 pub decode_numbers : (n : ℕ) (r : List ℕ) → EntriesBelow 256 r → EntriesBelow 4294967296 (decode_record n r)
 decode_numbers n r b c h =

@@ -10,7 +10,7 @@ use lib.Dec.{ltb}
 use lib.ListN.{length, length-append}
 use borrow.Author.Tests.{ltb-true, ltb-false, lt-ltb, le-leb}
 use Rattle.lists.proofs.Cases.{by_test}
-use Rattle.decimals.specs.Decimals.{digit, decimal_in, decimal}
+use Rattle.decimals.specs.Decimals.{digit, decimal_in, decimal_digits}
 use Rattle.decimals.proofs.DecimalLaws.{digit_byte, digits_low, digits_high}
 use Rattle.text.specs.Words.{all_digits, value_from, spelled, is_number}
 
@@ -54,14 +54,14 @@ spells (suc f) n h =
 
 -- Of a number of 32 bits: the word is a number, and it is this number.
 module _ (n : ℕ) (h : n < 2 ^ 32) where
-  ten : Spells 10 n (decimal n)
-  unfolding decimal
+  ten : Spells 10 n (decimal_digits n)
+  unfolding decimal_digits
   ten = spells 9 n (omega arith)
 
-  pub decimal_spelled : spelled (decimal n) ≡ n
+  pub decimal_spelled : spelled (decimal_digits n) ≡ n
   unfolding spelled
   decimal_spelled = ten.value
 
-  pub decimal_number : is_number (decimal n) ≡ true
+  pub decimal_number : is_number (decimal_digits n) ≡ true
   unfolding is_number
-  decimal_number = rw (ten.digits, le-leb 1 (length (decimal n)) ten.some, le-leb (length (decimal n)) 10 ten.few, decimal_spelled, lt-ltb n (2 ^ 32) h)
+  decimal_number = rw (ten.digits, le-leb 1 (length (decimal_digits n)) ten.some, le-leb (length (decimal_digits n)) 10 ten.few, decimal_spelled, lt-ltb n (2 ^ 32) h)

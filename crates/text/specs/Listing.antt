@@ -2,7 +2,7 @@
 -- Assumes nothing.
 use Rattle.std.specs.Prelude.{cond, List, [], ◌∷◌, ◌++◌, ℕ, ◌-◌, ◌*◌, eqb, get_or, take}
 use Rattle.lists.specs.Lists.{consecutive}
-use Rattle.decimals.specs.Decimals.{decimal}
+use Rattle.decimals.specs.Decimals.{decimal_digits}
 use Rattle.cells.specs.Box.{Triple, place}
 use Rattle.cells.specs.Grid.{sides}
 use Rattle.labels.specs.Number.{labels}
@@ -12,7 +12,7 @@ use Rattle.text.specs.Request.{text_refusal, asked_extents, asked_codes}
 -- Numbers, each after a space.
 unfoldable pub spaced : List ℕ → List ℕ
 spaced [] = []
-spaced (n ∷ ns) = (32 ∷ decimal n) ++ spaced ns
+spaced (n ∷ ns) = (32 ∷ decimal_digits n) ++ spaced ns
 
 -- f, c or p.
 unfoldable pub letter : ℕ → ℕ

@@ -2,7 +2,7 @@
 #![tactic(auto)]
 
 ghost use Rattle.std.specs.Prelude.{◌≡◌, [], ◌∷◌, ◌++◌, ◌+◌, ◌<◌};
-ghost use Rattle.decimals.specs.Decimals.{decimal};
+ghost use Rattle.decimals.specs.Decimals.{decimal_digits};
 ghost use Rattle.text.specs.Listing.{spaced};
 ghost use Rattle.text_tray.specs.Sunk.{state, sunk};
 
@@ -60,7 +60,7 @@ fn put_digit(s: Sink, out: &mut [u8], d: u32) -> Sink
 
 // Puts a number: the digits before the last, and the last.
 fn put_decimal(s: Sink, out: &mut [u8], n: u32) -> Sink
-    ensures { state result out.new ≡ sunk (state s out.old) (decimal n) }
+    ensures { state result out.new ≡ sunk (state s out.old) (decimal_digits n) }
 {
     if n < 10 {
         return put_digit(s, out, n);

@@ -12,7 +12,7 @@ use lib.Seq.{ext_get_or, get_or-take, length-take-le}
 use borrow.Author.Tests.{eq-eqb, ne_eqb, ltb-true, ltb-false}
 use Rattle.lists.specs.Lists.{is_in, tabulate}
 use Rattle.lists.proofs.Cases.{by_test}
-use Rattle.lists.proofs.Lists.{get_d_tabulate, length-tabulate}
+use Rattle.lists.proofs.Lists.{get_or_tabulate, length-tabulate}
 use Rattle.lists.proofs.Tests.{is_in_lem, in_is}
 use Rattle.cells.specs.Extents.{off_size}
 use Rattle.labels.specs.Number.{labels}
@@ -77,7 +77,7 @@ module _ (o : Told) (own : ℕ → List ℕ) (l : CellLists) where
 
     at_first : (i : ℕ) → i < cell_count l → get_or v i 0 ≡ cond (eqb (lowest_block k (cell_at l i)) b) (final i) (get_or t i 0)
     unfolding filled_by read_from
-    at_first i h = ap (λ (x : List ℕ). get_or x i 0) e ∙ get_d_tabulate (length t) _ i (omega arith)
+    at_first i h = ap (λ (x : List ℕ). get_or x i 0) e ∙ get_or_tabulate (length t) _ i (omega arith)
 
     come_more : (i : ℕ) → i < cell_count l → Memᴰ (lowest_block k (cell_at l i)) (b ∷ bs) → get_or u i 0 ≡ final i
     come_more i h m =
@@ -148,7 +148,7 @@ module _ (o : Told) (own : ℕ → List ℕ) (l : CellLists) (t u bs : List ℕ)
           ext_get_or 0 (take (cell_count l) u) (tabulate (cell_count l) (final o own l)) (long ∙ sym (length-tabulate (cell_count l) (final o own l)))
           (λ i h.
           let g : i < cell_count l = omega arith in
-          get_or-take (cell_count l) u i 0 g ∙ F.come i g (has_come_lem i g) ∙ sym (get_d_tabulate (cell_count l) (final o own l) i g))
+          get_or-take (cell_count l) u i 0 g ∙ F.come i g (has_come_lem i g) ∙ sym (get_or_tabulate (cell_count l) (final o own l) i g))
 
 -- For every accepted opening and every list of calls after it: the list is what the day book says.
 pub cell_statement : CellStatement

@@ -12,7 +12,7 @@ use lib.Seq.{drop-append_seam}
 use borrow.Author.Tests.{eq-eqb, ne_eqb, leb-true, leb-false}
 use Rattle.lists.specs.Lists.{consecutive, laid}
 use Rattle.lists.proofs.Cases.{by_test}
-use Rattle.lists.proofs.Lists.{ascends_at, ascends_consecutive, ascends_keep, consecutive_in, get_or-in, in_get_or, get_d_tabulate, keep_in, keep_out, length-tabulate}
+use Rattle.lists.proofs.Lists.{ascends_at, ascends_consecutive, ascends_keep, consecutive_in, get_or-in, in_get_or, get_or_tabulate, keep_in, keep_out, length-tabulate}
 use Rattle.lists.proofs.Laid.{laid_front, length-laid}
 use Rattle.cutting.specs.Cutting.{Cutting, blocks, good_cut}
 use Rattle.joiner.specs.Job.{State}
@@ -91,7 +91,7 @@ module _ (s : State) (l : CellLists) (b : ℕ) (m t : List ℕ) where
 
   filled_at : (i : ℕ) → i < length t → get_or u i 0 ≡ cond (eqb (lowest_block k (cell_at l i)) b) (looked_up s b m (cell_at l i)) (get_or t i 0)
   unfolding filled_from filled_by read_from
-  filled_at i h = get_d_tabulate (length t) _ i h
+  filled_at i h = get_or_tabulate (length t) _ i h
 
   filled_other : (i : ℕ) → lowest_block k (cell_at l i) ≢ b → get_or u i 0 ≡ get_or t i 0
   filled_other i n =

@@ -12,7 +12,7 @@ use Rattle.closure.specs.Joined.{Edge, edge, join_classes, joins}
 use Rattle.union_find.specs.Links.{parent, root, sound_at, Rooted}
 use Rattle.joiner.specs.Outcomes.{Merged, Together, back, joined, same, via}
 use Rattle.lists.proofs.Cases.{by_test}
-use Rattle.lists.proofs.Lists.{get_d_tabulate, length-tabulate}
+use Rattle.lists.proofs.Lists.{get_or_tabulate, length-tabulate}
 use Rattle.closure.proofs.Classes.{Closed, join_low, joins_edge, joins_idem, joins_low, joins_mono, joins_sound, merge_miss}
 use Rattle.closure.proofs.Rooted.{root_unique}
 use Rattle.union_find.proofs.LinkLaws.{links_forest, root_idem, root_low, root_past}
@@ -74,7 +74,7 @@ module _ (ls : List ℕ) (es : List Edge) (inside : Within ls es) where
   relinked_parent x =
       by_test (ltb x (length ls))
       (λ t.
-      rw (get_d_tabulate (length ls) (λ y. y - joins (root ls) es y) x (ltb-true x (length ls) t)) (omega (arith, joins_low es (root ls) (root_low ls) x)))
+      rw (get_or_tabulate (length ls) (λ y. y - joins (root ls) es y) x (ltb-true x (length ls) t)) (omega (arith, joins_low es (root ls) (root_low ls) x)))
       (λ t.
       let h : length ls ≤ x = ltb-false x (length ls) t in
       rw (get_or-eq_default (relinked ls es) 0 {n = x} (omega (arith, h, length-tabulate (length ls) (λ y. y - joins (root ls) es y))))
@@ -92,7 +92,7 @@ module _ (ls : List ℕ) (es : List Edge) (inside : Within ls es) where
   unfolding relinked
   relinked_sound x =
       by_test (ltb x (length ls))
-      (λ t. sound_at_lem _ x (rw (get_d_tabulate (length ls) (λ y. y - joins (root ls) es y) x (ltb-true x (length ls) t)) (omega arith)))
+      (λ t. sound_at_lem _ x (rw (get_or_tabulate (length ls) (λ y. y - joins (root ls) es y) x (ltb-true x (length ls) t)) (omega arith)))
       (λ t. at_past _ x (omega (arith, ltb-false x (length ls) t, length-tabulate (length ls) (λ y. y - joins (root ls) es y))))
 
   relinked_rooted : Rooted ls (relinked ls es) (joins (root ls) es)

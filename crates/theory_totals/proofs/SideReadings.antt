@@ -126,8 +126,8 @@ module _ (o : Told) (own : ℕ → List ℕ) (ext : off_size 1024 o.cutting.exte
   abbrev g : ℕ → Brought
   g = brought_to s.tables own values kinds
 
-  abbrev codes : List ℕ
-  codes = codes_of o.cutting own
+  abbrev handed_codes : List ℕ
+  handed_codes = codes_of o.cutting own
 
   abbrev cell_readings : ℕ → List Reading
   cell_readings t = map (reading_from k values kinds t) (on_side k.extents (uncut B) side t)
@@ -150,7 +150,7 @@ module _ (o : Told) (own : ℕ → List ℕ) (ext : off_size 1024 o.cutting.exte
         (λ q i. ap (λ (x : ℕ). reading_at (values b) (kinds b) (voxel (block_extents k b) x)) (sym (embed_local k good b l.listed q (beside (block_extents k b) (own b) side p q l.within i))))
         ∙ sym (map-map (reading_from k values kinds t) (embed k b) (on_side (block_extents k b) (own b) side p))
         ∙ ap (λ (m : List ℕ). map (reading_from k values kinds t) (map (embed k b) (on_side (block_extents k b) m side p))) (part_is o own good lab B s S.inv (omega (arith, at_closed)) b l.listed)
-        ∙ ap (map (reading_from k values kinds t)) (sym (on_side_embed k good codes b l.listed p l.within (l.level ∙ ot) side))
+        ∙ ap (map (reading_from k values kinds t)) (sym (on_side_embed k good handed_codes b l.listed p l.within (l.level ∙ ot) side))
         ∙ ap₂ (λ (m : List ℕ) (x : ℕ). map (reading_from k values kinds t) (on_side k.extents m side x)) (sym (uncut_is o own good lab B s S.inv (omega (arith, at_closed)))) l.is
 
     -- the block shows there the face that the uncut map has

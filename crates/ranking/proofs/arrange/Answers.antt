@@ -1,6 +1,5 @@
 -- `ranking::arrange` meets its contract.
-use Rattle.std.proofs.Common.{arith}
-use Rattle.ranking.proofs.Places.{length_part, part_lent}
+use Rattle.ranking.proofs.Places.{part_lent}
 use Rattle.ranking.proofs.KindLaws.{ordered_of}
 use Rattle.ranking.proofs.arrange.Goals as goal
 

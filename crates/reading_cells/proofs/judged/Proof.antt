@@ -22,7 +22,7 @@ returns-then-not-lengths_one : tie.Need-returns-then-not-lengths_one
 returns-then-not-lengths_one c =
     let s = start c.before in
     let a = s.args in
-    late_6 a.job a.cx.now a.cy.now a.cz.now a.ticks.now a.table.now a.face_numbers.now a.curve_numbers.now a.point-firsts.now a.xs.now a.ys.now a.zs.now a.b a.m.now a.places s.requires _ c.before.lengths_one.ensures (ap not c.if-not-lengths_one.true)
+    late_6 a.job a.cx.now a.cy.now a.cz.now a.ticks.now a.table.now a.face_numbers.now a.curve_numbers.now a.point_firsts.now a.xs.now a.ys.now a.zs.now a.b a.m.now a.places s.requires _ c.before.lengths_one.ensures (ap not c.if-not-lengths_one.true)
 
 source_of-from-requires : tie.Need-source_of-from-requires
 source_of-from-requires c κs = search rules
@@ -52,7 +52,7 @@ returns-then-number-ne0 c =
     let source = counted.before.before in
     let ones = source.before.before in
     let a = (start ones.before.before.before).args in
-    late_number a.job a.cx.now a.cy.now a.cz.now a.ticks.now a.table.now a.face_numbers.now a.curve-numbers.now a.point-firsts.now a.xs.now a.ys.now a.zs.now a.b a.m.now a.places (start ones).requires _ ones.lengths_one.ensures (ap not source.before.if-not-lengths_one.false) _ source.source_of-from.ensures
+    late_number a.job a.cx.now a.cy.now a.cz.now a.ticks.now a.table.now a.face_numbers.now a.curve_numbers.now a.point-firsts.now a.xs.now a.ys.now a.zs.now a.b a.m.now a.places (start ones).requires _ ones.lengths_one.ensures (ap not source.before.if-not-lengths_one.false) _ source.source_of-from.ensures
     _ counted.before.lengths_of-lengths.ensures _ counted.block_count-count.ensures _ told.before.fits2.ensures _ told.judge_map-number.ensures c.if-number-ne0.true
 
 all_stand-requires : tie.Need-all_stand-requires
@@ -69,7 +69,7 @@ returns-then-not-all_stand c =
     let source = counted.before.before in
     let ones = source.before.before in
     let a = (start ones.before.before.before).args in
-    late_8 a.job a.cx.now a.cy.now a.cz.now a.ticks.now a.table.now a.face_numbers.now a.curve-numbers.now a.point-firsts.now a.xs.now a.ys.now a.zs.now a.b a.m.now a.places (start ones).requires _ ones.lengths_one.ensures (ap not source.before.if-not-lengths_one.false) _ source.source_of-from.ensures
+    late_8 a.job a.cx.now a.cy.now a.cz.now a.ticks.now a.table.now a.face_numbers.now a.curve_numbers.now a.point-firsts.now a.xs.now a.ys.now a.zs.now a.b a.m.now a.places (start ones).requires _ ones.lengths_one.ensures (ap not source.before.if-not-lengths_one.false) _ source.source_of-from.ensures
     _ counted.before.lengths_of-lengths.ensures _ counted.block_count-count.ensures _ told.before.fits2.ensures _ told.judge_map-number.ensures passed.if-number-ne0.false _ c.before.all_stand.ensures (ap not c.if-not-all_stand.true)
 
 returns : tie.Need-returns
@@ -80,7 +80,7 @@ returns c =
     let source = counted.before.before in
     let ones = source.before.before in
     let a = (start ones.before.before.before).args in
-    late_0 a.job a.cx.now a.cy.now a.cz.now a.ticks.now a.table.now a.face_numbers.now a.curve-numbers.now a.point-firsts.now a.xs.now a.ys.now a.zs.now a.b a.m.now a.places (start ones).requires _ ones.lengths_one.ensures (ap not source.before.if-not-lengths_one.false) _ source.source_of-from.ensures
+    late_0 a.job a.cx.now a.cy.now a.cz.now a.ticks.now a.table.now a.face_numbers.now a.curve_numbers.now a.point-firsts.now a.xs.now a.ys.now a.zs.now a.b a.m.now a.places (start ones).requires _ ones.lengths_one.ensures (ap not source.before.if-not-lengths_one.false) _ source.source_of-from.ensures
     _ counted.before.lengths_of-lengths.ensures _ counted.block_count-count.ensures _ told.before.fits2.ensures _ told.judge_map-number.ensures passed.if-number-ne0.false _ c.before.all_stand.ensures (ap not c.if-not-all_stand.false)
 
 pub judged_spec : {M : Type 1} → statement M
