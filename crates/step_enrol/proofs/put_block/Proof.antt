@@ -6,53 +6,53 @@ use Rattle.step_enrol.proofs.DoneLaws.{block_put}
 use Rattle.step_enrol.proofs.put_block.Statement.{statement}
 use Rattle.step_enrol.proofs.put_block.Tie as tie
 
-mul_at : tie.Need-overflow-mul-at
-mul_at c = search rules
+overflow_mul-at : tie.Need-overflow_mul-at
+overflow_mul-at c = search rules
 
-mul-blocks : tie.Need-overflow-mul-blocks
-mul-blocks c = search rules
+offset_bounds-blocks-at : tie.Need-offset_bounds-blocks-at
+offset_bounds-blocks-at c = search rules
 
-slice-write-blocks : tie.Need-slice-write-blocks
-slice-write-blocks c = search rules
+bounds-blocks-at : tie.Need-bounds-blocks-at
+bounds-blocks-at c = search rules
 
-add-blocks : tie.Need-overflow-add-blocks
-add-blocks c = search rules
+overflow_add-blocks : tie.Need-overflow_add-blocks
+overflow_add-blocks c = search rules
 
-mul-blocks-2 : tie.Need-overflow-mul-blocks-2
-mul-blocks-2 c = search rules
+offset_bounds-blocks-at-2 : tie.Need-offset_bounds-blocks-at-2
+offset_bounds-blocks-at-2 c = search rules
 
-slice-write-blocks-2 : tie.Need-slice-write-blocks-2
-slice-write-blocks-2 c = simp length-set (omega arith)
+bounds-blocks-at-2 : tie.Need-bounds-blocks-at-2
+bounds-blocks-at-2 c = simp length-set (omega arith)
 
-add-blocks-2 : tie.Need-overflow-add-blocks-2
-add-blocks-2 c = search rules
+overflow_add-blocks-2 : tie.Need-overflow_add-blocks-2
+overflow_add-blocks-2 c = search rules
 
-mul-blocks-3 : tie.Need-overflow-mul-blocks-3
-mul-blocks-3 c = search rules
+offset_bounds-blocks-at-3 : tie.Need-offset_bounds-blocks-at-3
+offset_bounds-blocks-at-3 c = search rules
 
-slice-write-blocks-3 : tie.Need-slice-write-blocks-3
-slice-write-blocks-3 c = simp length-set (omega arith)
+bounds-blocks-at-3 : tie.Need-bounds-blocks-at-3
+bounds-blocks-at-3 c = simp length-set (omega arith)
 
-add-blocks-3 : tie.Need-overflow-add-blocks-3
-add-blocks-3 c = search rules
+overflow_add-blocks-3 : tie.Need-overflow_add-blocks-3
+overflow_add-blocks-3 c = search rules
 
-mul-blocks-4 : tie.Need-overflow-mul-blocks-4
-mul-blocks-4 c = search rules
+offset_bounds-blocks-at-4 : tie.Need-offset_bounds-blocks-at-4
+offset_bounds-blocks-at-4 c = search rules
 
-slice-write-blocks-4 : tie.Need-slice-write-blocks-4
-slice-write-blocks-4 c = simp length-set (omega arith)
+bounds-blocks-at-4 : tie.Need-bounds-blocks-at-4
+bounds-blocks-at-4 c = simp length-set (omega arith)
 
-add-blocks-4 : tie.Need-overflow-add-blocks-4
-add-blocks-4 c = search rules
+overflow_add-blocks-4 : tie.Need-overflow_add-blocks-4
+overflow_add-blocks-4 c = search rules
 
-mul-blocks-5 : tie.Need-overflow-mul-blocks-5
-mul-blocks-5 c = search rules
+offset_bounds-blocks-at-5 : tie.Need-offset_bounds-blocks-at-5
+offset_bounds-blocks-at-5 c = search rules
 
-slice-write-blocks-5 : tie.Need-slice-write-blocks-5
-slice-write-blocks-5 c = simp length-set (omega arith)
+bounds-blocks-at-5 : tie.Need-bounds-blocks-at-5
+bounds-blocks-at-5 c = simp length-set (omega arith)
 
-same_length : tie.Need-same-length
-same_length c = search rules
+shape_of-blocks : tie.Need-shape_of-blocks
+shape_of-blocks c = search rules
 
 returns : tie.Need-returns
 returns c = block_put _ _ _ _ _
@@ -61,20 +61,20 @@ pub put_block_spec : {M : Type 1} → statement M
 put_block_spec =
     tie.close
     (tie.spec
-    mul_at
-    mul-blocks
-    slice-write-blocks
-    add-blocks
-    mul-blocks-2
-    slice-write-blocks-2
-    add-blocks-2
-    mul-blocks-3
-    slice-write-blocks-3
-    add-blocks-3
-    mul-blocks-4
-    slice-write-blocks-4
-    add-blocks-4
-    mul-blocks-5
-    slice-write-blocks-5
-    same_length
+    overflow_mul-at
+    offset_bounds-blocks-at
+    bounds-blocks-at
+    overflow_add-blocks
+    offset_bounds-blocks-at-2
+    bounds-blocks-at-2
+    overflow_add-blocks-2
+    offset_bounds-blocks-at-3
+    bounds-blocks-at-3
+    overflow_add-blocks-3
+    offset_bounds-blocks-at-4
+    bounds-blocks-at-4
+    overflow_add-blocks-4
+    offset_bounds-blocks-at-5
+    bounds-blocks-at-5
+    shape_of-blocks
     returns)
