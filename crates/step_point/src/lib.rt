@@ -1,5 +1,6 @@
 // The point step of a job.
 #![tactic(auto)]
+
 ghost use Rattle.std.specs.Prelude.{[], ◌*◌, ◌≤◌, length};
 ghost use Rattle.joiner.specs.Calls.{point, answer};
 ghost use Rattle.joiner.specs.Outcomes.{PointDone, CallStep};

@@ -17,7 +17,7 @@ use Rattle.maxima.specs.declared.Most.{Most}
 use Rattle.maxima.specs.Maxima as maxima
 use Rattle.writer.specs.Writing as writer
 use Rattle.reader.specs.Loaded as reader
-use Rattle.layer_printer.specs.Printing as layer-printer
+use Rattle.layer_printer.specs.Printing as layer_printer
 use Rattle.layer_printer.proofs.PrintedLayer.{print_refusal}
 use Rattle.joiner.specs.Declines as joiner
 use Rattle.strain_calls.specs.Declines.{opening_declines, opening_refusal, strain_declines, strain_refusal}
@@ -27,20 +27,20 @@ use Rattle.text.specs.Request.{declines_text, text_refusal, asked_extents}
 use Rattle.parser.specs.declared.Task.{Task}
 use Rattle.parser.specs.Asked.{task_of}
 use Rattle.parser.proofs.TextLaws.{text_read}
-use Rattle.theory_refusals.specs.PublicCalls.{PublicCall, label, most_components_lem, write_record, read_record, print_layer, opening, call, about_readings, about_cells_lem, program, cases_of, Answers}
+use Rattle.theory_refusals.specs.PublicCalls.{PublicCall, label, most_components, write_record, read_record, print_layer, opening, call, about_readings, about_cells, program, cases_of, Answers}
 
 -- 7 is on no list.
 pub seven_unlisted : (a : PublicCall) → is_in (listed_numbers (cases_of a)) (number blank-voxel) ≡ false
-unfolding is_in listed_numbers number cases_of labeller.declines maxima.declines writer.declines reader.declines layer-printer.declines opening_declines joiner.declines strain_declines cell_declines declines_text
+unfolding is_in listed_numbers number cases_of labeller.declines maxima.declines writer.declines reader.declines layer_printer.declines opening_declines joiner.declines strain_declines cell_declines declines_text
 seven_unlisted (label e codes m w) = refl
-seven_unlisted (most_components_lem e) = refl
+seven_unlisted (most_components e) = refl
 seven_unlisted (write_record e o m t) = refl
 seven_unlisted (read_record r t) = refl
 seven_unlisted (print_layer e z m t) = refl
 seven_unlisted (opening o lent w) = refl
 seven_unlisted (call s c) = refl
 seven_unlisted (about_readings s w c) = refl
-seven_unlisted (about_cells_lem s c) = refl
+seven_unlisted (about_cells s c) = refl
 seven_unlisted (program t) = refl
 
 -- the number of the line `refused`, 0 for a listing
@@ -54,16 +54,16 @@ task_shown n e = outcome_refusal shown n refl refl refl
 
 -- What is answered is what the list of cases gives.
 pub answers_cases : (a : PublicCall) (n : ℕ) → Answers a n → n ≡ given_refusal (cases_of a)
-unfolding cases_of labeller.refusal_of maxima.most_components maxima.accepted maxima.refused maxima.refusal_of writer.writing writer.accepted writer.refused writer.refusal_of reader.reading reader.accepted reader.refused reader.refusal_of layer-printer.refusal_of opening_refusal joiner.refusal strain_refusal cell_refusal text_refusal
+unfolding cases_of labeller.refusal_of maxima.most_components maxima.accepted maxima.refused maxima.refusal_of writer.writing writer.accepted writer.refused writer.refusal_of reader.reading reader.accepted reader.refused reader.refusal_of layer_printer.refusal_of opening_refusal joiner.refusal strain_refusal cell_refusal text_refusal
 answers_cases (label e codes m w) n (r, m', w', p, i) = i ∙ label_refusal e codes m w r m' w' p
-answers_cases (most_components_lem e) n (r, p, i) = i ∙ outcome_refusal (λ (a : Most). a.refusal) _ refl refl p
+answers_cases (most_components e) n (r, p, i) = i ∙ outcome_refusal (λ (a : Most). a.refusal) _ refl refl p
 answers_cases (write_record e o m t) n (r, t', p, i) = i ∙ outcome_refusal (λ (a : writer.Outcome). a.answer.refusal) _ refl refl p
 answers_cases (read_record b t) n (r, t', p, i) = i ∙ outcome_refusal (λ (a : reader.Outcome). a.answer.refusal) _ refl refl p
 answers_cases (print_layer e z m t) n (t', p) = print_refusal e z m t t' n p
 answers_cases (opening o lent w) n (s, v, p) = p.told
 answers_cases (call s c) n (a, t, p, i) = i ∙ p.told
 answers_cases (about_readings s w c) n (a, v, p, i) = i ∙ p.told
-answers_cases (about_cells_lem s c) n (a, p, i) = i ∙ step_told s c a p
+answers_cases (about_cells s c) n (a, p, i) = i ∙ step_told s c a p
 answers_cases (program t) n (d, room, p) = ap shown (sym p ∙ (text_read d t room).task) ∙ task_shown (text_refusal t) (asked_extents t)
 
 -- No public entry answers 7, whatever it is handed, and the program's line shows it for no text.

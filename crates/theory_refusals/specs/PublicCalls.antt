@@ -11,7 +11,7 @@ use Rattle.writer.specs.declared.Written.{Written}
 use Rattle.writer.specs.Writing as writer
 use Rattle.reader.specs.declared.Head.{Head}
 use Rattle.reader.specs.Loaded as reader
-use Rattle.layer_printer.specs.Printing as layer-printer
+use Rattle.layer_printer.specs.Printing as layer_printer
 use Rattle.joiner.specs.Job.{Told, Tables, State}
 use Rattle.joiner.specs.Calls.{Call, Answer}
 use Rattle.joiner.specs.Declines as joiner
@@ -32,7 +32,7 @@ use Rattle.parser.specs.Asked.{finished}
 pub data PublicCall : Type 0 where
   -- extents, codes, map and working tray
   label : Triple → List ℕ → List ℕ → List ℕ → PublicCall
-  most_components_lem : Triple → PublicCall
+  most_components : Triple → PublicCall
   -- extents, origin, map and record tray
   write_record : Triple → Triple → List ℕ → List ℕ → PublicCall
   -- a record and the map tray
@@ -46,33 +46,33 @@ pub data PublicCall : Type 0 where
   -- strain or total
   about_readings : State → TotalTables → StrainCall → PublicCall
   -- request_blocks or fill_cells
-  about_cells_lem : State → CellCall → PublicCall
+  about_cells : State → CellCall → PublicCall
   -- the listing program with a text to read
   program : List ℕ → PublicCall
 
 -- Its list of cases.
 unfoldable pub cases_of : PublicCall → List Case
 cases_of (label e codes m w) = labeller.declines e (length codes) (length m) (length w)
-cases_of (most_components_lem e) = maxima.declines e
+cases_of (most_components e) = maxima.declines e
 cases_of (write_record e o m t) = writer.declines e o m (length t)
 cases_of (read_record r t) = reader.declines r (length t)
-cases_of (print_layer e z m t) = layer-printer.declines e z m (length t)
+cases_of (print_layer e z m t) = layer_printer.declines e z m (length t)
 cases_of (opening o lent w) = opening_declines o lent w
 cases_of (call s c) = joiner.declines s c
 cases_of (about_readings s w c) = strain_declines s w c
-cases_of (about_cells_lem s c) = cell_declines s c
+cases_of (about_cells s c) = cell_declines s c
 cases_of (program t) = declines_text (words_of t)
 
 -- n is the number with which it is answered, 0 for no refusal: what is left and answered is as the `ensures` of the public entry says, and n is its refusal.
 -- Of the program, once it has read the text to its end, the number of the line `refused` that it is to print.
 abbrev pub Answers : PublicCall → ℕ → Type 0
 Answers (label e codes m w) n = (r : Labelled) × (m' : List ℕ) × (w' : List ℕ) × (labeller.outcome r m' w' ≡ labeller.labelling e codes m w) × (n ≡ r.refusal)
-Answers (most_components_lem e) n = (r : Most) × (r ≡ maxima.most_components e) × (n ≡ r.refusal)
+Answers (most_components e) n = (r : Most) × (r ≡ maxima.most_components e) × (n ≡ r.refusal)
 Answers (write_record e o m t) n = (r : Written) × (t' : List ℕ) × (writer.outcome r t' ≡ writer.writing e o m t) × (n ≡ r.refusal)
 Answers (read_record b t) n = (r : Head) × (t' : List ℕ) × (reader.outcome r t' ≡ reader.reading b t) × (n ≡ r.refusal)
-Answers (print_layer e z m t) n = (t' : List ℕ) × (layer-printer.outcome n t' ≡ layer-printer.layer_printing e z m t)
+Answers (print_layer e z m t) n = (t' : List ℕ) × (layer_printer.outcome n t' ≡ layer_printer.layer_printing e z m t)
 Answers (opening o lent w) n = (s : State) × (v : TotalTables) × TotalsOpening o lent w n s v
 Answers (call s c) n = (a : Answer) × (t : State) × CallStep s c a t × (n ≡ a.refusal)
 Answers (about_readings s w c) n = (a : StrainAnswer) × (v : TotalTables) × StrainStep s w c a v × (n ≡ a.refusal)
-Answers (about_cells_lem s c) n = (a : CellAnswer) × CellStep s c a × (n ≡ a.refusal)
+Answers (about_cells s c) n = (a : CellAnswer) × CellStep s c a × (n ≡ a.refusal)
 Answers (program t) n = (d : List ℕ) × (length d ≡ 512) × ((finished (after (state begun d) t)).task ≡ Task.PrintRefused n)

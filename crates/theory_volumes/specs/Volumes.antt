@@ -18,7 +18,7 @@ pub data Question : Type 0 where
   -- the refusal that `label` answers for a block of these extents, 0 for none: its codes are all 1, its trays have the stated lengths
   size : Triple → Question
   -- the refusal that it answers for these codes
-  refusal_of_lem : Triple → List ℕ → Question
+  refusal_of : Triple → List ℕ → Question
   -- the map of a volume
   map_of : Triple → List ℕ → Question
   -- how many faces, curves and points it has
@@ -45,7 +45,7 @@ closed_job o =
 -- What the definitions answer.
 unfoldable pub answer : Question → List ℕ
 answer (size e) = (labelling e (tabulate (volume e) (λ i. 1)) (zeros (cells e)) (zeros (cells e))).answer.refusal ∷ []
-answer (refusal_of_lem e codes) = (labelling e codes (zeros (cells e)) (zeros (cells e))).answer.refusal ∷ []
+answer (refusal_of e codes) = (labelling e codes (zeros (cells e)) (zeros (cells e))).answer.refusal ∷ []
 answer (map_of e codes) = labels e codes
 answer (counts e codes) = map (λ j. largest e (labels e codes) j) (2 ∷ 1 ∷ 0 ∷ [])
 answer (row_of e codes j n) = component_row e (labels e codes) j n
@@ -130,14 +130,14 @@ volumes =
     ask (map_of (triple 3 3 2) figure)
     (1 ∷ 0 ∷ 1 ∷ 0 ∷ 1 ∷ 0 ∷ 0 ∷ 1 ∷ 0 ∷ 0 ∷ 1 ∷ 1 ∷ 2 ∷ 1 ∷ 1 ∷ 0 ∷ 0 ∷ 1 ∷ 0 ∷ 2 ∷ 1 ∷ 0 ∷ 1 ∷ 2 ∷ 3 ∷ 3 ∷ 0 ∷ 3 ∷ 0 ∷ 3 ∷ 0 ∷ 0 ∷ 1 ∷ 0 ∷ 0 ∷ 3 ∷ 1 ∷ 4 ∷ 1 ∷ 3 ∷ 0 ∷ 0 ∷ 1 ∷ 0 ∷ 2 ∷ 3 ∷ 0 ∷ 3 ∷ 2 ∷ 5 ∷ 4 ∷ 0 ∷ 4 ∷ 0 ∷ 4 ∷ 0 ∷ 0 ∷ 6 ∷ 0 ∷ 0 ∷ 4 ∷ 6 ∷ 5 ∷ 6 ∷ 4 ∷ 0 ∷ 0 ∷ 6 ∷ 0 ∷ 7 ∷ 4 ∷ 0 ∷ 4 ∷ 7 ∷ 6 ∷ []) ∷
     ask (counts (triple 3 3 2) figure) (7 ∷ 2 ∷ 0 ∷ []) ∷
-    ask (refusal_of_lem (triple 2 1 1) (5 ∷ 0 ∷ [])) (0 ∷ []) ∷
+    ask (refusal_of (triple 2 1 1) (5 ∷ 0 ∷ [])) (0 ∷ []) ∷
     ask (map_of (triple 2 1 1) (5 ∷ 0 ∷ [])) (5 ∷ 1 ∷ 0 ∷ []) ∷
     ask (row_of (triple 2 1 1) (5 ∷ 0 ∷ []) 2 1) (5 ∷ 0 ∷ 0 ∷ 0 ∷ 0 ∷ 0 ∷ []) ∷
     ask (map_of (triple 2 2 1) (1 ∷ 0 ∷ 0 ∷ 2 ∷ [])) (1 ∷ 1 ∷ 0 ∷ 1 ∷ 0 ∷ 2 ∷ 0 ∷ 2 ∷ 2 ∷ []) ∷
     ask (counts (triple 2 2 1) (1 ∷ 0 ∷ 0 ∷ 2 ∷ [])) (2 ∷ 0 ∷ 0 ∷ []) ∷
     ask (row_of (triple 2 2 1) (1 ∷ 0 ∷ 0 ∷ 2 ∷ []) 2 1) (1 ∷ 0 ∷ 0 ∷ 0 ∷ 0 ∷ 0 ∷ []) ∷
     ask (row_of (triple 2 2 1) (1 ∷ 0 ∷ 0 ∷ 2 ∷ []) 2 2) (2 ∷ 0 ∷ 0 ∷ 0 ∷ 0 ∷ 0 ∷ []) ∷
-    ask (refusal_of_lem line.extents zero_codes) (0 ∷ []) ∷
+    ask (refusal_of line.extents zero_codes) (0 ∷ []) ∷
     ask (map_of line.extents zero_codes) (0 ∷ 0 ∷ 0 ∷ 0 ∷ 0 ∷ []) ∷
     ask (joined (told line 0 0 0) zero_codes) (0 ∷ 0 ∷ 0 ∷ []) ∷
     ask (counts (triple 3 3 3) hole) (1 ∷ 0 ∷ 0 ∷ []) ∷

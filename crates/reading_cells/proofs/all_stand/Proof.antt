@@ -32,7 +32,7 @@ returns-then-not-stands_at : tie.Need-returns-then-not-stands_at invariant-loop-
 returns-then-not-stands_at c =
     let at = c.before.before in
     let counted = at.before.before.before in
-    stand_broken _ _ _ _ _ _ _ _ _ _ _ at.Cell-at.ensures c.before.stands_at.ensures _ counted.cell_count-n.ensures (omega arith) (ap not c.if-not-stands_at.true)
+    stand_broken _ _ _ _ _ _ _ _ _ _ _ at.cell_at.ensures c.before.stands_at.ensures _ counted.cell_count-n.ensures (omega arith) (ap not c.if-not-stands_at.true)
 
 overflow_add-i : tie.Need-overflow_add-i invariant-loop-i decreases-loop-i
 overflow_add-i c = search rules
@@ -43,7 +43,7 @@ loop-i-smaller c = search rules
 loop-i-preserved : tie.Need-loop-i-preserved invariant-loop-i decreases-loop-i
 loop-i-preserved c =
     let at = c.before.before in
-    stand_more _ _ _ _ _ _ _ _ _ _ _ at.Cell-at.ensures c.before.stands_at.ensures at.before.before.loop-i.invariant (ap not c.if-not-stands_at.false)
+    stand_more _ _ _ _ _ _ _ _ _ _ _ at.cell_at.ensures c.before.stands_at.ensures at.before.before.loop-i.invariant (ap not c.if-not-stands_at.false)
 
 returns : tie.Need-returns invariant-loop-i decreases-loop-i
 returns c = stand_all _ _ _ _ _ _ _ _ c.before.before.cell_count-n.ensures (omega arith) c.before.loop-i.invariant

@@ -31,7 +31,7 @@ overflow_cast-c-3 c = search rules
 local-p-requires : tie.Need-local-p-requires
 local-p-requires c κs =
     let own = c.before.before.before in
-    own_local _ _ _ (start own.before).requires.1 own.before.is_own.ensures (ap not own.if-not-is_own.false)
+    own_local _ _ _ (start own.before.before).requires.1 own.before.is_own.ensures (ap not own.if-not-is_own.false)
 
 read_or_zero-n-requires : tie.Need-read_or_zero-n-requires
 read_or_zero-n-requires c κs = search rules
@@ -40,7 +40,7 @@ number_of-requires : tie.Need-number_of-requires
 number_of-requires c κs =
     let place = c.before in
     let own = place.before.before.before.before in
-    let p = (start own.before).requires in
+    let p = (start own.before.before.before.before).requires in
     own_placed _ _ _ _ p.0 p.2 own.before.is_own.ensures (ap not own.if-not-is_own.false)
 
 returns : tie.Need-returns

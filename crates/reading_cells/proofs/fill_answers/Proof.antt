@@ -45,7 +45,7 @@ answer_at-requires c κs =
     let at = c.before in
     let turn = at.before.before in
     let B = (start turn).requires in
-    (B.sized, B.small_block, rw at.Cell-at.ensures (B.inside _ (omega (arith, turn.loop-i.invariant.1))))
+    (B.sized, B.small_block, rw at.cell_at-c.ensures (B.inside _ (omega (arith, turn.loop-i.invariant.1))))
 
 offset_bounds-answers-i-in-loop-i : tie.Need-offset_bounds-answers-i-in-loop-i invariant-loop-i decreases-loop-i
 offset_bounds-answers-i-in-loop-i c = let few = few_places c.before.before.before in search (rules, few)
@@ -68,7 +68,7 @@ loop-i-preserved c =
     let inside : now.i < length (start turn).args.answers.now = omega (arith, held.1) in (
       omega (arith, inside),
       length-set {A = ℕ} now.answers now.i c.answer_at.result ∙ held.1,
-      answers_more _ _ _ _ _ _ _ (start turn).args.answers.now _ _ _ _ _ _ _ inside held.2 at.Cell-at.ensures refl c.answer_at.ensures,
+      answers_more _ _ _ _ _ _ _ (start turn).args.answers.now _ _ _ _ _ _ _ inside held.2 at.cell_at-c.ensures refl c.answer_at.ensures,
     )
 
 shape_of-answers : tie.Need-shape_of-answers invariant-loop-i decreases-loop-i

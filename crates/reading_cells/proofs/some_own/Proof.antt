@@ -31,7 +31,7 @@ returns-then-is_own : tie.Need-returns-then-is_own invariant-loop-i decreases-lo
 returns-then-is_own c =
     let at = c.before.before in
     let counted = at.before.before.before in
-    own_found _ _ _ _ _ _ _ at.Cell-at.ensures c.before.is_own.ensures _ counted.cell_count-n.ensures (omega arith) c.if-is_own.true
+    own_found _ _ _ _ _ _ _ at.cell_at.ensures c.before.is_own.ensures _ counted.cell_count-n.ensures (omega arith) c.if-is_own.true
 
 overflow_add-i : tie.Need-overflow_add-i invariant-loop-i decreases-loop-i
 overflow_add-i c = search rules
@@ -42,7 +42,7 @@ loop-i-smaller c = search rules
 loop-i-preserved : tie.Need-loop-i-preserved invariant-loop-i decreases-loop-i
 loop-i-preserved c =
     let at = c.before.before in
-    own_more _ _ _ _ _ _ _ at.Cell-at.ensures c.before.is_own.ensures at.before.before.loop-i.invariant c.if-is_own.false
+    own_more _ _ _ _ _ _ _ at.cell_at.ensures c.before.is_own.ensures at.before.before.loop-i.invariant c.if-is_own.false
 
 returns : tie.Need-returns invariant-loop-i decreases-loop-i
 returns c = own_nowhere _ _ _ _ c.before.before.cell_count-n.ensures (omega arith) c.before.loop-i.invariant

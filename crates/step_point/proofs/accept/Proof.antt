@@ -4,31 +4,31 @@ use Rattle.step_point.proofs.DoneLaws.{accept_advance, accept_store, accept_clos
 use Rattle.step_point.proofs.accept.Statement.{statement}
 use Rattle.step_point.proofs.accept.Tie as tie
 
-mul-step : tie.Need-overflow-mul-step
-mul-step c = search rules
+overflow_mul-step : tie.Need-overflow_mul-step
+overflow_mul-step c = search rules
 
-add_step : tie.Need-overflow-add-step
-add_step c = search rules
+overflow_add-step : tie.Need-overflow_add-step
+overflow_add-step c = search rules
 
-cast-at : tie.Need-overflow-cast-at
-cast-at c = search rules
+overflow_cast-at : tie.Need-overflow_cast-at
+overflow_cast-at c = search rules
 
-block-at-requires : tie.Need-block-at-requires
-block-at-requires c κs = search rules
+block_at-r-requires : tie.Need-block_at-r-requires
+block_at-r-requires c κs = search rules
 
-entry-of-requires : tie.Need-entry-of-requires
-entry-of-requires c κs = search rules
+entry_of-d-requires : tie.Need-entry_of-d-requires
+entry_of-d-requires c κs = search rules
 
-advance-requires : tie.Need-advance-requires
-advance-requires c κs =
+advance-next-requires : tie.Need-advance-next-requires
+advance-next-requires c κs =
     let back4 = c.before.before.before.before in
     let back8 = back4.before.before.before.before in
     let back12 = back8.before.before.before.before in
     accept_advance _ _ _ _ _ _ _ _ _ _ _ _ _ _ _
     back12.before.before.before.before.requires
 
-store-points-requires : tie.Need-store-points-requires
-store-points-requires c κs =
+store_points-requires : tie.Need-store_points-requires
+store_points-requires c κs =
     let back4 = c.before.before.before.before in
     let back8 = back4.before.before.before.before in
     let back12 = back8.before.before.before.before in
@@ -36,7 +36,7 @@ store-points-requires c κs =
     let back20 = back16.before.before.before.before in
     accept_store _ _ _ _ _ _ _ _ _ _ _ _ _ _ _
     back20.before.requires _
-    back4.before.before.before.block_at.ensures _ back4.before.before.entry_of.ensures
+    back4.before.before.before.block_at-r.ensures _ back4.before.before.entry_of-d.ensures
 
 close-requires : tie.Need-close-requires
 close-requires c κs =
@@ -48,29 +48,29 @@ close-requires c κs =
     let back24 = back20.before.before.before.before in
     let back28 = back24.before.before.before.before in
     accept_close _ _ _ _ _ _ _ _ _ _ _ _ _ _ _
-    back28.before.before.before.requires _
-    back16.before.block_at.ensures _
-    back12.before.before.before.before.entry_of.ensures _ _
-    back12.before.before.advance.ensures _
-    back8.before.store-points.ensures.0
+    back28.before.requires _
+    back16.before.block_at-r.ensures _
+    back12.before.before.before.before.entry_of-d.ensures _ _
+    back12.before.before.advance-next.ensures _
+    back8.before.store_points.ensures.0
 
-same_length : tie.Need-same-length
-same_length c = search rules
+shape_of-ticks : tie.Need-shape_of-ticks
+shape_of-ticks c = search rules
 
-same-length-2 : tie.Need-same-length-2
-same-length-2 c = search rules
+shape_of-keys : tie.Need-shape_of-keys
+shape_of-keys c = search rules
 
-same-length-3 : tie.Need-same-length-3
-same-length-3 c = search rules
+shape_of-rows : tie.Need-shape_of-rows
+shape_of-rows c = search rules
 
-same-length-4 : tie.Need-same-length-4
-same-length-4 c = search rules
+shape_of-numbers : tie.Need-shape_of-numbers
+shape_of-numbers c = search rules
 
-same-length-5 : tie.Need-same-length-5
-same-length-5 c = search rules
+shape_of-firsts : tie.Need-shape_of-firsts
+shape_of-firsts c = search rules
 
-same-length-6 : tie.Need-same-length-6
-same-length-6 c = search rules
+shape_of-listed : tie.Need-shape_of-listed
+shape_of-listed c = search rules
 
 returns : tie.Need-returns
 returns c =
@@ -84,29 +84,29 @@ returns c =
     let back32 = back28.before.before.before.before in
     let back36 = back32.before.before.before.before in
     accept_done _ _ _ _ _ _ _ _ _ _ _ _ _ _ _
-    back36.before.before.requires _
-    back20.before.before.before.before.block_at.ensures _
-    back20.before.before.before.entry_of.ensures _ _
-    back20.before.advance.ensures _
-    back12.before.before.before.before.store-points.ensures.0 _
-    back12.before.before.before.before.store-points.ensures.1 _ _ _ _ back4.before.before.close.ensures
+    back36.requires _
+    back20.before.before.before.before.block_at-r.ensures _
+    back20.before.before.before.entry_of-d.ensures _ _
+    back20.before.advance-next.ensures _
+    back12.before.before.before.before.store_points.ensures.0 _
+    back12.before.before.before.before.store_points.ensures.1 _ _ _ _ back4.before.before.close.ensures
 
 pub accept_spec : {M : Type 1} → statement M
 accept_spec =
     tie.close
     (tie.spec
-    mul-step
-    add_step
-    cast-at
-    block-at-requires
-    entry-of-requires
-    advance-requires
-    store-points-requires
+    overflow_mul-step
+    overflow_add-step
+    overflow_cast-at
+    block_at-r-requires
+    entry_of-d-requires
+    advance-next-requires
+    store_points-requires
     close-requires
-    same_length
-    same-length-2
-    same-length-3
-    same-length-4
-    same-length-5
-    same-length-6
+    shape_of-ticks
+    shape_of-keys
+    shape_of-rows
+    shape_of-numbers
+    shape_of-firsts
+    shape_of-listed
     returns)
