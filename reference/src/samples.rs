@@ -14,11 +14,11 @@ const COMMAND: &str = "cargo run --release --offline --quiet --manifest-path ref
 
 const HEAD: &str = "\
 -- Assumes nothing.
-use mathlib.Core.List.{List, [], _∷_}
-use Rattle·closure.specs.Joined.{edge}
-use Rattle·cells.specs.Box.{triple}
-use Rattle·theory_model.specs.Volumes.{told}
-use Rattle·theory_samples·specs.specs.Answers.{components, Sample, sample, block, kindContents, Job, job}
+use Rattle.std.specs.Prelude.{List, [], ◌∷◌}
+use Rattle.closure.specs.Joined.{edge}
+use Rattle.cells.specs.Box.{triple}
+use Rattle.theory_model.specs.Volumes.{told}
+use Rattle.theory_samples.specs.Answers.{components, Sample, sample, block, kind_contents, Job, job}
 ";
 
 /// A list as the theory writes it.
@@ -83,7 +83,7 @@ fn job(cutting: &Cutting, codes: &[u32]) -> String {
     let lists = [0, 1, 2].map(|a: usize| list(&cutting.cuts[a]));
     let stated = format!("record {{ extents = {}; cx = {}; cy = {}; cz = {} }}", triple(cutting.extents), lists[0], lists[1], lists[2]);
     let rows = |order: usize| argument(labelling.components[order].iter().flat_map(|c| c.row.into_iter().take(width(order))));
-    let kinds = components("kindContents", &labelling, rows);
+    let kinds = components("kind_contents", &labelling, rows);
     format!("    job ({blocks}[])\n    {seams} (told ({stated}) {faces} {curves} {points}) {}\n{kinds}", argument(codes))
 }
 
