@@ -1,5 +1,6 @@
 // The tests of the readings' step: the first ones, the lengths, the map and the totals of the block's faces, the readings.
 #![tactic(auto)]
+
 ghost use Rattle.std.specs.Prelude.{◌≡◌, ◌≤◌, length};
 ghost use Rattle.cells.specs.Box.{triple};
 ghost use Rattle.cells.specs.Extents.{Sized};

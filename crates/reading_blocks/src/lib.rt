@@ -1,5 +1,6 @@
 // Which blocks are needed for a list of cells of a closed job.
 #![tactic(auto)]
+
 ghost use Rattle.std.specs.Prelude.{◌≡◌, true, ◌≤◌, ◌<◌, length};
 ghost use Rattle.lists.specs.Lists.{laid};
 ghost use Rattle.cutting.specs.Cutting.{most_blocks};

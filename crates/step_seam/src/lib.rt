@@ -1,5 +1,6 @@
 // The seam step of a job.
 #![tactic(auto)]
+
 ghost use Rattle.std.specs.Prelude.{◌≡◌, [], length};
 ghost use Rattle.closure.specs.Joined.{joins};
 ghost use Rattle.union_find.specs.Links.{root, Rooted};

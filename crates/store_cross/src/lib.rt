@@ -1,5 +1,6 @@
 // What an accepted crossing step stores: the block's curves joined; with the last block faces and curves numbered.
 #![tactic(auto)]
+
 ghost use Rattle.std.specs.Prelude.{length};
 ghost use Rattle.blocks.specs.Blocks.{cut_of};
 ghost use Rattle.job.specs.JobState.{job_of};

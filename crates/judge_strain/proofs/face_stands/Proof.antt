@@ -4,21 +4,21 @@ use Rattle.judge_strain.proofs.TestLaws.{face_none, face_some, face_long, face_b
 use Rattle.judge_strain.proofs.face_stands.Statement.{statement}
 use Rattle.judge_strain.proofs.face_stands.Tie as tie
 
-number-stands-requires : tie.Need-number-stands-requires
-number-stands-requires c κs = search rules
+number_stands-requires : tie.Need-number_stands-requires
+number_stands-requires c κs = search rules
+
+returns-then-not-number_stands : tie.Need-returns-then-not-number_stands
+returns-then-not-number_stands c = search face_none
+
+read_or_zero-requires : tie.Need-read_or_zero-requires
+read_or_zero-requires c κs = search rules
+
+both_stand-requires : tie.Need-both_stand-requires
+both_stand-requires c κs = search (face_some, face_long)
 
 returns : tie.Need-returns
-returns c = search face_none
-
-read-or-zero-requires : tie.Need-read-or-zero-requires
-read-or-zero-requires c κs = search rules
-
-both-stand-requires : tie.Need-both-stand-requires
-both-stand-requires c κs = search (face_some, face_long)
-
-returns-2 : tie.Need-returns-2
-returns-2 c = search face_both
+returns c = search face_both
 
 pub face_stands_spec : {M : Type 1} → statement M
 face_stands_spec =
-    tie.close (tie.spec number-stands-requires returns read-or-zero-requires both-stand-requires returns-2)
+    tie.close (tie.spec number_stands-requires returns-then-not-number_stands read_or_zero-requires both_stand-requires returns)

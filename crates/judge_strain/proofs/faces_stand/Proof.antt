@@ -1,6 +1,7 @@
 -- `judge_strain::faces_stand` meets its contract. The invariant: what is left to test has the answer of all. The measure is what is left.
+use mathlib.Core.Bool.{not}
 use Prim.Native.Nat.{◌+◌, ◌-◌, ◌≤◌}
-use mathlib.Core.Path.{◌≡◌, ◌∙◌, sym}
+use mathlib.Core.Path.{◌≡◌, ◌∙◌, sym, ap}
 use native.Mathlib.Omega.{arith}
 use borrow.Author.Rules.{rules}
 use borrow.Author.Tests.{not-true, not-false}
@@ -10,55 +11,55 @@ use Rattle.judge_strain.specs.Tests.{face_in, faces_in}
 use Rattle.judge_strain.proofs.faces_stand.Statement.{statement}
 use Rattle.judge_strain.proofs.faces_stand.Tie as tie
 
-abbrev invariant-loop : tie.invariant-loop
-invariant-loop numbers most cells sums counts from count start n i₀ i =
+abbrev invariant-loop-i : tie.invariant-loop-i
+invariant-loop-i numbers most cells sums counts from count start n i₀ i =
     (i ≤ n) × (all_of (face_in numbers most cells sums counts) (consecutive (start + i) (n - i)) ≡ faces_in numbers most cells sums counts start n)
 
-abbrev decreases-loop : tie.decreases-loop
-decreases-loop numbers most cells sums counts from count start n i₀ i = n - i
+abbrev decreases-loop-i : tie.decreases-loop-i
+decreases-loop-i numbers most cells sums counts from count start n i₀ i = n - i
 
-loop-holds : tie.Need-loop-init invariant-loop decreases-loop
+loop-i-init : tie.Need-loop-i-init invariant-loop-i decreases-loop-i
 unfolding faces_in
-loop-holds c =
+loop-i-init c =
     let a = c.before.before.before.args in
     (omega arith, test_same (face_in a.numbers.now a.most a.cells a.sums.now a.counts.now) (a.from + 0) (a.count - 0) a.from a.count (omega arith) (omega arith))
 
-add-face-stands : tie.Need-overflow-add-face-stands invariant-loop decreases-loop
-add-face-stands c = search rules
+overflow_add-start : tie.Need-overflow_add-start invariant-loop-i decreases-loop-i
+overflow_add-start c = search rules
 
-face-stands-requires : tie.Need-face-stands-requires invariant-loop decreases-loop
-face-stands-requires c κs = search rules
+face_stands-requires : tie.Need-face_stands-requires invariant-loop-i decreases-loop-i
+face_stands-requires c κs = search rules
 
-returns : tie.Need-returns invariant-loop decreases-loop
-returns c =
-    let l = c.before.before.before.loop in
-    test_failed (face_in _ _ _ _ _) _ _ (omega arith) (sym c.before.face-stands.ensures ∙ not-true _ c.if1.true) ∙ l.invariant.1
+returns-then-not-face_stands : tie.Need-returns-then-not-face_stands invariant-loop-i decreases-loop-i
+returns-then-not-face_stands c =
+    let l = c.before.before.before.loop-i in
+    test_failed (face_in _ _ _ _ _) _ _ (omega arith) (sym c.before.face_stands.ensures ∙ not-true _ (ap not c.if-not-face_stands.true)) ∙ l.invariant.1
 
-add-i : tie.Need-overflow-add-i invariant-loop decreases-loop
-add-i c = search rules
+overflow_add-i : tie.Need-overflow_add-i invariant-loop-i decreases-loop-i
+overflow_add-i c = search rules
 
-loop-less : tie.Need-loop-smaller invariant-loop decreases-loop
-loop-less c = search rules
+loop-i-smaller : tie.Need-loop-i-smaller invariant-loop-i decreases-loop-i
+loop-i-smaller c = search rules
 
-loop-again : tie.Need-loop-preserved invariant-loop decreases-loop
-loop-again c =
-    let l = c.before.before.before.loop in
-    (omega arith, test_passed (face_in _ _ _ _ _) _ _ _ _ (omega arith) (omega arith) (sym c.before.face-stands.ensures ∙ not-false _ c.if1.false) ∙ l.invariant.1)
+loop-i-preserved : tie.Need-loop-i-preserved invariant-loop-i decreases-loop-i
+loop-i-preserved c =
+    let l = c.before.before.before.loop-i in
+    (omega arith, test_passed (face_in _ _ _ _ _) _ _ _ _ (omega arith) (omega arith) (sym c.before.face_stands.ensures ∙ not-false _ (ap not c.if-not-face_stands.false)) ∙ l.invariant.1)
 
-returns-2 : tie.Need-returns-2 invariant-loop decreases-loop
-returns-2 c = let l = c.before.loop in test_none (face_in _ _ _ _ _) _ _ (omega arith) ∙ l.invariant.1
+returns : tie.Need-returns invariant-loop-i decreases-loop-i
+returns c = let l = c.before.loop-i in test_none (face_in _ _ _ _ _) _ _ (omega arith) ∙ l.invariant.1
 
 pub faces_stand_spec : {M : Type 1} → statement M
 faces_stand_spec =
     tie.close
     (tie.spec
-    invariant-loop
-    decreases-loop
-    loop-holds
-    add-face-stands
-    face-stands-requires
-    returns
-    add-i
-    loop-less
-    loop-again
-    returns-2)
+    invariant-loop-i
+    decreases-loop-i
+    loop-i-init
+    overflow_add-start
+    face_stands-requires
+    returns-then-not-face_stands
+    overflow_add-i
+    loop-i-smaller
+    loop-i-preserved
+    returns)

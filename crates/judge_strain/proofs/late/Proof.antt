@@ -7,17 +7,17 @@ use Rattle.judge_strain.proofs.late.Tie as tie
 stand-requires : tie.Need-stand-requires
 stand-requires c κs = search rules
 
+returns-then-not-stand : tie.Need-returns-then-not-stand
+returns-then-not-stand c = search late_8
+
+readings_fit-requires : tie.Need-readings_fit-requires
+readings_fit-requires c κs = search late_lists
+
+returns-then-not-readings_fit : tie.Need-returns-then-not-readings_fit
+returns-then-not-readings_fit c = search late_12
+
 returns : tie.Need-returns
-returns c = search late_8
-
-readings-fit-requires : tie.Need-readings-fit-requires
-readings-fit-requires c κs = search late_lists
-
-returns-2 : tie.Need-returns-2
-returns-2 c = search late_12
-
-returns-3 : tie.Need-returns-3
-returns-3 c = search late_0
+returns c = search late_0
 
 pub late_spec : {M : Type 1} → statement M
-late_spec = tie.close (tie.spec stand-requires returns readings-fit-requires returns-2 returns-3)
+late_spec = tie.close (tie.spec stand-requires returns-then-not-stand readings_fit-requires returns-then-not-readings_fit returns)

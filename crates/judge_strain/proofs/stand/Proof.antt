@@ -4,35 +4,35 @@ use Rattle.judge_strain.proofs.TestLaws.{stand_tallies, stand_map, stand_holds, 
 use Rattle.judge_strain.proofs.stand.Statement.{statement}
 use Rattle.judge_strain.proofs.stand.Tie as tie
 
-tallies-fit-requires : tie.Need-tallies-fit-requires
-tallies-fit-requires c κs = search rules
+tallies_fit-requires : tie.Need-tallies_fit-requires
+tallies_fit-requires c κs = search rules
+
+returns-then-not-tallies_fit : tie.Need-returns-then-not-tallies_fit
+returns-then-not-tallies_fit c = search stand_tallies
+
+map_stands-requires : tie.Need-map_stands-requires
+map_stands-requires c κs = search rules
+
+returns-then-not-map_stands : tie.Need-returns-then-not-map_stands
+returns-then-not-map_stands c = search stand_map
+
+cell_count-cells-requires : tie.Need-cell_count-cells-requires
+cell_count-cells-requires c κs = search rules
+
+faces_stand-requires : tie.Need-faces_stand-requires
+faces_stand-requires c κs = search stand_holds
 
 returns : tie.Need-returns
-returns c = search stand_tallies
-
-map-stands-requires : tie.Need-map-stands-requires
-map-stands-requires c κs = search rules
-
-returns-2 : tie.Need-returns-2
-returns-2 c = search stand_map
-
-cell-count-requires : tie.Need-cell-count-requires
-cell-count-requires c κs = search rules
-
-faces-stand-requires : tie.Need-faces-stand-requires
-faces-stand-requires c κs = search stand_holds
-
-returns-3 : tie.Need-returns-3
-returns-3 c = search stand_faces
+returns c = search stand_faces
 
 pub stand_spec : {M : Type 1} → statement M
 stand_spec =
     tie.close
     (tie.spec
-    tallies-fit-requires
-    returns
-    map-stands-requires
-    returns-2
-    cell-count-requires
-    faces-stand-requires
-    returns-3)
+    tallies_fit-requires
+    returns-then-not-tallies_fit
+    map_stands-requires
+    returns-then-not-map_stands
+    cell_count-cells-requires
+    faces_stand-requires
+    returns)

@@ -4,43 +4,43 @@ use Rattle.reading_blocks.proofs.RequestLaws.{request_first, request_4, request_
 use Rattle.reading_blocks.proofs.refusal.Statement.{statement}
 use Rattle.reading_blocks.proofs.refusal.Tie as tie
 
-opened-requires : tie.Need-opened-requires
-opened-requires c κs = search rules
+opened-number-requires : tie.Need-opened-number-requires
+opened-number-requires c κs = search rules
+
+returns-then-number-ne0 : tie.Need-returns-then-number-ne0
+returns-then-number-ne0 c = search request_first
+
+all_in_grid-requires : tie.Need-all_in_grid-requires
+all_in_grid-requires c κs = search rules
+
+returns-then-not-all_in_grid : tie.Need-returns-then-not-all_in_grid
+returns-then-not-all_in_grid c = search request_4
+
+lengths_one-requires : tie.Need-lengths_one-requires
+lengths_one-requires c κs = search rules
+
+returns-then-not-lengths_one : tie.Need-returns-then-not-lengths_one
+returns-then-not-lengths_one c = search request_6
+
+tallies_fit-requires : tie.Need-tallies_fit-requires
+tallies_fit-requires c κs = search rules
+
+returns-then-not-tallies_fit : tie.Need-returns-then-not-tallies_fit
+returns-then-not-tallies_fit c = search request_8
 
 returns : tie.Need-returns
-returns c = search request_first
-
-all-in-grid-requires : tie.Need-all-in-grid-requires
-all-in-grid-requires c κs = search rules
-
-returns-2 : tie.Need-returns-2
-returns-2 c = search request_4
-
-lengths-one-requires : tie.Need-lengths-one-requires
-lengths-one-requires c κs = search rules
-
-returns-3 : tie.Need-returns-3
-returns-3 c = search request_6
-
-tallies-fit-requires : tie.Need-tallies-fit-requires
-tallies-fit-requires c κs = search rules
-
-returns-4 : tie.Need-returns-4
-returns-4 c = search request_8
-
-returns-5 : tie.Need-returns-5
-returns-5 c = search request_0
+returns c = search request_0
 
 pub refusal_spec : {M : Type 1} → statement M
 refusal_spec =
     tie.close
     (tie.spec
-    opened-requires
-    returns
-    all-in-grid-requires
-    returns-2
-    lengths-one-requires
-    returns-3
-    tallies-fit-requires
-    returns-4
-    returns-5)
+    opened-number-requires
+    returns-then-number-ne0
+    all_in_grid-requires
+    returns-then-not-all_in_grid
+    lengths_one-requires
+    returns-then-not-lengths_one
+    tallies_fit-requires
+    returns-then-not-tallies_fit
+    returns)
