@@ -1,15 +1,13 @@
 -- `step_cross::accept` meets its contract.
 use mathlib.Core.Bool.{not}
 use mathlib.Core.Path.{ap}
-use borrow.Author.Rules.{rules}
 use native.Mathlib.Omega.{arith}
 use Rattle.step_cross.proofs.DoneLaws.{join_ready, tallies_are, faces_room, curves_room, done_before, done_last}
 use Rattle.step_cross.proofs.accept.Goals as goal
 
--- `step_cross::accept` meets its contract.
 pub join_curves-next-requires : goal.join_curves-next-requires
 join_curves-next-requires c =
-    (join_ready _ _ _ (c.requires) (omega (arith, c.well_formed)) (omega (arith, c.well_formed)), tallies_are _ _ _ (c.requires))
+    (join_ready _ _ _ c.requires (omega (arith, c.well_formed)) (omega (arith, c.well_formed)), tallies_are _ _ _ c.requires)
 
 pub returns-then-not-same_stage : goal.returns-then-not-same_stage
 returns-then-not-same_stage c =
@@ -17,7 +15,7 @@ returns-then-not-same_stage c =
 
 pub number_both-totals-requires : goal.number_both-totals-requires
 number_both-totals-requires c =
-    (faces_room _ _ _ (c.requires), curves_room _ _ _ (c.requires))
+    record { kind_room = faces_room _ _ _ c.requires; kind_room_2 = curves_room _ _ _ c.requires }
 
 pub returns : goal.returns
 returns c =

@@ -52,8 +52,8 @@ shape_of-face_listed c = search rules
 shape_of-curve_listed : tie.Need-shape_of-curve_listed
 shape_of-curve_listed c = search rules
 
-returns-then-number-ne0 : tie.Need-returns-then-number-ne0
-returns-then-number-ne0 c =
+returns : tie.Need-returns
+returns c =
     let back4 = c.before.before.before.before in
     let back8 = back4.before.before.before.before in
     let back12 = back8.before.before.before.before in
@@ -82,4 +82,4 @@ crossing_spec =
     shape_of-curve_firsts
     shape_of-face_listed
     shape_of-curve_listed
-    returns-then-number-ne0)
+    returns)

@@ -22,7 +22,7 @@ returns-then-refusal-ne0 c =
     let back4 = c.before.before.before.before in
     let back8 = back4.before.before.before.before in
     let back12 = back8.before.before.before.before in
-    strain_refused back12.before.before.before.args.job _ _ _ _ _ _ _ _ _ _ _ _ _ c.before.judge_readings-refusal.ensures (λ z. omega (arith, z, c.if-refusal-ne0.true))
+    strain_refused back12.before.args.job _ _ _ _ _ _ _ _ _ _ _ _ _ c.before.judge_readings-refusal.ensures (λ z. omega (arith, z, c.if-refusal-ne0.true))
 
 accept-requires : tie.Need-accept-requires
 accept-requires c κs =
@@ -30,7 +30,7 @@ accept-requires c κs =
     let back8 = back4.before.before.before.before in
     let back12 = back8.before.before.before.before in
     let back16 = back12.before.before.before.before in
-    strain_ready back16.before.before.args.job _ _ _ _ _ _ _ _ _ _ _ _ _ c.before.before.before.before.judge_readings-refusal.ensures c.before.before.before.if-refusal-ne0.false
+    strain_ready back16.args.job _ _ _ _ _ _ _ _ _ _ _ _ _ c.before.before.before.before.judge_readings-refusal.ensures c.before.before.before.if-refusal-ne0.false
 
 shape_of-came : tie.Need-shape_of-came
 shape_of-came c = search rules
@@ -49,7 +49,7 @@ returns c =
     let judged4 = judged.before.before.before.before in
     let judged8 = judged4.before.before.before.before in
     let judged12 = judged8.before.before.before.before in
-    strain_accepted judged12.before.before.before.args.job _ _ _ _ _ _ _ _ _ _ _ _ _ judged.before.judge_readings-refusal.ensures judged.if-refusal-ne0.false _ called.accept.ensures
+    strain_accepted judged12.before.args.job _ _ _ _ _ _ _ _ _ _ _ _ _ judged.before.judge_readings-refusal.ensures judged.if-refusal-ne0.false _ called.accept.ensures
 
 pub strain_spec : {M : Type 1} → statement M
 strain_spec =
