@@ -1,6 +1,7 @@
 // The methods of a job: each is lent what its public entry is lent, and its contract is a step of all tables, whatever the others hold. The
 // exports call them. Each has a file of its own.
 #![tactic(auto)]
+
 mod cross;
 mod enrol;
 mod fill;

@@ -1,5 +1,6 @@
 // The public entries, exported for programs in C and Rust. A slice goes in as a pointer and a length, an array as a pointer.
 #![tactic(auto)]
+
 ghost use Rattle.std.specs.Prelude.{◌≡◌};
 ghost use Rattle.joiner.specs.Job.{Face, Curve, Point};
 ghost use Rattle.joiner.specs.Calls.{enrol, join, cross, point, look};

@@ -1,5 +1,6 @@
 // The crossing step of a job. The last one numbers faces and curves.
 #![tactic(auto)]
+
 ghost use Rattle.std.specs.Prelude.{[]};
 ghost use Rattle.joiner.specs.Calls.{cross, answer};
 ghost use Rattle.joiner.specs.Outcomes.{CallStep, CrossingDone};

@@ -1,5 +1,6 @@
 // The readings' step of a closed job: the readings of a block are added to the totals of its faces.
 #![tactic(auto)]
+
 ghost use Rattle.std.specs.Prelude.{◌≡◌};
 ghost use Rattle.job.specs.JobState.{told_of, state_of};
 ghost use Rattle.strain_calls.specs.Tables.{total_tables};

@@ -4,7 +4,6 @@
 use Prim.Native.Nat.{suc, ◌+◌, ◌-◌}
 use mathlib.Core.Path.{◌≡◌, ◌∙◌, sym}
 use mathlib.Core.Bool.{true, false}
-
 use mathlib.Core.List.{[]}
 use native.Mathlib.Omega.{arith}
 use native.Mathlib.Numerals.{add-one}
@@ -95,8 +94,8 @@ loop-k-preserved c =
     let full : occupied r ≡ true = rw (ne_eqb _ _ d.if-r-eq0.false) in
     let same : same_row r (get_or a.rows l.k []) ≡ c.before.same_row.result = sym c.before.same_row.ensures in
     elim c.if-same_row.branch [
-      then-same_row w ↦ rw w.links-is (left_united (rw (next, full, same ∙ w.if-same_row.true) at l.invariant) (omega (arith, s.requires.1 a.i s.requires.0)) (omega (arith, s.requires.1 l.k (omega arith))) w.unite.ensures)
-    | else-same_row w ↦ rw w.links-is (rw (next, full, same ∙ w.if-same_row.false) at l.invariant)
+      | then-same_row w ↦ rw w.links-is (left_united (rw (next, full, same ∙ w.if-same_row.true) at l.invariant) (omega (arith, s.requires.1 a.i s.requires.0)) (omega (arith, s.requires.1 l.k (omega arith))) w.unite.ensures)
+      | else-same_row w ↦ rw w.links-is (rw (next, full, same ∙ w.if-same_row.false) at l.invariant)
     ]
 
 shape_of-links : tie.Need-shape_of-links invariant-loop-k decreases-loop-k

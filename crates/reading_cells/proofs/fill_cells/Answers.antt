@@ -1,5 +1,4 @@
 -- `reading_cells::fill_cells` meets its contract.
-use borrow.Author.Rules.{rules}
 use Rattle.reading_cells.proofs.FillLaws.{filling_refused, filling_bounded, filling_done}
 use Rattle.reading_cells.proofs.fill_cells.Goals as goal
 

@@ -1,7 +1,6 @@
 -- `reading_cells::judged` meets its contract.
 use mathlib.Core.Bool.{not}
 use mathlib.Core.Path.{ap}
-use borrow.Author.Rules.{rules}
 use Rattle.judge.proofs.JudgeLaws.{fits_size}
 use Rattle.reading_cells.proofs.FillLaws.{placed_few, placed_sized, placed_fits, late_6, late_number, late_8, late_0}
 use Rattle.reading_cells.proofs.judged.Goals as goal

@@ -1,7 +1,6 @@
 -- `reading_cells::refusal` meets its contract.
 use mathlib.Core.Bool.{not}
 use mathlib.Core.Path.{ap}
-use borrow.Author.Rules.{rules}
 use Rattle.reading_cells.proofs.FillLaws.{fill_first, fill_good, fill_4, fill_placed, fill_late}
 use Rattle.reading_cells.proofs.refusal.Goals as goal
 

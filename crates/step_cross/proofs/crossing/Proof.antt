@@ -4,56 +4,56 @@ use Rattle.step_cross.proofs.DoneLaws.{cross_refused, ready, cross_accepted}
 use Rattle.step_cross.proofs.crossing.Statement.{statement}
 use Rattle.step_cross.proofs.crossing.Tie as tie
 
-judge-crossing-requires : tie.Need-judge-crossing-requires
-judge-crossing-requires c κs = search rules
+judge_crossing-number-requires : tie.Need-judge_crossing-number-requires
+judge_crossing-number-requires c κs = search rules
 
-same_length : tie.Need-same-length
-same_length c = search rules
+shape_of-ticks-then-number-ne0 : tie.Need-shape_of-ticks-then-number-ne0
+shape_of-ticks-then-number-ne0 c = search rules
 
-same-length-2 : tie.Need-same-length-2
-same-length-2 c = search rules
+shape_of-face_links-then-number-ne0 : tie.Need-shape_of-face_links-then-number-ne0
+shape_of-face_links-then-number-ne0 c = search rules
 
-same-length-3 : tie.Need-same-length-3
-same-length-3 c = search rules
+shape_of-curve_links-then-number-ne0 : tie.Need-shape_of-curve_links-then-number-ne0
+shape_of-curve_links-then-number-ne0 c = search rules
 
-returns : tie.Need-returns
-returns c = cross_refused _ _ _ _ c.before.judge-crossing.ensures c.if1.true
+returns-then-number-ne0 : tie.Need-returns-then-number-ne0
+returns-then-number-ne0 c = cross_refused _ _ _ _ c.before.judge_crossing-number.ensures c.if-number-ne0.true
 
 accept-requires : tie.Need-accept-requires
 accept-requires c κs =
     let back4 = c.before.before.before.before in
     let back8 = back4.before.before.before.before in
-    ready _ _ _ _ back8.before.before.judge-crossing.ensures back8.before.if1.false
+    ready _ _ _ _ back8.before.before.judge_crossing-number.ensures back8.before.if-number-ne0.false
 
-same-length-4 : tie.Need-same-length-4
-same-length-4 c = search rules
+shape_of-ticks : tie.Need-shape_of-ticks
+shape_of-ticks c = search rules
 
-same-length-5 : tie.Need-same-length-5
-same-length-5 c = search rules
+shape_of-face_links : tie.Need-shape_of-face_links
+shape_of-face_links c = search rules
 
-same-length-6 : tie.Need-same-length-6
-same-length-6 c = search rules
+shape_of-curve_links : tie.Need-shape_of-curve_links
+shape_of-curve_links c = search rules
 
-same-length-7 : tie.Need-same-length-7
-same-length-7 c = search rules
+shape_of-face_numbers : tie.Need-shape_of-face_numbers
+shape_of-face_numbers c = search rules
 
-same-length-8 : tie.Need-same-length-8
-same-length-8 c = search rules
+shape_of-curve_numbers : tie.Need-shape_of-curve_numbers
+shape_of-curve_numbers c = search rules
 
-same-length-9 : tie.Need-same-length-9
-same-length-9 c = search rules
+shape_of-face_firsts : tie.Need-shape_of-face_firsts
+shape_of-face_firsts c = search rules
 
-same-length-10 : tie.Need-same-length-10
-same-length-10 c = search rules
+shape_of-curve_firsts : tie.Need-shape_of-curve_firsts
+shape_of-curve_firsts c = search rules
 
-same-length-11 : tie.Need-same-length-11
-same-length-11 c = search rules
+shape_of-face_listed : tie.Need-shape_of-face_listed
+shape_of-face_listed c = search rules
 
-same-length-12 : tie.Need-same-length-12
-same-length-12 c = search rules
+shape_of-curve_listed : tie.Need-shape_of-curve_listed
+shape_of-curve_listed c = search rules
 
-returns-2 : tie.Need-returns-2
-returns-2 c =
+returns : tie.Need-returns
+returns c =
     let back4 = c.before.before.before.before in
     let back8 = back4.before.before.before.before in
     let back12 = back8.before.before.before.before in
@@ -61,25 +61,25 @@ returns-2 c =
     let back20 = back16.before.before.before.before in
     let back24 = back20.before.before.before.before in
     let back28 = back24.before.before.before.before in
-    cross_accepted _ _ _ _ back28.before.judge-crossing.ensures back24.before.before.before.before.if1.false _ back16.before.before.accept.ensures
+    cross_accepted _ _ _ _ back28.before.judge_crossing-number.ensures back24.before.before.before.before.if-number-ne0.false _ back16.before.before.accept.ensures
 
 pub crossing_spec : {M : Type 1} → statement M
 crossing_spec =
     tie.close
     (tie.spec
-    judge-crossing-requires
-    same_length
-    same-length-2
-    same-length-3
-    returns
+    judge_crossing-number-requires
+    shape_of-ticks-then-number-ne0
+    shape_of-face_links-then-number-ne0
+    shape_of-curve_links-then-number-ne0
+    returns-then-number-ne0
     accept-requires
-    same-length-4
-    same-length-5
-    same-length-6
-    same-length-7
-    same-length-8
-    same-length-9
-    same-length-10
-    same-length-11
-    same-length-12
-    returns-2)
+    shape_of-ticks
+    shape_of-face_links
+    shape_of-curve_links
+    shape_of-face_numbers
+    shape_of-curve_numbers
+    shape_of-face_firsts
+    shape_of-curve_firsts
+    shape_of-face_listed
+    shape_of-curve_listed
+    returns)

@@ -1,5 +1,4 @@
 -- `step_point::accept` meets its contract.
-use borrow.Author.Rules.{rules}
 use Rattle.step_point.proofs.DoneLaws.{accept_advance, accept_store, accept_close, accept_done}
 use Rattle.step_point.proofs.accept.Goals as goal
 
