@@ -54,16 +54,16 @@ AnyTables P = (t : Tables) → P t
 -- The tables, in the order in which a public entry is lent them. Points have no links.
 abbrev pub tables_of : List ℕ → List ℕ → List ℕ → List ℕ → List ℕ → List ℕ → List ℕ → List ℕ → List ℕ → List ℕ → List ℕ → List ℕ → List ℕ → List ℕ → List ℕ → List ℕ
     → List ℕ → List ℕ → List ℕ → Tables
-tables_of ticks blocks face_links curve_links face_keys curve_keys point-keys face_rows curve_rows point_rows face-numbers curve-numbers point-numbers
-    face_firsts curve_firsts point-firsts face_listed curve_listed point_listed =
+tables_of ticks blocks face_links curve_links face_keys curve_keys point_keys face_rows curve_rows point_rows face_numbers curve_numbers point_numbers
+    face_firsts curve_firsts point_firsts face_listed curve_listed point_listed =
     record {
       ticks = ticks;
       blocks = blocks;
       links = by_kind face_links curve_links [];
-      keys = by_kind face_keys curve_keys point-keys;
+      keys = by_kind face_keys curve_keys point_keys;
       rows = by_kind face_rows curve_rows point_rows;
-      numbers = by_kind face-numbers curve-numbers point-numbers;
-      firsts = by_kind face_firsts curve_firsts point-firsts;
+      numbers = by_kind face_numbers curve_numbers point_numbers;
+      firsts = by_kind face_firsts curve_firsts point_firsts;
       listed = by_kind face_listed curve_listed point_listed;
     }
 

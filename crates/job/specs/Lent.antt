@@ -21,18 +21,18 @@ seam_lent t ticks blocks face_links curve_links =
 
 -- Of a crossing.
 abbrev pub cross_lent : Tables → List ℕ → List ℕ → List ℕ → List ℕ → List ℕ → List ℕ → List ℕ → List ℕ → List ℕ → List ℕ → List ℕ → List ℕ → List ℕ → List ℕ → Tables
-cross_lent t ticks blocks face_links curve_links face_keys curve_keys face_rows curve_rows face-numbers curve-numbers face_firsts curve_firsts face_listed curve_listed =
-    tables_of ticks blocks face_links curve_links face_keys curve_keys (t.keys Point) face_rows curve_rows (t.rows Point) face-numbers curve-numbers (t.numbers Point) face_firsts curve_firsts (t.firsts Point) face_listed curve_listed (t.listed Point)
+cross_lent t ticks blocks face_links curve_links face_keys curve_keys face_rows curve_rows face_numbers curve_numbers face_firsts curve_firsts face_listed curve_listed =
+    tables_of ticks blocks face_links curve_links face_keys curve_keys (t.keys Point) face_rows curve_rows (t.rows Point) face_numbers curve_numbers (t.numbers Point) face_firsts curve_firsts (t.firsts Point) face_listed curve_listed (t.listed Point)
 
 -- Of a point step.
 abbrev pub point_lent : Tables → List ℕ → List ℕ → List ℕ → List ℕ → List ℕ → List ℕ → List ℕ → List ℕ → Tables
-point_lent t ticks blocks point-keys point_rows curve-numbers point-numbers point-firsts point_listed =
-    tables_of ticks blocks (t.links Face) (t.links Curve) (t.keys Face) (t.keys Curve) point-keys (t.rows Face) (t.rows Curve) point_rows (t.numbers Face) curve-numbers point-numbers (t.firsts Face) (t.firsts Curve) point-firsts (t.listed Face) (t.listed Curve) point_listed
+point_lent t ticks blocks point_keys point_rows curve_numbers point_numbers point_firsts point_listed =
+    tables_of ticks blocks (t.links Face) (t.links Curve) (t.keys Face) (t.keys Curve) point_keys (t.rows Face) (t.rows Curve) point_rows (t.numbers Face) curve_numbers point_numbers (t.firsts Face) (t.firsts Curve) point_firsts (t.listed Face) (t.listed Curve) point_listed
 
 -- Of a lookup.
 abbrev pub look_lent : Tables → List ℕ → List ℕ → List ℕ → List ℕ → List ℕ → Tables
-look_lent t ticks blocks face-numbers curve-numbers point-firsts =
-    tables_of ticks blocks (t.links Face) (t.links Curve) (t.keys Face) (t.keys Curve) (t.keys Point) (t.rows Face) (t.rows Curve) (t.rows Point) face-numbers curve-numbers (t.numbers Point) (t.firsts Face) (t.firsts Curve) point-firsts (t.listed Face) (t.listed Curve) (t.listed Point)
+look_lent t ticks blocks face_numbers curve_numbers point_firsts =
+    tables_of ticks blocks (t.links Face) (t.links Curve) (t.keys Face) (t.keys Curve) (t.keys Point) (t.rows Face) (t.rows Curve) (t.rows Point) face_numbers curve_numbers (t.numbers Point) (t.firsts Face) (t.firsts Curve) point_firsts (t.listed Face) (t.listed Curve) (t.listed Point)
 
 -- Of a row reading.
 abbrev pub row_lent : Tables → List ℕ → List ℕ → List ℕ → Tables

@@ -6,7 +6,7 @@ use mathlib.Core.Logic.{◌≢◌, ◌⊎◌, inl, inr}
 use mathlib.Core.Path.{◌≡◌, refl}
 use Prim.Native.Nat.{ℕ, ◌<◌, ◌≤◌}
 use native.Mathlib.Omega.{arith}
-use Rattle.refusals.specs.Refusals.{Refusal, bad-cut, bad-reading, bad-record, blank-voxel, done-already, first, given_by, layers-differ, listed_numbers, no-such-place, number, off-size, stray-label, table, table-full, wrong-stage, wrong-tray}
+use Rattle.refusals.specs.Refusals.{Refusal, bad_cut, unfit_reading, bad_record, blank_voxel, done_already, first, given_by, unlike_layers, listed_numbers, no_such_place, number, unfit_size, stray_label, table, table_full, wrong_stage, unfit_tray}
 use Rattle.joiner.specs.Job.{State, Tables, Told}
 use Rattle.joiner.specs.Calls.{Call}
 use Rattle.joiner.specs.Declines.{declines}
@@ -17,56 +17,56 @@ use Rattle.lists.proofs.Cases.{by_test}
 -- what is given as a ladder
 pub ladder : (f : Refusal → Bool)
     → given_by f
-    ≡ cond (f off-size) 1 (cond (f bad-cut) 2 (cond (f wrong-stage) 3 (cond (f no-such-place) 4 (cond (f done-already) 5 (cond (f wrong-tray) 6
-    (cond (f blank-voxel) 7 (cond (f stray-label) 8 (cond (f layers-differ) 9 (cond (f table-full) 10 (cond (f bad-record) 11 (cond (f bad-reading) 12 0)))))))))))
+    ≡ cond (f unfit_size) 1 (cond (f bad_cut) 2 (cond (f wrong_stage) 3 (cond (f no_such_place) 4 (cond (f done_already) 5 (cond (f unfit_tray) 6
+    (cond (f blank_voxel) 7 (cond (f stray_label) 8 (cond (f unlike_layers) 9 (cond (f table_full) 10 (cond (f bad_record) 11 (cond (f unfit_reading) 12 0)))))))))))
 unfolding given_by first table number
 ladder f = refl
 
 -- f for the service, g for the book: 1, 2, 7 and 11 are never given, 3 to 6 agree
 pub record Alongside (f g : Refusal → Bool) : Type 0 where
-  pub f_size : f off-size ≡ false
-  pub f_cut : f bad-cut ≡ false
-  pub f_blank : f blank-voxel ≡ false
-  pub f_record : f bad-record ≡ false
-  pub stage : f wrong-stage ≡ g wrong-stage
-  pub early : f wrong-stage ≡ false → (f no-such-place ≡ g no-such-place) × (f done-already ≡ g done-already) × (f wrong-tray ≡ g wrong-tray)
+  pub f_size : f unfit_size ≡ false
+  pub f_cut : f bad_cut ≡ false
+  pub f_blank : f blank_voxel ≡ false
+  pub f_record : f bad_record ≡ false
+  pub stage : f wrong_stage ≡ g wrong_stage
+  pub early : f wrong_stage ≡ false → (f no_such_place ≡ g no_such_place) × (f done_already ≡ g done_already) × (f unfit_tray ≡ g unfit_tray)
 
 -- the book gives no 1, 2, 7, 8 or 11
 pub record Bookish (g : Refusal → Bool) : Type 0 where
-  pub g_size : g off-size ≡ false
-  pub g_cut : g bad-cut ≡ false
-  pub g_blank : g blank-voxel ≡ false
-  pub g_stray : g stray-label ≡ false
-  pub g_record : g bad-record ≡ false
+  pub g_size : g unfit_size ≡ false
+  pub g_cut : g bad_cut ≡ false
+  pub g_blank : g blank_voxel ≡ false
+  pub g_stray : g stray_label ≡ false
+  pub g_record : g bad_record ≡ false
 
 -- h is the book of 3 to 6 alone
 pub record EarlyOnly (g h : Refusal → Bool) : Type 0 where
-  pub h_size : h off-size ≡ false
-  pub h_cut : h bad-cut ≡ false
-  pub h_stage : h wrong-stage ≡ g wrong-stage
-  pub h_place : h no-such-place ≡ g no-such-place
-  pub h_done : h done-already ≡ g done-already
-  pub h_tray : h wrong-tray ≡ g wrong-tray
-  pub h_blank : h blank-voxel ≡ false
-  pub h_stray : h stray-label ≡ false
-  pub h_layers : h layers-differ ≡ false
-  pub h_full : h table-full ≡ false
-  pub h_record : h bad-record ≡ false
-  pub h_reading : h bad-reading ≡ false
+  pub h_size : h unfit_size ≡ false
+  pub h_cut : h bad_cut ≡ false
+  pub h_stage : h wrong_stage ≡ g wrong_stage
+  pub h_place : h no_such_place ≡ g no_such_place
+  pub h_done : h done_already ≡ g done_already
+  pub h_tray : h unfit_tray ≡ g unfit_tray
+  pub h_blank : h blank_voxel ≡ false
+  pub h_stray : h stray_label ≡ false
+  pub h_layers : h unlike_layers ≡ false
+  pub h_full : h table_full ≡ false
+  pub h_record : h bad_record ≡ false
+  pub h_reading : h unfit_reading ≡ false
 
-early_ladder : (g h : Refusal → Bool) → EarlyOnly g h → given_by h ≡ cond (g wrong-stage) 3 (cond (g no-such-place) 4 (cond (g done-already) 5 (cond (g wrong-tray) 6 0)))
+early_ladder : (g h : Refusal → Bool) → EarlyOnly g h → given_by h ≡ cond (g wrong_stage) 3 (cond (g no_such_place) 4 (cond (g done_already) 5 (cond (g unfit_tray) 6 0)))
 early_ladder g h E = rw (ladder h, E.h_size, E.h_cut, E.h_stage, E.h_place, E.h_done, E.h_tray, E.h_blank, E.h_stray, E.h_layers, E.h_full, E.h_record, E.h_reading) refl
 
 module _ (f g : Refusal → Bool) (A : Alongside f g) where
   -- where the late tests agree too, so do the refusals
   pub given_agree : Bookish g
-      → (f wrong-stage ≡ false → f no-such-place ≡ false → (f stray-label ≡ false) × (f layers-differ ≡ g layers-differ) × (f table-full ≡ g table-full) × (f bad-reading ≡ g bad-reading))
+      → (f wrong_stage ≡ false → f no_such_place ≡ false → (f stray_label ≡ false) × (f unlike_layers ≡ g unlike_layers) × (f table_full ≡ g table_full) × (f unfit_reading ≡ g unfit_reading))
       → given_by f ≡ given_by g
   given_agree G late =
       rw (ladder f, ladder g, A.f_size, A.f_cut, A.f_blank, A.f_record, G.g_size, G.g_cut, G.g_blank, G.g_stray, G.g_record, ← A.stage)
-      (by_test (f wrong-stage) (λ a. rw a refl)
+      (by_test (f wrong_stage) (λ a. rw a refl)
       (λ a. rw (a, ← (A.early a).0, ← (A.early a).1, ← (A.early a).2)
-      (by_test (f no-such-place) (λ b. rw b refl)
+      (by_test (f no_such_place) (λ b. rw b refl)
       (λ b. rw (b, (late a b).0, (late a b).1, (late a b).2, (late a b).3) refl))))
 
   -- what the book says of 3 to 6 alone
@@ -75,14 +75,14 @@ module _ (f g : Refusal → Bool) (A : Alongside f g) where
     early_cases_lem : (given_by f ≡ given_by early-of) ⊎ ((given_by early-of ≡ 0) × (0 < given_by f → 6 < given_by f))
     early_cases_lem =
         rw (ladder f, early_ladder g early-of E, A.f_size, A.f_cut, A.f_blank, A.f_record, ← A.stage)
-        (by_test (f wrong-stage) (λ a. rw a (inl refl))
+        (by_test (f wrong_stage) (λ a. rw a (inl refl))
         (λ a. rw (a, ← (A.early a).0, ← (A.early a).1, ← (A.early a).2)
-        (by_test (f no-such-place) (λ b. rw b (inl refl))
+        (by_test (f no_such_place) (λ b. rw b (inl refl))
         (λ b. rw b
-        (by_test (f done-already) (λ c. rw c (inl refl))
+        (by_test (f done_already) (λ c. rw c (inl refl))
         (λ c. rw c
-        (by_test (f wrong-tray) (λ d. rw d (inl refl))
-        (λ d. rw d (inr (refl, later (f stray-label) (f layers-differ) (f table-full) (f bad-reading)))))))))))
+        (by_test (f unfit_tray) (λ d. rw d (inl refl))
+        (λ d. rw d (inr (refl, later (f stray_label) (f unlike_layers) (f table_full) (f unfit_reading)))))))))))
       where
         later : (a b c d : Bool) → 0 < cond a 8 (cond b 9 (cond c 10 (cond d 12 0))) → 6 < cond a 8 (cond b 9 (cond c 10 (cond d 12 0)))
         later true b c d h = omega arith
@@ -110,13 +110,13 @@ module _ (g h : Refusal → Bool) (G : Bookish g) (E : EarlyOnly g h) where
   pub given_book : given_by h ≢ 0 → given_by g ≡ given_by h
   given_book =
       rw (ladder g, early_ladder g h E, G.g_size, G.g_cut, G.g_blank, G.g_stray, G.g_record)
-      (by_test (g wrong-stage) (λ a. rw a (λ n. refl))
+      (by_test (g wrong_stage) (λ a. rw a (λ n. refl))
       (λ a. rw a
-      (by_test (g no-such-place) (λ b. rw b (λ n. refl))
+      (by_test (g no_such_place) (λ b. rw b (λ n. refl))
       (λ b. rw b
-      (by_test (g done-already) (λ c. rw c (λ n. refl))
+      (by_test (g done_already) (λ c. rw c (λ n. refl))
       (λ c. rw c
-      (by_test (g wrong-tray) (λ d. rw d (λ n. refl))
+      (by_test (g unfit_tray) (λ d. rw d (λ n. refl))
       (λ d. rw d (λ n. absurd (n refl))))))))))
 
 abbrev rungs : Bool → Bool → Bool → Bool → Bool → Bool → Bool → ℕ
@@ -124,7 +124,7 @@ rungs a b c d e f g = cond a 3 (cond b 4 (cond c 5 (cond d 6 (cond e 9 (cond f 1
 
 -- .. and never 8
 pub given_stray : (g : Refusal → Bool) → Bookish g → given_by g ≢ 8
-given_stray g G = rw (ladder g, G.g_size, G.g_cut, G.g_blank, G.g_stray, G.g_record) (go (g wrong-stage) (g no-such-place) (g done-already) (g wrong-tray) (g layers-differ) (g table-full) (g bad-reading))
+given_stray g G = rw (ladder g, G.g_size, G.g_cut, G.g_blank, G.g_stray, G.g_record) (go (g wrong_stage) (g no_such_place) (g done_already) (g unfit_tray) (g unlike_layers) (g table_full) (g unfit_reading))
   where
     go : (a b c d e f h : Bool) → rungs a b c d e f h ≢ 8
     go true b c d e f h z = omega arith

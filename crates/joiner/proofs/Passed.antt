@@ -9,7 +9,7 @@ use native.Mathlib.Omega.{arith}
 use lib.Dec.{eqb, leb, ltb}
 use lib.ListN.{get_or}
 use borrow.Author.Tests.{eqb-true, eqb-false, leb-true, ltb-false, not-false}
-use Rattle.refusals.specs.Refusals.{Refusal, off-size, bad-cut, wrong-stage, no-such-place, done-already, wrong-tray, stray-label, layers-differ, table-full, number, stands_in}
+use Rattle.refusals.specs.Refusals.{Refusal, unfit_size, bad_cut, wrong_stage, no_such_place, done_already, unfit_tray, stray_label, unlike_layers, table_full, number, stands_in}
 use Rattle.cells.specs.Box.{Triple}
 use Rattle.cells.specs.Extents.{off_size}
 use Rattle.cells.specs.Grid.{cells, order}
@@ -69,20 +69,20 @@ pub passed : (s : State) (c : Call) → refusal s c ≡ 0 → Passed s c
 unfolding refusal declines stands_in number stray
 passed s c e =
     let n : (r : Refusal) → stands_in (declines s c) r ≡ false = (given_none (stands_in (declines s c))).0 e in
-    let t : (maps_fit s.job.told.cutting c && lengths_fit (lent_to s.job.told s.tables c)) ≡ true = not-false _ (n wrong-tray) in
-    let w : (tallies_fit s.job && stands_for s c) ≡ true = not-false _ (n stray-label) in
+    let t : (maps_fit s.job.told.cutting c && lengths_fit (lent_to s.job.told s.tables c)) ≡ true = not-false _ (n unfit_tray) in
+    let w : (tallies_fit s.job && stands_for s c) ≡ true = not-false _ (n stray_label) in
     record {
-      on_size = n off-size;
-      cut = not-false _ (n bad-cut);
-      stage = is_stage s.job.stage (stage_of c) (not-false _ (n wrong-stage));
-      placed_in = not-false _ (n no-such-place);
-      fresh = n done-already;
+      on_size = n unfit_size;
+      cut = not-false _ (n bad_cut);
+      stage = is_stage s.job.stage (stage_of c) (not-false _ (n wrong_stage));
+      placed_in = not-false _ (n no_such_place);
+      fresh = n done_already;
       maps = and_first (maps_fit s.job.told.cutting c) (lengths_fit (lent_to s.job.told s.tables c)) t;
       lent = and_second (maps_fit s.job.told.cutting c) (lengths_fit (lent_to s.job.told s.tables c)) t;
       tallies = and_first (tallies_fit s.job) (stands_for s c) w;
       stands = and_second (tallies_fit s.job) (stands_for s c) w;
-      layers = n layers-differ;
-      room = n table-full;
+      layers = n unlike_layers;
+      room = n table_full;
     }
 
 -- ---- lengths

@@ -2,7 +2,7 @@
 -- Assumes nothing.
 use Rattle.std.specs.Prelude.{Bool, true, not, cond, ◌&&◌, ◌||◌, List, [], ◌∷◌, ◌++◌, map, ℕ, ◌+◌, ◌*◌, eqb, leb, ltb, get_or, length}
 use Rattle.lists.specs.Lists.{consecutive, keep, all_of}
-use Rattle.refusals.specs.Refusals.{off-size, bad-cut, wrong-stage, no-such-place, done-already, wrong-tray, stray-label, layers-differ, table-full, Case, ◌if◌, given_refusal}
+use Rattle.refusals.specs.Refusals.{unfit_size, bad_cut, wrong_stage, no_such_place, done_already, unfit_tray, stray_label, unlike_layers, table_full, Case, ◌if◌, given_refusal}
 use Rattle.union_find.specs.Links.{sound_below, sound_ways}
 use Rattle.cells.specs.Box.{Triple}
 use Rattle.cells.specs.Extents.{off_size}
@@ -144,15 +144,15 @@ cut_for s (reading κ n) = true
 -- The cases of a step or a reading. Of these a call gives 5 only if it is a step, 9 only if it is a seam's, and 10 only if it adds components.
 unfoldable pub declines : State → Call → List Case
 declines s c =
-    off-size if off_size 1024 s.job.told.cutting.extents ∷
-    bad-cut if not (cut_for s c) ∷
-    wrong-stage if not (same_stage s.job.stage (stage_of c)) ∷
-    no-such-place if not (placed s.job.told.cutting s.job.numbered c) ∷
-    done-already if repeated s.job.told.cutting (ticked s.tables) c ∷
-    wrong-tray if not (maps_fit s.job.told.cutting c && lengths_fit (lent_to s.job.told s.tables c)) ∷
-    stray-label if stray s c ∷
-    layers-differ if layers_differ s.job.told.cutting c ∷
-    table-full if full s.job.told.entries s.job.sofar (adds s c) ∷
+    unfit_size if off_size 1024 s.job.told.cutting.extents ∷
+    bad_cut if not (cut_for s c) ∷
+    wrong_stage if not (same_stage s.job.stage (stage_of c)) ∷
+    no_such_place if not (placed s.job.told.cutting s.job.numbered c) ∷
+    done_already if repeated s.job.told.cutting (ticked s.tables) c ∷
+    unfit_tray if not (maps_fit s.job.told.cutting c && lengths_fit (lent_to s.job.told s.tables c)) ∷
+    stray_label if stray s c ∷
+    unlike_layers if layers_differ s.job.told.cutting c ∷
+    table_full if full s.job.told.entries s.job.sofar (adds s c) ∷
     []
 
 -- The number with which a call is refused, 0 where it is accepted.

@@ -129,14 +129,14 @@ entry_of blocks b =
 
 -- 8 denies it, by what a survey and the block table tell.
 unfoldable pub stands_by : ℕ → ℕ → ℕ → Entry → ℕ → ℕ → Bool
-stands_by faces curves points d all-faces all-curves =
+stands_by faces curves points d all_faces all_curves =
     leb faces d.faces &&
     (leb curves d.curves &&
-    (leb points d.points && (leb (d.face_from + d.faces) all-faces && leb (d.curve_from + d.curves) all-curves)))
+    (leb points d.points && (leb (d.face_from + d.faces) all_faces && leb (d.curve_from + d.curves) all_curves)))
 
 -- .. of a map: the joiner's `map_stands`.
 unfoldable pub map_stands_in : Triple → Entry → ℕ → ℕ → List ℕ → Bool
-map_stands_in e d all-faces all-curves m = stands_by (largest e m 2) (largest e m 1) (largest e m 0) d all-faces all-curves
+map_stands_in e d all_faces all_curves m = stands_by (largest e m 2) (largest e m 1) (largest e m 0) d all_faces all_curves
 
 -- .. of the links of a block's faces and curves: the joiner's `links_stand`.
 unfoldable pub links_stand_in : Entry → List ℕ → List ℕ → Bool

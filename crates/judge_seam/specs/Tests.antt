@@ -29,7 +29,7 @@ fits_both count e f entries z lower upper = fits_lengths CallName.Seam count e e
 
 -- 8 denies it, besides what it denies of the lower block's map: the upper block's map keeps to its entry g, and the links of both blocks may be followed.
 unfoldable pub upper_stands : Triple → Entry → Entry → ℕ → ℕ → List ℕ → List ℕ → List ℕ → Bool
-upper_stands f d g all-faces all-curves n faces curves = map_stands_in f g all-faces all-curves n && (links_stand_in d faces curves && links_stand_in g faces curves)
+upper_stands f d g all_faces all_curves n faces curves = map_stands_in f g all_faces all_curves n && (links_stand_in d faces curves && links_stand_in g faces curves)
 
 -- ---- the layer
 

@@ -10,7 +10,7 @@ use lib.ListN.{length}
 use borrow.Author.Tests.{eqb-true, eq-eqb, ne_eqb, not-false}
 use Rattle.lists.specs.Lists.{tabulate, zeros}
 use Rattle.lists.proofs.Cases.{and_first, and_second}
-use Rattle.refusals.specs.Refusals.{off-size, wrong-tray, number, table, first, given_by, listed_numbers, stands_in}
+use Rattle.refusals.specs.Refusals.{unfit_size, unfit_tray, number, table, first, given_by, listed_numbers, stands_in}
 use Rattle.refusals.proofs.RefusalLaws.{given_none}
 use Rattle.cells.specs.Box.{Triple, volume}
 use Rattle.cells.specs.Grid.{cells}
@@ -34,10 +34,10 @@ pub ready_of : (e : Triple) (codes n m : ℕ) → refusal_of e codes n m ≡ 0 �
 unfolding refusal_of wrong_tray declines stands_in number
 ready_of e codes n m h =
     let none = (given_none (stands_in (declines e codes n m))).0 h in
-    let a = not-false (eqb codes (volume e) && (eqb n (cells e) && eqb m (cells e))) (none wrong-tray) in
+    let a = not-false (eqb codes (volume e) && (eqb n (cells e) && eqb m (cells e))) (none unfit_tray) in
     let b = and_second (eqb codes (volume e)) (eqb n (cells e) && eqb m (cells e)) a in
     record {
-      sized = sized_of 64 e (none off-size);
+      sized = sized_of 64 e (none unfit_size);
       codes_are = eqb-true _ _ (and_first (eqb codes (volume e)) (eqb n (cells e) && eqb m (cells e)) a);
       map_is = eqb-true _ _ (and_first (eqb n (cells e)) (eqb m (cells e)) b);
       work_is = eqb-true _ _ (and_second (eqb n (cells e)) (eqb m (cells e)) b);

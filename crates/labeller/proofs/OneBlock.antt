@@ -40,7 +40,7 @@ module _ (e : Triple) (codes m w : List ℕ) (r : Labelled) (m' w' : List ℕ) (
 
     pub label_map : m' ≡ labels e codes
     unfolding accepted
-    label_map = ap (λ (o : Outcome). o.map-tray) label_accepted
+    label_map = ap (λ (o : Outcome). o.map_tray) label_accepted
 
     -- Accepted: the map is the numbering of Definitions 1 to 3, and no other.
     pub label_numbering : Numbering e codes m'

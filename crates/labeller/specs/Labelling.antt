@@ -2,7 +2,7 @@
 -- Assumes nothing.
 use Rattle.std.specs.Prelude.{◌≡◌, Bool, cond, not, ◌&&◌, List, [], ◌∷◌, ℕ, eqb, length}
 use Rattle.lists.specs.Lists.{zeros}
-use Rattle.refusals.specs.Refusals.{off-size, wrong-tray, Case, ◌if◌, given_refusal}
+use Rattle.refusals.specs.Refusals.{unfit_size, unfit_tray, Case, ◌if◌, given_refusal}
 use Rattle.cells.specs.Box.{Triple, volume}
 use Rattle.cells.specs.Grid.{cells}
 use Rattle.cells.specs.Extents.{Sized, off_size}
@@ -16,7 +16,7 @@ wrong_tray e codes map work = not (eqb codes (volume e) && (eqb map (cells e) &&
 
 -- The cases of `label`, by the lengths of codes, map and working tray. "Refusal 7 is no longer given" (document 02, item 4).
 unfoldable pub declines : Triple → ℕ → ℕ → ℕ → List Case
-declines e codes map work = off-size if off_size 64 e ∷ wrong-tray if wrong_tray e codes map work ∷ []
+declines e codes map work = unfit_size if off_size 64 e ∷ unfit_tray if wrong_tray e codes map work ∷ []
 
 -- The refusal of a call, 0 for none.
 unfoldable pub refusal_of : Triple → ℕ → ℕ → ℕ → ℕ
@@ -25,11 +25,11 @@ refusal_of e codes map work = given_refusal (declines e codes map work)
 -- The answer, and what the map tray and the working tray hold.
 pub record Outcome : Type 0 where
   pub answer : Labelled
-  pub map-tray : List ℕ
+  pub map_tray : List ℕ
   pub work_tray : List ℕ
 
 abbrev pub outcome : Labelled → List ℕ → List ℕ → Outcome
-outcome r m w = record { answer = r; map-tray = m; work_tray = w }
+outcome r m w = record { answer = r; map_tray = m; work_tray = w }
 
 -- Accepted: the block's map, "how many faces, curves and points there are", and zeros in the working tray.
 unfoldable pub accepted : Triple → List ℕ → Outcome

@@ -15,7 +15,7 @@ use Rattle.lists.proofs.Pieces.{pieces_at}
 use Rattle.cells.specs.Box.{Triple, X, Y, Z, triple, volume, index, place}
 use Rattle.cells.proofs.BoxLaws.{Inside, index_place, place_index, place_inside, index_inside}
 use Rattle.layer_printer.specs.Printed.{cell_columns, place_columns, first_places, page_line, cell_line, page, page_count, pages}
-use Rattle.layer_printer.specs.Places.{byte_box, Owner, of-cell, of-blank, line_end, IsOwner, column_at, place_of, column_owner, owner_at, owner_byte, is_column, LaidOut}
+use Rattle.layer_printer.specs.Places.{byte_box, Owner, of_cell, of_blank, line_end, IsOwner, column_at, place_of, column_owner, owner_at, owner_byte, is_column, LaidOut}
 use Rattle.layer_printer.proofs.ColumnLaws.{place_beyond, place_cell, place_five, columns_five, place_column, blank_column}
 use Rattle.layer_printer.proofs.PageLaws.{places_length, line_length, page_length, pages_length}
 
@@ -82,11 +82,11 @@ module _ (w h : ℕ) where
   unfolding owner_at
   owner_column t d = rw (ne_eqb (place box t).x 80 d)
 
-  cell_owner : (x y c : ℕ) → x < w → column_owner w x y c ≡ of-cell x y c
+  cell_owner : (x y c : ℕ) → x < w → column_owner w x y c ≡ of_cell x y c
   unfolding column_owner
   cell_owner x y c k = rw (lt-ltb x w k)
 
-  blank_owner : (x y c : ℕ) → w ≤ x → column_owner w x y c ≡ of-blank x y c
+  blank_owner : (x y c : ℕ) → w ≤ x → column_owner w x y c ≡ of_blank x y c
   unfolding column_owner
   blank_owner x y c k = rw (le-ltb x w k)
 
@@ -151,7 +151,7 @@ module _ (w h : ℕ) where
 
     -- a byte ends its line, or is a column of a cell or of a blank place
     by_owner : (P : Owner → Type 0) → ((spot t).x ≡ 80 → P (line_end (spot t).z (spot t).y))
-        → ((x y c : ℕ) → x < 16 * page_count w → y < h → c < 5 → column_at w h x y c ≡ t → (x < w → P (of-cell x y c)) × (w ≤ x → P (of-blank x y c)))
+        → ((x y c : ℕ) → x < 16 * page_count w → y < h → c < 5 → column_at w h x y c ≡ t → (x < w → P (of_cell x y c)) × (w ≤ x → P (of_blank x y c)))
         → P (owner_at w h t)
     by_owner P e f =
         by_test (eqb (spot t).x 80)
@@ -187,22 +187,22 @@ module _ (w h : ℕ) (layer : List ℕ) (number : ℕ → ℕ → ℕ) (long : (
   on_page x k = omega (arith, pages_cover w)
 
   owner_inside : (a : Owner) → IsOwner w h a → place_of w h a < length text
-  owner_inside (of-cell x y c) (hx, hy, hc) = rw (pages_length w h layer) (column_inside w h x y c (on_page x hx) hy hc)
-  owner_inside (of-blank x y c) (lx, hx, hy, hc) = rw (pages_length w h layer) (column_inside w h x y c hx hy hc)
+  owner_inside (of_cell x y c) (hx, hy, hc) = rw (pages_length w h layer) (column_inside w h x y c (on_page x hx) hy hc)
+  owner_inside (of_blank x y c) (lx, hx, hy, hc) = rw (pages_length w h layer) (column_inside w h x y c hx hy hc)
   owner_inside (line_end p y) (hp, hy) = rw (pages_length w h layer) (byte_inside w h 80 y p (omega arith) hy hp)
 
   owner_back : (a : Owner) → IsOwner w h a → owner_at w h (place_of w h a) ≡ a
-  owner_back (of-cell x y c) (hx, hy, hc) = column_back w h x y c (on_page x hx) hy hc ∙ cell_owner w h x y c hx
-  owner_back (of-blank x y c) (lx, hx, hy, hc) = column_back w h x y c hx hy hc ∙ blank_owner w h x y c lx
+  owner_back (of_cell x y c) (hx, hy, hc) = column_back w h x y c (on_page x hx) hy hc ∙ cell_owner w h x y c hx
+  owner_back (of_blank x y c) (lx, hx, hy, hc) = column_back w h x y c hx hy hc ∙ blank_owner w h x y c lx
   owner_back (line_end p y) (hp, hy) =
       let q = byte_back w h 80 y p (omega arith) hy hp in
       owner_end w h (index (byte_box w h) (triple 80 y p)) (ap (λ (d : Triple). d.x) q) ∙ rw q
 
   owner_stands : (a : Owner) → IsOwner w h a → get_or text (place_of w h a) 0 ≡ owner_byte number a
-  owner_stands (of-cell x y c) (hx, hy, hc) =
+  owner_stands (of_cell x y c) (hx, hy, hc) =
       let k : x < length (cell_line w layer y) = rw (long y hy) hx in
       column_byte_lem w h x y c (on_page x hx) hy hc layer ∙ rw (place_cell (cell_line w layer y) x k, holds x y hx hy)
-  owner_stands (of-blank x y c) (lx, hx, hy, hc) =
+  owner_stands (of_blank x y c) (lx, hx, hy, hc) =
       let k : length (cell_line w layer y) ≤ x = rw (long y hy) lx in
       column_byte_lem w h x y c hx hy hc layer ∙ rw (place_beyond (cell_line w layer y) x k) (blank_column c hc)
   owner_stands (line_end p y) (hp, hy) = byte_at w h 80 y p (omega arith) hy hp layer ∙ end_byte (cell_line w layer y) p
@@ -238,13 +238,13 @@ module _ (w h : ℕ) (layer : List ℕ) (number : ℕ → ℕ → ℕ) (long : (
   five_bytes : (x y : ℕ) → x < w → y < h → take 5 (drop (column_at w h x y 0) text) ≡ cell_columns (number x y)
   five_bytes x y hx hy =
       let a : ℕ = column_at w h x y 0 in
-      let last : a + 4 < length text = rw (column_step x y 4) at (owner_inside (of-cell x y 4) (hx, hy, omega arith)) in
+      let last : a + 4 < length text = rw (column_step x y 4) at (owner_inside (of_cell x y 4) (hx, hy, omega arith)) in
       let five : length (take 5 (drop a text)) ≡ 5 = simp (length-take, length-drop) (omega arith) in
       ext_get_or 0 (take 5 (drop a text)) (cell_columns (number x y)) (five ∙ sym (columns_five (number x y)))
       (λ i k.
       let low : i < 5 = omega arith in
       get_or-take 5 (drop a text) i 0 low ∙ get_or-drop a text i 0 ∙ ap (λ (n : ℕ). get_or text n 0) (sym (column_step x y i))
-      ∙ owner_stands (of-cell x y i) (hx, hy, low))
+      ∙ owner_stands (of_cell x y i) (hx, hy, low))
 
   -- Every byte of the pages has its one owner, and every owner its one place.
   pub pages_laid_out : LaidOut w h number text

@@ -10,7 +10,7 @@ use lib.ListN.{length, take, drop, length-take, length-drop}
 use borrow.Author.Tests.{eqb-true, eq-eqb, ne_eqb, le-leb, lt-leb, leb-false, not-false}
 use Rattle.lists.proofs.Cases.{neither}
 use Rattle.lists.proofs.Overlay.{listed_room}
-use Rattle.refusals.specs.Refusals.{off-size, no-such-place, wrong-tray, number, table, first, given_by, listed_numbers, stands_in}
+use Rattle.refusals.specs.Refusals.{unfit_size, no_such_place, unfit_tray, number, table, first, given_by, listed_numbers, stands_in}
 use Rattle.refusals.proofs.RefusalLaws.{given_none}
 use Rattle.cells.specs.Box.{Triple}
 use Rattle.cells.specs.Extents.{Sized, off_size}
@@ -63,10 +63,10 @@ module _ (e : Triple) (z : ℕ) (m : List ℕ) (tray : ℕ) where
       let none = (given_none (stands_in (declines e z m tray))).0 n in
       let a = not (eqb (length m) (cells e)) in
       let b = not (eqb tray (length (printed_layer e z m))) in
-      let w = neither a b (none wrong-tray) in
+      let w = neither a b (none unfit_tray) in
       record {
-        sized = sized_of 64 e (none off-size);
-        there = leb-false (2 * e.z - 1) z (none no-such-place);
+        sized = sized_of 64 e (none unfit_size);
+        there = leb-false (2 * e.z - 1) z (none no_such_place);
         mapped = eqb-true _ _ (not-false _ w.0);
         fits = eqb-true _ _ (not-false _ w.1) ∙ printed_length e z m;
       }

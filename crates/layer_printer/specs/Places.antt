@@ -12,13 +12,13 @@ byte_box w h = triple 81 h (page_count w)
 
 -- What a byte belongs to: column c of the cell at x and y, column c of the place at x and y beyond the grid, or the end of line y on page p.
 pub data Owner : Type 0 where
-  of-cell of-blank : ℕ → ℕ → ℕ → Owner
+  of_cell of_blank : ℕ → ℕ → ℕ → Owner
   line_end : ℕ → ℕ → Owner
 
 -- The owners that there are: five columns of each cell and of each place beyond the grid, up to the right edge of the last page, and the line ends.
 abbrev pub IsOwner : ℕ → ℕ → Owner → Type 0
-IsOwner w h (of-cell x y c) = (x < w) × (y < h) × (c < 5)
-IsOwner w h (of-blank x y c) = (w ≤ x) × (x < 16 * page_count w) × (y < h) × (c < 5)
+IsOwner w h (of_cell x y c) = (x < w) × (y < h) × (c < 5)
+IsOwner w h (of_blank x y c) = (w ≤ x) × (x < 16 * page_count w) × (y < h) × (c < 5)
 IsOwner w h (line_end p y) = (p < page_count w) × (y < h)
 
 -- Where column c of place x on line y stands: on page x / 16, at place x % 16 of the line.
@@ -27,13 +27,13 @@ column_at w h x y c = index (byte_box w h) (triple (5 * (x % 16) + c) y (x / 16)
 
 -- Where the byte of an owner stands.
 abbrev pub place_of : ℕ → ℕ → Owner → ℕ
-place_of w h (of-cell x y c) = column_at w h x y c
-place_of w h (of-blank x y c) = column_at w h x y c
+place_of w h (of_cell x y c) = column_at w h x y c
+place_of w h (of_blank x y c) = column_at w h x y c
 place_of w h (line_end p y) = index (byte_box w h) (triple 80 y p)
 
 -- The owner of a column, and that of byte t.
 unfoldable pub column_owner : ℕ → ℕ → ℕ → ℕ → Owner
-column_owner w x y c = cond (ltb x w) (of-cell x y c) (of-blank x y c)
+column_owner w x y c = cond (ltb x w) (of_cell x y c) (of_blank x y c)
 
 unfoldable pub owner_at : ℕ → ℕ → ℕ → Owner
 owner_at w h t =
@@ -42,8 +42,8 @@ owner_at w h t =
 
 -- The byte of an owner, where number x y is what the cell at x and y holds.
 abbrev pub owner_byte : (ℕ → ℕ → ℕ) → Owner → ℕ
-owner_byte number (of-cell x y c) = get_or (cell_columns (number x y)) c 0
-owner_byte number (of-blank x y c) = 32
+owner_byte number (of_cell x y c) = get_or (cell_columns (number x y)) c 0
+owner_byte number (of_blank x y c) = 32
 owner_byte number (line_end p y) = 10
 
 -- What a column can have: a space, a hash sign, a dot or a digit.

@@ -3,7 +3,7 @@
 -- Assumes nothing.
 use Rattle.std.specs.Prelude.{◌≡◌, cond, List, [], ◌∷◌, ℕ, suc, ◌≤◌, ◌<◌, eqb, get_or}
 use Rattle.lists.specs.Lists.{tabulate}
-use Rattle.refusals.specs.Refusals.{off-size, Case, ◌if◌, given_refusal}
+use Rattle.refusals.specs.Refusals.{unfit_size, Case, ◌if◌, given_refusal}
 use Rattle.cells.specs.Box.{Triple, volume}
 use Rattle.cells.specs.Extents.{off_size}
 use Rattle.labels.specs.Number.{labels}
@@ -27,7 +27,7 @@ counted_codes e = tabulate (volume e) suc
 
 -- The cases of `most_components`.
 unfoldable pub declines : Triple → List Case
-declines e = off-size if off_size 64 e ∷ []
+declines e = unfit_size if off_size 64 e ∷ []
 
 -- The refusal of a call, 0 for none.
 unfoldable pub refusal_of : Triple → ℕ

@@ -1,7 +1,7 @@
 -- What the program is to do once the scanner has read a text to its end (document 01, "Volumes to try").
 -- Assumes nothing.
 use Rattle.std.specs.Prelude.{Bool, cond, not, ◌&&◌, List, ℕ, ◌-◌, eqb, leb}
-use Rattle.refusals.specs.Refusals.{off-size, bad-record, number}
+use Rattle.refusals.specs.Refusals.{unfit_size, bad_record, number}
 use Rattle.cells.specs.Box.{Triple, triple, volume}
 use Rattle.cells.specs.Extents.{off_size}
 use Rattle.parser.specs.declared.Scanned.{Scanned}
@@ -34,7 +34,7 @@ whole_text s = not s.broken && (leb 3 s.count && (not (off_size 8 (extents_seen 
 
 -- The number that the line `refused` shows, 0 for no such line: `text_read` (proofs/TextLaws) says that it is that of the text.
 unfoldable pub line_number : Scanned → ℕ
-line_number s = cond (off_extents s) (number off-size) (cond (not (whole_text s)) (number bad-record) 0)
+line_number s = cond (off_extents s) (number unfit_size) (cond (not (whole_text s)) (number bad_record) 0)
 
 -- What is to be done.
 unfoldable pub task_seen : Scanned → Task

@@ -1,4 +1,4 @@
--- What an enrolment writes for the components of one order, by what a `Block` tells. `enrolled_key_lem` and `enrolled-row` say that it is
+-- What an enrolment writes for the components of one order, by what a `Block` tells. `enrolled_key_lem`, `enrolled_face` and `enrolled_curve` say that it is
 -- the joiner's `enrolled_key` and `enrolled_row`.
 -- Assumes nothing.
 use Rattle.std.specs.Prelude.{◌≡◌, cond, List, [], ◌∷◌, ℕ, suc, ◌+◌, ◌-◌, ◌/◌, ◌%◌, ◌≤◌, ◌<◌, eqb, get_or, length, set}

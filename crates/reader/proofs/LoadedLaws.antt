@@ -17,7 +17,7 @@ use Rattle.lists.specs.Lists.{consecutive, tabulate, some_of}
 use Rattle.lists.proofs.Lists.{consecutive_left, tabulate_snoc}
 use Rattle.lists.proofs.Tests.{some_here, some_next}
 use Rattle.closure.specs.Numbered.{count_below}
-use Rattle.refusals.specs.Refusals.{off-size, wrong-tray, bad-record, number, table, first, given_by, listed_numbers, stands_in}
+use Rattle.refusals.specs.Refusals.{unfit_size, unfit_tray, bad_record, number, table, first, given_by, listed_numbers, stands_in}
 use Rattle.refusals.proofs.RefusalLaws.{given_none}
 use Rattle.cells.specs.Box.{Triple, triple}
 use Rattle.cells.specs.Extents.{off_place}
@@ -179,10 +179,10 @@ unfolding refusal_of declines stands_in number headed
 readable r tray z =
     let e = extents_of r in
     let no = (given_none (stands_in (declines r tray))).0 z in
-    let bad = neither _ _ (no bad-record) in
+    let bad = neither _ _ (no bad_record) in
     let t : leb 12 (length r) ≡ true = not-false _ bad.0 in
-    let on-place : off_place e (origin_of r) ≡ false = rw t at (no off-size) in
-    let n : tray ≡ cells e = eqb-true _ _ (not-false _ (rw t at (no wrong-tray))) in
+    let on-place : off_place e (origin_of r) ≡ false = rw t at (no unfit_size) in
+    let n : tray ≡ cells e = eqb-true _ _ (not-false _ (rw t at (no unfit_tray))) in
     record {
       has_head = leb-true _ _ t;
       is = n;

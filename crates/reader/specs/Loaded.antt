@@ -1,7 +1,7 @@
 -- What `read_record` answers and leaves in the map tray, for every input (document 01, "Block record" and "What the service declines").
 -- Assumes nothing.
 use Rattle.std.specs.Prelude.{Bool, cond, not, ◌&&◌, ◌||◌, List, [], ◌∷◌, ℕ, eqb, leb, length}
-use Rattle.refusals.specs.Refusals.{off-size, wrong-tray, bad-record, Case, ◌if◌, given_refusal}
+use Rattle.refusals.specs.Refusals.{unfit_size, unfit_tray, bad_record, Case, ◌if◌, given_refusal}
 use Rattle.cells.specs.Box.{Triple}
 use Rattle.cells.specs.Extents.{off_place}
 use Rattle.cells.specs.Grid.{cells}
@@ -15,9 +15,9 @@ headed r = leb 12 (length r)
 -- The cases of `read_record`. "For the reader, 1 and 6 apply only when all 12 head bytes are there." The tray goes in by its length.
 unfoldable pub declines : List ℕ → ℕ → List Case
 declines r tray =
-    off-size if (headed r && off_place (extents_of r) (origin_of r)) ∷
-    wrong-tray if (headed r && not (eqb tray (cells (extents_of r)))) ∷
-    bad-record if (not (headed r) || damaged (extents_of r) r) ∷
+    unfit_size if (headed r && off_place (extents_of r) (origin_of r)) ∷
+    unfit_tray if (headed r && not (eqb tray (cells (extents_of r)))) ∷
+    bad_record if (not (headed r) || damaged (extents_of r) r) ∷
     []
 
 -- The refusal of a call, 0 for none.

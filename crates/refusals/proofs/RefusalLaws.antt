@@ -15,7 +15,7 @@ use Rattle.lists.proofs.Cases.{by_test}
 use lib.Dec.{eqb, ltb}
 use borrow.Author.Tests.{eqb-true, ltb-true, ltb-false}
 use Rattle.lists.proofs.Lists.{Ascends, ascends_le, ascends_consecutive}
-use Rattle.refusals.specs.Refusals.{Case, stands_in, given_refusal, listed_numbers, Refusal, off-size, bad-cut, wrong-stage, no-such-place, done-already, wrong-tray, blank-voxel, stray-label, layers-differ, table-full, bad-record, bad-reading, number, table, first, given_by}
+use Rattle.refusals.specs.Refusals.{Case, stands_in, given_refusal, listed_numbers, Refusal, unfit_size, bad_cut, wrong_stage, no_such_place, done_already, unfit_tray, blank_voxel, stray_label, unlike_layers, table_full, bad_record, unfit_reading, number, table, first, given_by}
 
 -- The numbers are 1 to 12, in the order of the table.
 pub table_numbers : map number table ≡ consecutive 1 12
@@ -25,18 +25,18 @@ table_numbers = refl
 -- Each refusal has its row.
 pub table_whole : (r : Refusal) → Memᴰ r table
 unfolding table
-table_whole off-size = here refl
-table_whole bad-cut = later (here refl)
-table_whole wrong-stage = later (later (here refl))
-table_whole no-such-place = later (later (later (here refl)))
-table_whole done-already = later (later (later (later (here refl))))
-table_whole wrong-tray = later (later (later (later (later (here refl)))))
-table_whole blank-voxel = later (later (later (later (later (later (here refl))))))
-table_whole stray-label = later (later (later (later (later (later (later (here refl)))))))
-table_whole layers-differ = later (later (later (later (later (later (later (later (here refl))))))))
-table_whole table-full = later (later (later (later (later (later (later (later (later (here refl)))))))))
-table_whole bad-record = later (later (later (later (later (later (later (later (later (later (here refl))))))))))
-table_whole bad-reading = later (later (later (later (later (later (later (later (later (later (later (here refl)))))))))))
+table_whole unfit_size = here refl
+table_whole bad_cut = later (here refl)
+table_whole wrong_stage = later (later (here refl))
+table_whole no_such_place = later (later (later (here refl)))
+table_whole done_already = later (later (later (later (here refl))))
+table_whole unfit_tray = later (later (later (later (later (here refl)))))
+table_whole blank_voxel = later (later (later (later (later (later (here refl))))))
+table_whole stray_label = later (later (later (later (later (later (later (here refl)))))))
+table_whole unlike_layers = later (later (later (later (later (later (later (later (here refl))))))))
+table_whole table_full = later (later (later (later (later (later (later (later (later (here refl)))))))))
+table_whole bad_record = later (later (later (later (later (later (later (later (later (later (here refl))))))))))
+table_whole unfit_reading = later (later (later (later (later (later (later (later (later (later (later (here refl)))))))))))
 
 -- What is given is the number of a refusal whose case stands.
 pub record GivenFirst (stands : Refusal → Bool) (rs : List Refusal) (n : ℕ) : Type 0 where

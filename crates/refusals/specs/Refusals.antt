@@ -3,29 +3,30 @@
 -- Assumes nothing.
 use Rattle.std.specs.Prelude.{Bool, false, cond, List, [], ◌∷◌, map, ℕ, eqb}
 
--- The column "Called" of the table.
+-- The column "Called" of the table. "Off size", "wrong tray", "layers differ" and "bad reading" stand here as `unfit_size`, `unfit_tray`, `unlike_layers` and
+-- `unfit_reading`: the tests of a call have the words of the table.
 pub data Refusal : Type 0 where
-  off-size bad-cut wrong-stage no-such-place done-already wrong-tray blank-voxel stray-label layers-differ table-full bad-record bad-reading : Refusal
+  unfit_size bad_cut wrong_stage no_such_place done_already unfit_tray blank_voxel stray_label unlike_layers table_full bad_record unfit_reading : Refusal
 
 -- The column "Number".
 unfoldable pub number : Refusal → ℕ
-number off-size = 1
-number bad-cut = 2
-number wrong-stage = 3
-number no-such-place = 4
-number done-already = 5
-number wrong-tray = 6
-number blank-voxel = 7
-number stray-label = 8
-number layers-differ = 9
-number table-full = 10
-number bad-record = 11
-number bad-reading = 12
+number unfit_size = 1
+number bad_cut = 2
+number wrong_stage = 3
+number no_such_place = 4
+number done_already = 5
+number unfit_tray = 6
+number blank_voxel = 7
+number stray_label = 8
+number unlike_layers = 9
+number table_full = 10
+number bad_record = 11
+number unfit_reading = 12
 
 -- The rows of the table, in the order in which refusals are given.
 unfoldable pub table : List Refusal
 table =
-    off-size ∷ bad-cut ∷ wrong-stage ∷ no-such-place ∷ done-already ∷ wrong-tray ∷ blank-voxel ∷ stray-label ∷ layers-differ ∷ table-full ∷ bad-record ∷ bad-reading ∷ []
+    unfit_size ∷ bad_cut ∷ wrong_stage ∷ no_such_place ∷ done_already ∷ unfit_tray ∷ blank_voxel ∷ stray_label ∷ unlike_layers ∷ table_full ∷ bad_record ∷ unfit_reading ∷ []
 
 -- The number of the first refusal of a list whose case stands; 0 where none does.
 unfoldable pub first : (Refusal → Bool) → List Refusal → ℕ

@@ -4,24 +4,24 @@ use Rattle.std.specs.Prelude.{cond, List, ℕ, eqb, set}
 use Rattle.counts.specs.Counts.{stored_counts}
 use Rattle.labeller.specs.Labelling.{Outcome}
 use Rattle.maxima.specs.declared.Most.{Most}
-use Rattle.writer.specs.Writing.{Outcome as Writing-as-Outcome}
-use Rattle.reader.specs.Loaded.{Outcome as Reading-as-Outcome}
+use Rattle.writer.specs.Writing.{Outcome as WritingOutcome}
+use Rattle.reader.specs.Loaded.{Outcome as ReadingOutcome}
 
 -- Of a labelling: the number given back, and what the trays and the three counts hold.
 pub record Exported : Type 0 where
   pub refusal : ℕ
-  pub map-tray : List ℕ
+  pub map_tray : List ℕ
   pub work_tray : List ℕ
   pub counts : List ℕ
 
 abbrev pub exported : ℕ → List ℕ → List ℕ → List ℕ → Exported
-exported n m w c = record { refusal = n; map-tray = m; work_tray = w; counts = c }
+exported n m w c = record { refusal = n; map_tray = m; work_tray = w; counts = c }
 
 -- The counts of faces, curves and points are stored at the three places, which held c, if the labelling is accepted, and these stay if it is refused.
 unfoldable pub export : Outcome → List ℕ → Exported
 export o c =
     let a = o.answer in
-    exported a.refusal o.map-tray o.work_tray (stored_counts a.refusal a.faces a.curves a.points c)
+    exported a.refusal o.map_tray o.work_tray (stored_counts a.refusal a.faces a.curves a.points c)
 
 -- Of the largest block: the number given back, and what the three places hold.
 pub record ExportedMost : Type 0 where
@@ -45,7 +45,7 @@ abbrev pub exported_writing : ℕ → List ℕ → ℕ → ExportedWriting
 exported_writing n t l = record { refusal = n; tray = t; size = l }
 
 -- The length is stored if the writing is accepted, and stays if it is refused.
-unfoldable pub export_writing : Writing-as-Outcome → ℕ → ExportedWriting
+unfoldable pub export_writing : WritingOutcome → ℕ → ExportedWriting
 export_writing o l = exported_writing o.answer.refusal o.tray (cond (eqb o.answer.refusal 0) o.answer.length l)
 
 -- Of a reading: the number given back, what the map tray holds, and the six numbers of the head.
@@ -58,7 +58,7 @@ abbrev pub exported_reading : ℕ → List ℕ → List ℕ → ExportedReading
 exported_reading n t h = record { refusal = n; tray = t; fields = h }
 
 -- Extents and origin are stored at the six places if the reading is accepted, and these stay if it is refused.
-unfoldable pub export_reading : Reading-as-Outcome → List ℕ → ExportedReading
+unfoldable pub export_reading : ReadingOutcome → List ℕ → ExportedReading
 export_reading o h =
     exported_reading o.answer.refusal o.tray
     (cond (eqb o.answer.refusal 0)

@@ -2,7 +2,7 @@
 -- voxels", and when the text is refused.
 -- Assumes nothing.
 use Rattle.std.specs.Prelude.{Bool, true, not, ◌&&◌, List, [], ◌∷◌, map, ℕ, eqb, leb, length, get_or, drop}
-use Rattle.refusals.specs.Refusals.{off-size, bad-record, Case, ◌if◌, given_refusal}
+use Rattle.refusals.specs.Refusals.{unfit_size, bad_record, Case, ◌if◌, given_refusal}
 use Rattle.cells.specs.Box.{Triple, triple, volume}
 use Rattle.cells.specs.Extents.{off_size}
 use Rattle.text.specs.Words.{words_of, is_number, spelled}
@@ -33,7 +33,7 @@ formed ws = numbers ws && (leb 3 (length ws) && eqb (length (drop 3 ws)) (volume
 
 -- The cases of a text: 1 where the extents can be read and are off size, 11 for any other text that has not its form. A code 0 is a code (document 02, item 4).
 unfoldable pub declines_text : List (List ℕ) → List Case
-declines_text ws = off-size if (readable ws && off_size 8 (extents_in ws)) ∷ bad-record if not (formed ws) ∷ []
+declines_text ws = unfit_size if (readable ws && off_size 8 (extents_in ws)) ∷ bad_record if not (formed ws) ∷ []
 
 -- The refusal of a text, 0 for none.
 unfoldable pub text_refusal : List ℕ → ℕ

@@ -7,11 +7,11 @@ use lib.ListN.{get_or}
 use lib.Dec.{eqb}
 use mathlib.Core.Bool.{not}
 use Rattle.lists.specs.Lists.{consecutive, tabulate, zeros, overlay, keep}
-use Rattle.closure.specs.Joined.{merge_ids, join_classes as join-roots, joins, rep}
+use Rattle.closure.specs.Joined.{merge_ids, join_classes as join_roots, joins, rep}
 use Rattle.closure.specs.Numbered.{count_below, leader, number_by, label}
 use Rattle.closure.specs.Trees.{ancestor, root_of}
 use Rattle.union_find.specs.Links.{parent, root, sound_at, sound_way, sound_from, sound_below, sound_range, steps_within, depth, depths, sound_ways}
-use Rattle.refusals.specs.Refusals.{number as refusal-number, table, first, given_by, stands_in}
+use Rattle.refusals.specs.Refusals.{number as refusal_number, table, first, given_by, stands_in}
 use Rattle.cells.specs.Box.{stride, volume, index, place}
 use Rattle.cells.specs.Extents.{is_extent, off_size}
 use Rattle.cells.specs.Grid.{sides, cells, parity, order, voxel, along, upper_neighbours}
@@ -68,11 +68,11 @@ map₁ =
     2 ∷ 0 ∷ 2 ∷ 0 ∷ 2 ∷ 4 ∷ 3 ∷ 0 ∷ 3 ∷ []
 
 map₀_is : map_of handle.told.cutting handle.codes 0 ≡ map₀
-unfolding handle map₀ consecutive tabulate merge_ids join-roots joins rep count_below leader number_by label stride volume index place sides cells parity order voxel along upper_neighbours row_of row occupied active pairs alike edges_at order_below edges active_of number numbered_at numbered_cells code_at map_down labels intervals low_end high_end block_sides interval origin block_extents block_codes map_of
+unfolding handle map₀ consecutive tabulate merge_ids join_roots joins rep count_below leader number_by label stride volume index place sides cells parity order voxel along upper_neighbours row_of row occupied active pairs alike edges_at order_below edges active_of number numbered_at numbered_cells code_at map_down labels intervals low_end high_end block_sides interval origin block_extents block_codes map_of
 map₀_is = refl
 
 map₁_is : map_of handle.told.cutting handle.codes 1 ≡ map₁
-unfolding handle map₁ consecutive tabulate merge_ids join-roots joins rep count_below leader number_by label stride volume index place sides cells parity order voxel along upper_neighbours row_of row occupied active pairs alike edges_at order_below edges active_of number numbered_at numbered_cells code_at map_down labels intervals low_end high_end block_sides interval origin block_extents block_codes map_of
+unfolding handle map₁ consecutive tabulate merge_ids join_roots joins rep count_below leader number_by label stride volume index place sides cells parity order voxel along upper_neighbours row_of row occupied active pairs alike edges_at order_below edges active_of number numbered_at numbered_cells code_at map_down labels intervals low_end high_end block_sides interval origin block_extents block_codes map_of
 map₁_is = refl
 
 calls : List Call
@@ -137,36 +137,36 @@ closed =
     ((1 ∷ 3 ∷ 1 ∷ 2 ∷ 2 ∷ 3 ∷ 7 ∷ 7 ∷ 7 ∷ 7 ∷ []) ∷ (1 ∷ 2 ∷ 3 ∷ 0 ∷ 7 ∷ 7 ∷ 7 ∷ 7 ∷ []) ∷ [] ∷ [])
 
 enrols : run_image handle.told (image_of (opened_state handle.told (used handle.told))) (enrol 0 map₀ ∷ enrol 1 map₁ ∷ []) ≡ enrolled
-unfolding handle map₀ map₁ enrolled consecutive tabulate zeros overlay merge_ids join-roots joins ancestor root_of parent root refusal-number table first given_by stands_in stride volume index place is_extent off_size sides cells parity order along upper_neighbours row_of row occupied of_order largest component row_at_first component_row ascends cut_list intervals low_end high_end block_sides blocks good_cut interval origin block_extents embed follows same_interval seam same_stage ticked count_of from_of node key_of first_at lengths_fit block_trays link_trays found_trays number_trays first_trays listed_trays kind_trays has_on has_cell products shared seams seam_axis seam_step steps_of next_stage finished next_after differs overfull full tally_fits tallies_fit counted standing map_stands ways_stand links_stand all_links_stand sound_at sound_way sound_from sound_below sound_range steps_within depth depths sound_ways rows_stand number_stands curves_stand handed_stands look_stands last_crossing stray final_of final_row point_cells adds declines refusal all_trays open_declines open_refusal nothing through_links joined_row first_of enrolled_key shifted enrolled_row block_entry not_after class_of is_one leads heads rank head_of row_at final_face row_final relinked at_seam seam_edge seam_edges at_crossing cross_edge cross_edges_at cross_edges instead number_kind moved enrol_tables seam_tables cross_tables cross_last crossed point_tables point_last pointed accepted_state after fresh_job cleared opened_state used three_kinds image_of state_of run_image
+unfolding handle map₀ map₁ enrolled consecutive tabulate zeros overlay merge_ids join_roots joins ancestor root_of parent root refusal_number table first given_by stands_in stride volume index place is_extent off_size sides cells parity order along upper_neighbours row_of row occupied of_order largest component row_at_first component_row ascends cut_list intervals low_end high_end block_sides blocks good_cut interval origin block_extents embed follows same_interval seam same_stage ticked count_of from_of node key_of first_at lengths_fit block_trays link_trays found_trays number_trays first_trays listed_trays kind_trays has_on has_cell products shared seams seam_axis seam_step steps_of next_stage finished next_after differs overfull full tally_fits tallies_fit counted standing map_stands ways_stand links_stand all_links_stand sound_at sound_way sound_from sound_below sound_range steps_within depth depths sound_ways rows_stand number_stands curves_stand handed_stands look_stands last_crossing stray final_of final_row point_cells adds declines refusal all_trays open_declines open_refusal nothing through_links joined_row first_of enrolled_key shifted enrolled_row block_entry not_after class_of is_one leads heads rank head_of row_at final_face row_final relinked at_seam seam_edge seam_edges at_crossing cross_edge cross_edges_at cross_edges instead number_kind moved enrol_tables seam_tables cross_tables cross_last crossed point_tables point_last pointed accepted_state after fresh_job cleared opened_state used three_kinds image_of state_of run_image
 enrols = refl
 
 seam_accepted : refusal (state_of handle.told enrolled) (join 0 1 map₀ map₁) ≡ 0
-unfolding handle map₀ map₁ enrolled consecutive refusal-number table first given_by stands_in stride volume index place is_extent off_size sides cells parity order along upper_neighbours row_of occupied of_order largest ascends cut_list intervals low_end high_end block_sides blocks good_cut interval origin block_extents embed follows same_interval seam same_stage ticked count_of from_of node lengths_fit block_trays link_trays found_trays number_trays first_trays listed_trays kind_trays has_on has_cell products shared seams seam_axis seam_step steps_of finished differs overfull full tally_fits tallies_fit counted standing map_stands ways_stand links_stand all_links_stand sound_at sound_way sound_from sound_below sound_range steps_within depth depths sound_ways rows_stand number_stands curves_stand handed_stands look_stands last_crossing stray final_of final_row point_cells adds declines refusal state_of parent
+unfolding handle map₀ map₁ enrolled consecutive refusal_number table first given_by stands_in stride volume index place is_extent off_size sides cells parity order along upper_neighbours row_of occupied of_order largest ascends cut_list intervals low_end high_end block_sides blocks good_cut interval origin block_extents embed follows same_interval seam same_stage ticked count_of from_of node lengths_fit block_trays link_trays found_trays number_trays first_trays listed_trays kind_trays has_on has_cell products shared seams seam_axis seam_step steps_of finished differs overfull full tally_fits tallies_fit counted standing map_stands ways_stand links_stand all_links_stand sound_at sound_way sound_from sound_below sound_range steps_within depth depths sound_ways rows_stand number_stands curves_stand handed_stands look_stands last_crossing stray final_of final_row point_cells adds declines refusal state_of parent
 seam_accepted = refl
 
 seam_left : image_of (accepted_state (state_of handle.told enrolled) (join 0 1 map₀ map₁)) ≡ seamed
-unfolding handle map₀ map₁ enrolled seamed consecutive tabulate overlay merge_ids join-roots joins ancestor root_of parent root stride volume index place sides cells parity order along upper_neighbours row_of row occupied of_order largest component row_at_first component_row intervals low_end high_end block_sides blocks interval origin block_extents embed follows same_interval seam same_stage ticked from_of node key_of first_at products shared seams seam_axis seam_step steps_of next_stage finished next_after final_of final_row point_cells adds through_links joined_row first_of enrolled_key shifted enrolled_row block_entry not_after class_of is_one leads heads rank head_of row_at final_face row_final relinked at_seam seam_edge seam_edges at_crossing cross_edge cross_edges_at cross_edges instead number_kind moved enrol_tables seam_tables cross_tables cross_last crossed point_tables point_last pointed accepted_state three_kinds image_of state_of
+unfolding handle map₀ map₁ enrolled seamed consecutive tabulate overlay merge_ids join_roots joins ancestor root_of parent root stride volume index place sides cells parity order along upper_neighbours row_of row occupied of_order largest component row_at_first component_row intervals low_end high_end block_sides blocks interval origin block_extents embed follows same_interval seam same_stage ticked from_of node key_of first_at products shared seams seam_axis seam_step steps_of next_stage finished next_after final_of final_row point_cells adds through_links joined_row first_of enrolled_key shifted enrolled_row block_entry not_after class_of is_one leads heads rank head_of row_at final_face row_final relinked at_seam seam_edge seam_edges at_crossing cross_edge cross_edges_at cross_edges instead number_kind moved enrol_tables seam_tables cross_tables cross_last crossed point_tables point_last pointed accepted_state three_kinds image_of state_of
 seam_left = refl
 
 crosses : run_image handle.told seamed (cross 0 map₀ ∷ cross 1 map₁ ∷ []) ≡ crossed_over
-unfolding handle map₀ map₁ seamed crossed_over consecutive tabulate overlay merge_ids join-roots joins ancestor root_of parent root refusal-number table first given_by stands_in stride volume index place is_extent off_size sides cells parity order along upper_neighbours row_of row occupied of_order largest component row_at_first component_row ascends cut_list intervals low_end high_end block_sides blocks good_cut interval origin block_extents embed follows same_interval seam same_stage ticked count_of from_of node key_of first_at lengths_fit block_trays link_trays found_trays number_trays first_trays listed_trays kind_trays has_on has_cell products shared seams seam_axis seam_step steps_of next_stage finished next_after differs overfull full tally_fits tallies_fit counted standing map_stands ways_stand links_stand all_links_stand sound_at sound_way sound_from sound_below sound_range steps_within depth depths sound_ways rows_stand number_stands curves_stand handed_stands look_stands last_crossing stray final_of final_row point_cells adds declines refusal through_links joined_row first_of enrolled_key shifted enrolled_row block_entry not_after class_of is_one leads heads rank head_of row_at final_face row_final relinked at_seam seam_edge seam_edges at_crossing cross_edge cross_edges_at cross_edges instead number_kind moved enrol_tables seam_tables cross_tables cross_last crossed point_tables point_last pointed accepted_state after three_kinds image_of state_of run_image
+unfolding handle map₀ map₁ seamed crossed_over consecutive tabulate overlay merge_ids join_roots joins ancestor root_of parent root refusal_number table first given_by stands_in stride volume index place is_extent off_size sides cells parity order along upper_neighbours row_of row occupied of_order largest component row_at_first component_row ascends cut_list intervals low_end high_end block_sides blocks good_cut interval origin block_extents embed follows same_interval seam same_stage ticked count_of from_of node key_of first_at lengths_fit block_trays link_trays found_trays number_trays first_trays listed_trays kind_trays has_on has_cell products shared seams seam_axis seam_step steps_of next_stage finished next_after differs overfull full tally_fits tallies_fit counted standing map_stands ways_stand links_stand all_links_stand sound_at sound_way sound_from sound_below sound_range steps_within depth depths sound_ways rows_stand number_stands curves_stand handed_stands look_stands last_crossing stray final_of final_row point_cells adds declines refusal through_links joined_row first_of enrolled_key shifted enrolled_row block_entry not_after class_of is_one leads heads rank head_of row_at final_face row_final relinked at_seam seam_edge seam_edges at_crossing cross_edge cross_edges_at cross_edges instead number_kind moved enrol_tables seam_tables cross_tables cross_last crossed point_tables point_last pointed accepted_state after three_kinds image_of state_of run_image
 crosses = refl
 
 -- "Keeping only active points for the crossing pass" would join nothing.
 active_only : relinked (get_or seamed.links 1 [])
     (cross_edges_at handle.told.cutting (state_of handle.told seamed).tables 1 map₁ (keep (λ p. not (eqb (get_or map₁ p 0) 0)) (of_order (block_extents handle.told.cutting 1) 0)))
     ≡ get_or seamed.links 1 []
-unfolding handle map₁ seamed consecutive tabulate merge_ids join-roots joins ancestor root_of parent root stride volume place sides cells parity order along upper_neighbours row_of of_order intervals low_end high_end block_sides blocks interval block_extents from_of node products through_links joined_row relinked at_crossing cross_edge cross_edges_at cross_edges state_of
+unfolding handle map₁ seamed consecutive tabulate merge_ids join_roots joins ancestor root_of parent root stride volume place sides cells parity order along upper_neighbours row_of of_order intervals low_end high_end block_sides blocks interval block_extents from_of node products through_links joined_row relinked at_crossing cross_edge cross_edges_at cross_edges state_of
 active_only = refl
 
 points : run_image handle.told crossed_over (point 0 map₀ ∷ point 1 map₁ ∷ []) ≡ closed
-unfolding handle map₀ map₁ crossed_over closed consecutive tabulate overlay merge_ids join-roots joins ancestor root_of parent root refusal-number table first given_by stands_in stride volume index place is_extent off_size sides cells parity order along upper_neighbours row_of row occupied of_order largest component row_at_first component_row ascends cut_list intervals low_end high_end block_sides blocks good_cut interval origin block_extents embed follows same_interval seam same_stage ticked count_of from_of node key_of first_at lengths_fit block_trays link_trays found_trays number_trays first_trays listed_trays kind_trays has_on has_cell products shared seams seam_axis seam_step steps_of next_stage finished next_after differs overfull full tally_fits tallies_fit counted standing map_stands ways_stand links_stand all_links_stand sound_at sound_way sound_from sound_below sound_range steps_within depth depths sound_ways rows_stand number_stands curves_stand handed_stands look_stands last_crossing stray final_of final_row point_cells adds declines refusal through_links joined_row first_of enrolled_key shifted enrolled_row block_entry not_after class_of is_one leads heads rank head_of row_at final_face row_final relinked at_seam seam_edge seam_edges at_crossing cross_edge cross_edges_at cross_edges instead number_kind moved enrol_tables seam_tables cross_tables cross_last crossed point_tables point_last pointed accepted_state after three_kinds image_of state_of run_image
+unfolding handle map₀ map₁ crossed_over closed consecutive tabulate overlay merge_ids join_roots joins ancestor root_of parent root refusal_number table first given_by stands_in stride volume index place is_extent off_size sides cells parity order along upper_neighbours row_of row occupied of_order largest component row_at_first component_row ascends cut_list intervals low_end high_end block_sides blocks good_cut interval origin block_extents embed follows same_interval seam same_stage ticked count_of from_of node key_of first_at lengths_fit block_trays link_trays found_trays number_trays first_trays listed_trays kind_trays has_on has_cell products shared seams seam_axis seam_step steps_of next_stage finished next_after differs overfull full tally_fits tallies_fit counted standing map_stands ways_stand links_stand all_links_stand sound_at sound_way sound_from sound_below sound_range steps_within depth depths sound_ways rows_stand number_stands curves_stand handed_stands look_stands last_crossing stray final_of final_row point_cells adds declines refusal through_links joined_row first_of enrolled_key shifted enrolled_row block_entry not_after class_of is_one leads heads rank head_of row_at final_face row_final relinked at_seam seam_edge seam_edges at_crossing cross_edge cross_edges_at cross_edges instead number_kind moved enrol_tables seam_tables cross_tables cross_last crossed point_tables point_last pointed accepted_state after three_kinds image_of state_of run_image
 points = refl
 
 -- ---- the whole
 
 opened_told : (opened_state handle.told (used handle.told)).job.told ≡ handle.told
-unfolding handle consecutive tabulate zeros refusal-number table first given_by stands_in volume is_extent off_size ascends cut_list intervals block_sides blocks good_cut lengths_fit block_trays link_trays found_trays number_trays first_trays listed_trays kind_trays all_trays open_declines open_refusal nothing fresh_job cleared opened_state used
+unfolding handle consecutive tabulate zeros refusal_number table first given_by stands_in volume is_extent off_size ascends cut_list intervals block_sides blocks good_cut lengths_fit block_trays link_trays found_trays number_trays first_trays listed_trays kind_trays all_trays open_declines open_refusal nothing fresh_job cleared opened_state used
 opened_told = refl
 
 runs : run_image handle.told (image_of (opened_state handle.told (used handle.told))) calls ≡ closed

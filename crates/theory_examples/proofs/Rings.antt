@@ -3,11 +3,11 @@
 use mathlib.Core.Path.{◌∙◌, ◌≡◌, ap, refl}
 use lib.ListN.{get_or}
 use Rattle.lists.specs.Lists.{consecutive, tabulate, zeros, overlay}
-use Rattle.closure.specs.Joined.{merge_ids, join_classes as join-roots, joins, rep}
+use Rattle.closure.specs.Joined.{merge_ids, join_classes as join_roots, joins, rep}
 use Rattle.closure.specs.Numbered.{count_below, leader, number_by, label}
 use Rattle.closure.specs.Trees.{ancestor, root_of}
 use Rattle.union_find.specs.Links.{parent, root, sound_at, sound_way, sound_from, sound_below, sound_range, steps_within, depth, depths, sound_ways}
-use Rattle.refusals.specs.Refusals.{number as refusal-number, table, first, given_by, stands_in}
+use Rattle.refusals.specs.Refusals.{number as refusal_number, table, first, given_by, stands_in}
 use Rattle.cells.specs.Box.{stride, volume, index, place}
 use Rattle.cells.specs.Extents.{is_extent, off_size}
 use Rattle.cells.specs.Grid.{sides, cells, parity, order, voxel, along, upper_neighbours}
@@ -26,18 +26,18 @@ use Rattle.theory_model.specs.Scripts.{used, map_of, steps, contents, outcome, j
 use Rattle.theory_examples.proofs.Images.{three_kinds, image_of, state_of, run_image, run_by_image}
 
 opened_told : (opened_state rings.told (used rings.told)).job.told ≡ rings.told
-unfolding rings consecutive tabulate zeros refusal-number table first given_by stands_in volume is_extent off_size ascends cut_list intervals block_sides blocks good_cut lengths_fit block_trays link_trays found_trays number_trays first_trays listed_trays kind_trays all_trays open_declines open_refusal nothing fresh_job cleared opened_state used
+unfolding rings consecutive tabulate zeros refusal_number table first given_by stands_in volume is_extent off_size ascends cut_list intervals block_sides blocks good_cut lengths_fit block_trays link_trays found_trays number_trays first_trays listed_trays kind_trays all_trays open_declines open_refusal nothing fresh_job cleared opened_state used
 opened_told = refl
 
 -- The middle block has a point 1, which is none in the volume.
 its_point : get_or (map_of rings.told.cutting rings.codes 4) 13 0 ≡ 1
-unfolding rings consecutive tabulate merge_ids join-roots joins rep count_below leader number_by label stride volume index place sides cells parity order voxel along upper_neighbours row_of row occupied active pairs alike edges_at order_below edges active_of number numbered_at numbered_cells code_at map_down labels intervals low_end high_end block_sides interval origin block_extents block_codes map_of
+unfolding rings consecutive tabulate merge_ids join_roots joins rep count_below leader number_by label stride volume index place sides cells parity order voxel along upper_neighbours row_of row occupied active pairs alike edges_at order_below edges active_of number numbered_at numbered_cells code_at map_down labels intervals low_end high_end block_sides interval origin block_extents block_codes map_of
 its_point = refl
 
 closed_is : outcome
     (state_of rings.told (run_image rings.told (image_of (opened_state rings.told (used rings.told))) (steps rings.told.cutting (map_of rings.told.cutting rings.codes))))
     ≡ rings.listed
-unfolding rings consecutive tabulate zeros overlay merge_ids join-roots joins rep count_below leader number_by label ancestor root_of parent root refusal-number table first given_by stands_in stride volume index place is_extent off_size sides cells parity order voxel along upper_neighbours row_of row occupied active pairs alike edges_at order_below edges active_of number numbered_at numbered_cells code_at map_down labels of_order largest component row_at_first component_row ascends cut_list intervals low_end high_end block_sides blocks good_cut interval origin block_extents embed block_codes follows same_interval seam same_stage ticked count_of from_of node key_of first_at lengths_fit block_trays link_trays found_trays number_trays first_trays listed_trays kind_trays has_on has_cell products shared seams seam_axis seam_step steps_of next_stage finished next_after differs overfull full tally_fits tallies_fit counted standing map_stands ways_stand links_stand all_links_stand sound_at sound_way sound_from sound_below sound_range steps_within depth depths sound_ways rows_stand number_stands curves_stand handed_stands look_stands last_crossing stray final_of final_row point_cells adds declines refusal all_trays open_declines open_refusal nothing through_links joined_row first_of enrolled_key shifted enrolled_row block_entry not_after class_of is_one leads heads rank head_of row_at final_face row_final relinked at_seam seam_edge seam_edges at_crossing cross_edge cross_edges_at cross_edges instead number_kind moved enrol_tables seam_tables cross_tables cross_last crossed point_tables point_last pointed accepted_state after fresh_job cleared opened_state used map_of steps contents outcome three_kinds image_of state_of run_image
+unfolding rings consecutive tabulate zeros overlay merge_ids join_roots joins rep count_below leader number_by label ancestor root_of parent root refusal_number table first given_by stands_in stride volume index place is_extent off_size sides cells parity order voxel along upper_neighbours row_of row occupied active pairs alike edges_at order_below edges active_of number numbered_at numbered_cells code_at map_down labels of_order largest component row_at_first component_row ascends cut_list intervals low_end high_end block_sides blocks good_cut interval origin block_extents embed block_codes follows same_interval seam same_stage ticked count_of from_of node key_of first_at lengths_fit block_trays link_trays found_trays number_trays first_trays listed_trays kind_trays has_on has_cell products shared seams seam_axis seam_step steps_of next_stage finished next_after differs overfull full tally_fits tallies_fit counted standing map_stands ways_stand links_stand all_links_stand sound_at sound_way sound_from sound_below sound_range steps_within depth depths sound_ways rows_stand number_stands curves_stand handed_stands look_stands last_crossing stray final_of final_row point_cells adds declines refusal all_trays open_declines open_refusal nothing through_links joined_row first_of enrolled_key shifted enrolled_row block_entry not_after class_of is_one leads heads rank head_of row_at final_face row_final relinked at_seam seam_edge seam_edges at_crossing cross_edge cross_edges_at cross_edges instead number_kind moved enrol_tables seam_tables cross_tables cross_last crossed point_tables point_last pointed accepted_state after fresh_job cleared opened_state used map_of steps contents outcome three_kinds image_of state_of run_image
 closed_is = refl
 
 pub rings_joined : joined_up rings.told rings.codes ≡ rings.listed

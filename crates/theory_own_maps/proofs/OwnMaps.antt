@@ -8,7 +8,7 @@ use lib.Dec.{eqb}
 use lib.ListN.{length}
 use borrow.Author.Tests.{eqb-true, not-false}
 use Rattle.lists.proofs.Cases.{and_first}
-use Rattle.refusals.specs.Refusals.{Refusal, wrong-tray, number, stands_in}
+use Rattle.refusals.specs.Refusals.{Refusal, unfit_tray, number, stands_in}
 use Rattle.refusals.proofs.RefusalLaws.{given_none}
 use Rattle.cells.specs.Box.{Triple, volume}
 use Rattle.cells.specs.Grid.{cells}
@@ -23,7 +23,7 @@ label_labelling e codes m w r m' w' promise fine =
     let n : (d : Refusal) → stands_in (declines e (length codes) (length m) (length w)) d ≡ false =
     (given_none (stands_in (declines e (length codes) (length m) (length w)))).0 (sym (label_refusal e codes m w r m' w' promise) ∙ fine) in
     let many : length codes ≡ volume e =
-    eqb-true _ _ (and_first (eqb (length codes) (volume e)) (eqb (length m) (cells e) && eqb (length w) (cells e)) (not-false _ (n wrong-tray))) in
+    eqb-true _ _ (and_first (eqb (length codes) (volume e)) (eqb (length m) (cells e) && eqb (length w) (cells e)) (not-false _ (n unfit_tray))) in
     record {
       codes = codes;
       many = many;

@@ -8,7 +8,7 @@ use Prim.Native.Nat.{ℕ}
 use native.Mathlib.Omega.{arith}
 use Rattle.lists.specs.Lists.{is_in}
 use Rattle.lists.proofs.Tests.{is_in_lem}
-use Rattle.refusals.specs.Refusals.{blank-voxel, number, given_refusal, listed_numbers}
+use Rattle.refusals.specs.Refusals.{blank_voxel, number, given_refusal, listed_numbers}
 use Rattle.refusals.proofs.RefusalLaws.{given_listed, outcome_refusal}
 use Rattle.cells.specs.Box.{Triple}
 use Rattle.labeller.specs.Labelling as labeller
@@ -30,7 +30,7 @@ use Rattle.parser.proofs.TextLaws.{text_read}
 use Rattle.theory_refusals.specs.PublicCalls.{PublicCall, label, most_components, write_record, read_record, print_layer, opening, call, about_readings, about_cells, program, cases_of, Answers}
 
 -- 7 is on no list.
-pub seven_unlisted : (a : PublicCall) → is_in (listed_numbers (cases_of a)) (number blank-voxel) ≡ false
+pub seven_unlisted : (a : PublicCall) → is_in (listed_numbers (cases_of a)) (number blank_voxel) ≡ false
 unfolding is_in listed_numbers number cases_of labeller.declines maxima.declines writer.declines reader.declines layer_printer.declines opening_declines joiner.declines strain_declines cell_declines declines_text
 seven_unlisted (label e codes m w) = refl
 seven_unlisted (most_components e) = refl

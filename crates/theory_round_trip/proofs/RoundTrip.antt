@@ -10,7 +10,7 @@ use lib.ListN.{length, take, drop}
 use lib.Seq.{take_at}
 use borrow.Author.Tests.{eqb-true, eq-eqb, le-leb, le-ltb, leb-true, ltb-false, not-false}
 use Rattle.lists.proofs.Cases.{neither}
-use Rattle.refusals.specs.Refusals.{off-size, wrong-tray, bad-record, number, table, first, given_by, stands_in}
+use Rattle.refusals.specs.Refusals.{unfit_size, unfit_tray, bad_record, number, table, first, given_by, stands_in}
 use Rattle.refusals.proofs.RefusalLaws.{outcome_refusal, given_none}
 use Rattle.cells.specs.Box.{Triple, Axis, coord}
 use Rattle.cells.specs.Extents.{off_place}
@@ -38,9 +38,9 @@ module _ (e o : Triple) (m : List ℕ) (tray : ℕ) where
   unfolding w.refusal_of w.declines stands_in number
   writable z =
       let n = (given_none (stands_in (w.declines e o m tray))).0 z in
-      let t = neither (not (eqb (length m) (cells e))) (ltb tray (length (encode_record e o m))) (n wrong-tray) in
+      let t = neither (not (eqb (length m) (cells e))) (ltb tray (length (encode_record e o m))) (n unfit_tray) in
       record {
-        placed = n off-size;
+        placed = n unfit_size;
         whole = eqb-true (length m) (cells e) (not-false _ t.0);
         room = ltb-false tray (length (encode_record e o m)) t.1;
       }
@@ -72,12 +72,12 @@ module _ (b : List ℕ) (tray : ℕ) where
   unfolding r.refusal_of r.declines r.headed stands_in number
   readable z =
       let n = (given_none (stands_in (r.declines b tray))).0 z in
-      let d = neither (not (leb 12 (length b))) (damaged (extents_of b) b) (n bad-record) in
+      let d = neither (not (leb 12 (length b))) (damaged (extents_of b) b) (n bad_record) in
       let h = not-false _ d.0 in
       record {
         headed = leb-true 12 (length b) h;
-        placed = rw h at (n off-size);
-        room = eqb-true tray (cells (extents_of b)) (not-false _ (rw h at (n wrong-tray)));
+        placed = rw h at (n unfit_size);
+        room = eqb-true tray (cells (extents_of b)) (not-false _ (rw h at (n unfit_tray)));
         sound = d.1;
       }
 

@@ -20,7 +20,7 @@ use Rattle.cells.specs.Extents.{off_place}
 use Rattle.cells.specs.Grid.{cells}
 use Rattle.cells.proofs.ExtentLaws.{cells_high}
 use Rattle.extents.proofs.SizeLaws.{sized_at}
-use Rattle.refusals.specs.Refusals.{off-size, wrong-tray, number, table, first, given_by, listed_numbers, stands_in}
+use Rattle.refusals.specs.Refusals.{unfit_size, unfit_tray, number, table, first, given_by, listed_numbers, stands_in}
 use Rattle.refusals.proofs.RefusalLaws.{given_none}
 use Rattle.records.specs.Fields.{packed}
 use Rattle.records.specs.Record.{head_bytes, bit, map_byte, bitmap_length, bitmap, listed, encode_record}
@@ -172,8 +172,8 @@ module _ (e o : Triple) (m : List ℕ) (tray : ℕ) where
   unfolding refusal_of declines stands_in number
   ready_of z =
       let n = (given_none (stands_in (declines e o m tray))).0 z in
-      let s = sized_at e o (n off-size) in
-      let w = n wrong-tray in
+      let s = sized_at e o (n unfit_size) in
+      let w = n unfit_tray in
       let a = not (eqb (length m) (cells e)) in
       let b = ltb tray (length (encode_record e o m)) in
       let k : length m ≡ cells e = eqb-true _ _ (not-false _ (neither a b w).0) in

@@ -1,7 +1,7 @@
 -- What `write_record` answers and leaves in the tray, for every input (document 01, "Block record" and "What the service declines").
 -- Assumes nothing.
 use Rattle.std.specs.Prelude.{cond, not, ◌||◌, List, [], ◌∷◌, ◌++◌, ℕ, eqb, ltb, length, drop}
-use Rattle.refusals.specs.Refusals.{off-size, wrong-tray, Case, ◌if◌, given_refusal}
+use Rattle.refusals.specs.Refusals.{unfit_size, unfit_tray, Case, ◌if◌, given_refusal}
 use Rattle.cells.specs.Box.{Triple}
 use Rattle.cells.specs.Extents.{off_place}
 use Rattle.cells.specs.Grid.{cells}
@@ -11,7 +11,7 @@ use Rattle.writer.specs.declared.Written.{Written}
 -- The cases of `write_record`. The tray goes in by its length.
 unfoldable pub declines : Triple → Triple → List ℕ → ℕ → List Case
 declines e o m tray =
-    off-size if off_place e o ∷ wrong-tray if (not (eqb (length m) (cells e)) || ltb tray (length (encode_record e o m))) ∷ []
+    unfit_size if off_place e o ∷ unfit_tray if (not (eqb (length m) (cells e)) || ltb tray (length (encode_record e o m))) ∷ []
 
 -- The refusal of a call, 0 for none.
 unfoldable pub refusal_of : Triple → Triple → List ℕ → ℕ → ℕ

@@ -11,10 +11,10 @@ use Rattle.reading_cells.proofs.all_stand.Statement.{statement}
 use Rattle.reading_cells.proofs.all_stand.Tie as tie
 
 abbrev invariant-loop-i : tie.invariant-loop-i
-invariant-loop-i job from face-numbers curve-numbers m xs ys zs n i₀ i = TrueBelow (standing job from face-numbers curve-numbers m (cell_lists xs ys zs)) i
+invariant-loop-i job from face_numbers curve_numbers m xs ys zs n i₀ i = TrueBelow (standing job from face_numbers curve_numbers m (cell_lists xs ys zs)) i
 
 abbrev decreases-loop-i : tie.decreases-loop-i
-decreases-loop-i job from face-numbers curve-numbers m xs ys zs n i₀ i = n - i
+decreases-loop-i job from face_numbers curve_numbers m xs ys zs n i₀ i = n - i
 
 cell_count-n-requires : tie.Need-cell_count-n-requires invariant-loop-i decreases-loop-i
 cell_count-n-requires c κs = search rules

@@ -11,11 +11,11 @@ use Rattle.reading_cells.proofs.fill_answers.Statement.{statement}
 use Rattle.reading_cells.proofs.fill_answers.Tie as tie
 
 abbrev invariant-loop-i : tie.invariant-loop-i
-invariant-loop-i job from face-numbers curve-numbers point-firsts m xs ys zs answers₀ i₀ answers i =
-    (i ≤ length answers₀) × (length answers ≡ length answers₀) × FilledTo job from face-numbers curve-numbers point-firsts m (cell_lists xs ys zs) answers₀ i answers
+invariant-loop-i job from face_numbers curve_numbers point_firsts m xs ys zs answers₀ i₀ answers i =
+    (i ≤ length answers₀) × (length answers ≡ length answers₀) × FilledTo job from face_numbers curve_numbers point_firsts m (cell_lists xs ys zs) answers₀ i answers
 
 abbrev decreases-loop-i : tie.decreases-loop-i
-decreases-loop-i job from face-numbers curve-numbers point-firsts m xs ys zs answers₀ i₀ answers i = length answers₀ - i
+decreases-loop-i job from face_numbers curve_numbers point_firsts m xs ys zs answers₀ i₀ answers i = length answers₀ - i
 
 -- The start, from a turn of the loop.
 abbrev start : tie.At-loop-i invariant-loop-i decreases-loop-i → tie.Start invariant-loop-i decreases-loop-i

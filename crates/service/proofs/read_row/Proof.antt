@@ -4,17 +4,17 @@ use Rattle.service.proofs.ExportLaws.{row_stored, row_refused}
 use Rattle.service.proofs.read_row.Statement.{statement}
 use Rattle.service.proofs.read_row.Tie as tie
 
-row-requires : tie.Need-row-requires
-row-requires c κs = search rules
+row-part-requires : tie.Need-row-part-requires
+row-part-requires c κs = search rules
 
 six-requires : tie.Need-six-requires
 six-requires c κs = search rules
 
-returns : tie.Need-returns
-returns c = row_stored _ _ _ _ _ _ _ _ c.before.before.row.ensures c.before.if1.true _ _ c.six.ensures
+returns-then-refusal-eq0 : tie.Need-returns-then-refusal-eq0
+returns-then-refusal-eq0 c = row_stored _ _ _ _ _ _ _ _ c.before.before.row-part.ensures c.before.if-refusal-eq0.true _ _ c.six.ensures
 
-returns-2 : tie.Need-returns-2
-returns-2 c = row_refused _ _ _ _ _ _ _ _ c.before.row.ensures c.if1.false _
+returns-else-refusal-eq0 : tie.Need-returns-else-refusal-eq0
+returns-else-refusal-eq0 c = row_refused _ _ _ _ _ _ _ _ c.before.row-part.ensures c.if-refusal-eq0.false _
 
 pub read_row_spec : {M : Type 1} → statement M
-read_row_spec = tie.close (tie.spec row-requires six-requires returns returns-2)
+read_row_spec = tie.close (tie.spec row-part-requires six-requires returns-then-refusal-eq0 returns-else-refusal-eq0)

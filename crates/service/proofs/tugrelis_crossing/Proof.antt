@@ -4,41 +4,41 @@ use Rattle.service.proofs.ExportLaws.{step_exported}
 use Rattle.service.proofs.tugrelis_crossing.Statement.{statement}
 use Rattle.service.proofs.tugrelis_crossing.Tie as tie
 
-job-in-requires : tie.Need-job-in-requires
-job-in-requires c κs = search rules
+job_in-requires : tie.Need-job_in-requires
+job_in-requires c κs = search rules
 
-crossing-requires : tie.Need-crossing-requires
-crossing-requires c κs = search rules
+crossing-r-requires : tie.Need-crossing-r-requires
+crossing-r-requires c κs = search rules
 
 keep-requires : tie.Need-keep-requires
 keep-requires c κs = search rules
 
-same_length : tie.Need-same-length
-same_length c = search rules
+shape_of-ticks : tie.Need-shape_of-ticks
+shape_of-ticks c = search rules
 
-same-length-2 : tie.Need-same-length-2
-same-length-2 c = search rules
+shape_of-face_links : tie.Need-shape_of-face_links
+shape_of-face_links c = search rules
 
-same-length-3 : tie.Need-same-length-3
-same-length-3 c = search rules
+shape_of-curve_links : tie.Need-shape_of-curve_links
+shape_of-curve_links c = search rules
 
-same-length-4 : tie.Need-same-length-4
-same-length-4 c = search rules
+shape_of-face_numbers : tie.Need-shape_of-face_numbers
+shape_of-face_numbers c = search rules
 
-same-length-5 : tie.Need-same-length-5
-same-length-5 c = search rules
+shape_of-curve_numbers : tie.Need-shape_of-curve_numbers
+shape_of-curve_numbers c = search rules
 
-same-length-6 : tie.Need-same-length-6
-same-length-6 c = search rules
+shape_of-face_firsts : tie.Need-shape_of-face_firsts
+shape_of-face_firsts c = search rules
 
-same-length-7 : tie.Need-same-length-7
-same-length-7 c = search rules
+shape_of-curve_firsts : tie.Need-shape_of-curve_firsts
+shape_of-curve_firsts c = search rules
 
-same-length-8 : tie.Need-same-length-8
-same-length-8 c = search rules
+shape_of-face_listed : tie.Need-shape_of-face_listed
+shape_of-face_listed c = search rules
 
-same-length-9 : tie.Need-same-length-9
-same-length-9 c = search rules
+shape_of-curve_listed : tie.Need-shape_of-curve_listed
+shape_of-curve_listed c = search rules
 
 returns : tie.Need-returns
 returns c t =
@@ -49,23 +49,23 @@ returns c t =
     let back20 = back16.before.before.before.before in
     let back24 = back20.before.before.before.before in
     let back28 = back24.before.before.before.before in
-    step_exported _ _ _ _ _ _ _ _ _ _ _ _ back28.before.before.before.job-in.ensures
-    (back20.before.crossing.ensures t) c.keep.ensures
+    step_exported _ _ _ _ _ _ _ _ _ _ _ _ back28.before.before.before.job_in.ensures
+    (back20.before.crossing-r.ensures t) c.keep.ensures
 
 pub tugrelis_crossing_spec : {M : Type 1} → statement M
 tugrelis_crossing_spec =
     tie.close
     (tie.spec
-    job-in-requires
-    crossing-requires
+    job_in-requires
+    crossing-r-requires
     keep-requires
-    same_length
-    same-length-2
-    same-length-3
-    same-length-4
-    same-length-5
-    same-length-6
-    same-length-7
-    same-length-8
-    same-length-9
+    shape_of-ticks
+    shape_of-face_links
+    shape_of-curve_links
+    shape_of-face_numbers
+    shape_of-curve_numbers
+    shape_of-face_firsts
+    shape_of-curve_firsts
+    shape_of-face_listed
+    shape_of-curve_listed
     returns)

@@ -4,38 +4,38 @@ use Rattle.service.proofs.ExportLaws.{step_exported}
 use Rattle.service.proofs.tugrelis_enrol.Statement.{statement}
 use Rattle.service.proofs.tugrelis_enrol.Tie as tie
 
-job-in-requires : tie.Need-job-in-requires
-job-in-requires c κs = search rules
+job_in-requires : tie.Need-job_in-requires
+job_in-requires c κs = search rules
 
-enrol-requires : tie.Need-enrol-requires
-enrol-requires c κs = search rules
+enrol-r-requires : tie.Need-enrol-r-requires
+enrol-r-requires c κs = search rules
 
 keep-requires : tie.Need-keep-requires
 keep-requires c κs = search rules
 
-same_length : tie.Need-same-length
-same_length c = search rules
+shape_of-ticks : tie.Need-shape_of-ticks
+shape_of-ticks c = search rules
 
-same-length-2 : tie.Need-same-length-2
-same-length-2 c = search rules
+shape_of-blocks : tie.Need-shape_of-blocks
+shape_of-blocks c = search rules
 
-same-length-3 : tie.Need-same-length-3
-same-length-3 c = search rules
+shape_of-face_links : tie.Need-shape_of-face_links
+shape_of-face_links c = search rules
 
-same-length-4 : tie.Need-same-length-4
-same-length-4 c = search rules
+shape_of-curve_links : tie.Need-shape_of-curve_links
+shape_of-curve_links c = search rules
 
-same-length-5 : tie.Need-same-length-5
-same-length-5 c = search rules
+shape_of-face_keys : tie.Need-shape_of-face_keys
+shape_of-face_keys c = search rules
 
-same-length-6 : tie.Need-same-length-6
-same-length-6 c = search rules
+shape_of-curve_keys : tie.Need-shape_of-curve_keys
+shape_of-curve_keys c = search rules
 
-same-length-7 : tie.Need-same-length-7
-same-length-7 c = search rules
+shape_of-face_rows : tie.Need-shape_of-face_rows
+shape_of-face_rows c = search rules
 
-same-length-8 : tie.Need-same-length-8
-same-length-8 c = search rules
+shape_of-curve_rows : tie.Need-shape_of-curve_rows
+shape_of-curve_rows c = search rules
 
 returns : tie.Need-returns
 returns c t =
@@ -45,22 +45,22 @@ returns c t =
     let back16 = back12.before.before.before.before in
     let back20 = back16.before.before.before.before in
     let back24 = back20.before.before.before.before in
-    step_exported _ _ _ _ _ _ _ _ _ _ _ _ back24.before.before.before.before.job-in.ensures
-    (back16.before.before.before.enrol.ensures t) c.keep.ensures
+    step_exported _ _ _ _ _ _ _ _ _ _ _ _ back24.before.before.before.before.job_in.ensures
+    (back16.before.before.before.enrol-r.ensures t) c.keep.ensures
 
 pub tugrelis_enrol_spec : {M : Type 1} → statement M
 tugrelis_enrol_spec =
     tie.close
     (tie.spec
-    job-in-requires
-    enrol-requires
+    job_in-requires
+    enrol-r-requires
     keep-requires
-    same_length
-    same-length-2
-    same-length-3
-    same-length-4
-    same-length-5
-    same-length-6
-    same-length-7
-    same-length-8
+    shape_of-ticks
+    shape_of-blocks
+    shape_of-face_links
+    shape_of-curve_links
+    shape_of-face_keys
+    shape_of-curve_keys
+    shape_of-face_rows
+    shape_of-curve_rows
     returns)

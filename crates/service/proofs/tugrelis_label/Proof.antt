@@ -4,23 +4,23 @@ use Rattle.service.proofs.ExportLaws.{label_exported}
 use Rattle.service.proofs.tugrelis_label.Statement.{statement}
 use Rattle.service.proofs.tugrelis_label.Tie as tie
 
-label-requires : tie.Need-label-requires
-label-requires c κs = search rules
+label-r-requires : tie.Need-label-r-requires
+label-r-requires c κs = search rules
 
-store-counts-requires : tie.Need-store-counts-requires
-store-counts-requires c κs = search rules
+store_counts-requires : tie.Need-store_counts-requires
+store_counts-requires c κs = search rules
 
-same_length : tie.Need-same-length
-same_length c = search rules
+shape_of-map : tie.Need-shape_of-map
+shape_of-map c = search rules
 
-same-length-2 : tie.Need-same-length-2
-same-length-2 c = search rules
+shape_of-work : tie.Need-shape_of-work
+shape_of-work c = search rules
 
 returns : tie.Need-returns
 returns c =
     let lent = c.before.before.before in
     let l = lent.before.before.before in
-    label_exported l.label.result _ _ _ _ _ l.label.ensures c.store-counts.ensures
+    label_exported l.label-r.result _ _ _ _ _ l.label-r.ensures c.store_counts.ensures
 
 pub tugrelis_label_spec : {M : Type 1} → statement M
-tugrelis_label_spec = tie.close (tie.spec label-requires store-counts-requires same_length same-length-2 returns)
+tugrelis_label_spec = tie.close (tie.spec label-r-requires store_counts-requires shape_of-map shape_of-work returns)

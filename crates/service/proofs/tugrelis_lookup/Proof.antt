@@ -4,17 +4,17 @@ use Rattle.service.proofs.ExportLaws.{lookup_stored, lookup_refused}
 use Rattle.service.proofs.tugrelis_lookup.Statement.{statement}
 use Rattle.service.proofs.tugrelis_lookup.Tie as tie
 
-job-in-requires : tie.Need-job-in-requires
-job-in-requires c κs = search rules
+job_in-requires : tie.Need-job_in-requires
+job_in-requires c κs = search rules
 
-lookup-requires : tie.Need-lookup-requires
-lookup-requires c κs = search rules
+lookup-r-requires : tie.Need-lookup-r-requires
+lookup-r-requires c κs = search rules
 
-returns : tie.Need-returns
-returns c t = lookup_stored _ _ _ _ _ _ _ _ _ _ _ c.before.before.before.job-in.ensures (c.before.before.lookup.ensures t) c.if1.true
+returns-then-r-eq0 : tie.Need-returns-then-r-eq0
+returns-then-r-eq0 c t = lookup_stored _ _ _ _ _ _ _ _ _ _ _ c.before.before.before.job_in.ensures (c.before.before.lookup-r.ensures t) c.if-r-eq0.true
 
-returns-2 : tie.Need-returns-2
-returns-2 c t = lookup_refused _ _ _ _ _ _ _ _ _ _ _ c.before.before.before.job-in.ensures (c.before.before.lookup.ensures t) c.if1.false
+returns-else-r-eq0 : tie.Need-returns-else-r-eq0
+returns-else-r-eq0 c t = lookup_refused _ _ _ _ _ _ _ _ _ _ _ c.before.before.before.job_in.ensures (c.before.before.lookup-r.ensures t) c.if-r-eq0.false
 
 pub tugrelis_lookup_spec : {M : Type 1} → statement M
-tugrelis_lookup_spec = tie.close (tie.spec job-in-requires lookup-requires returns returns-2)
+tugrelis_lookup_spec = tie.close (tie.spec job_in-requires lookup-r-requires returns-then-r-eq0 returns-else-r-eq0)

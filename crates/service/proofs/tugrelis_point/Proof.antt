@@ -4,32 +4,32 @@ use Rattle.service.proofs.ExportLaws.{step_exported}
 use Rattle.service.proofs.tugrelis_point.Statement.{statement}
 use Rattle.service.proofs.tugrelis_point.Tie as tie
 
-job-in-requires : tie.Need-job-in-requires
-job-in-requires c κs = search rules
+job_in-requires : tie.Need-job_in-requires
+job_in-requires c κs = search rules
 
-point-requires : tie.Need-point-requires
-point-requires c κs = search rules
+point-r-requires : tie.Need-point-r-requires
+point-r-requires c κs = search rules
 
 keep-requires : tie.Need-keep-requires
 keep-requires c κs = search rules
 
-same_length : tie.Need-same-length
-same_length c = search rules
+shape_of-ticks : tie.Need-shape_of-ticks
+shape_of-ticks c = search rules
 
-same-length-2 : tie.Need-same-length-2
-same-length-2 c = search rules
+shape_of-point_keys : tie.Need-shape_of-point_keys
+shape_of-point_keys c = search rules
 
-same-length-3 : tie.Need-same-length-3
-same-length-3 c = search rules
+shape_of-point_rows : tie.Need-shape_of-point_rows
+shape_of-point_rows c = search rules
 
-same-length-4 : tie.Need-same-length-4
-same-length-4 c = search rules
+shape_of-point_numbers : tie.Need-shape_of-point_numbers
+shape_of-point_numbers c = search rules
 
-same-length-5 : tie.Need-same-length-5
-same-length-5 c = search rules
+shape_of-point_firsts : tie.Need-shape_of-point_firsts
+shape_of-point_firsts c = search rules
 
-same-length-6 : tie.Need-same-length-6
-same-length-6 c = search rules
+shape_of-point_listed : tie.Need-shape_of-point_listed
+shape_of-point_listed c = search rules
 
 returns : tie.Need-returns
 returns c t =
@@ -38,20 +38,20 @@ returns c t =
     let back12 = back8.before.before.before.before in
     let back16 = back12.before.before.before.before in
     let back20 = back16.before.before.before.before in
-    step_exported _ _ _ _ _ _ _ _ _ _ _ _ back20.before.before.job-in.ensures
-    (back12.before.before.before.point.ensures t) c.keep.ensures
+    step_exported _ _ _ _ _ _ _ _ _ _ _ _ back20.before.before.job_in.ensures
+    (back12.before.before.before.point-r.ensures t) c.keep.ensures
 
 pub tugrelis_point_spec : {M : Type 1} → statement M
 tugrelis_point_spec =
     tie.close
     (tie.spec
-    job-in-requires
-    point-requires
+    job_in-requires
+    point-r-requires
     keep-requires
-    same_length
-    same-length-2
-    same-length-3
-    same-length-4
-    same-length-5
-    same-length-6
+    shape_of-ticks
+    shape_of-point_keys
+    shape_of-point_rows
+    shape_of-point_numbers
+    shape_of-point_firsts
+    shape_of-point_listed
     returns)

@@ -4,55 +4,55 @@ use Rattle.service.proofs.ExportLaws.{reading_stored, reading_refused}
 use Rattle.service.proofs.tugrelis_read_record.Statement.{statement}
 use Rattle.service.proofs.tugrelis_read_record.Tie as tie
 
-read-record-requires : tie.Need-read-record-requires
-read-record-requires c κs = search rules
+read_record-r-requires : tie.Need-read_record-r-requires
+read_record-r-requires c κs = search rules
 
-element-write-fields : tie.Need-element-write-fields
-element-write-fields c = search rules
+bounds-fields-0 : tie.Need-bounds-fields-0
+bounds-fields-0 c = search rules
 
-element-write-fields-2 : tie.Need-element-write-fields-2
-element-write-fields-2 c = search rules
+bounds-fields-1 : tie.Need-bounds-fields-1
+bounds-fields-1 c = search rules
 
-element-write-fields-3 : tie.Need-element-write-fields-3
-element-write-fields-3 c = search rules
+bounds-fields-2 : tie.Need-bounds-fields-2
+bounds-fields-2 c = search rules
 
-element-write-fields-4 : tie.Need-element-write-fields-4
-element-write-fields-4 c = search rules
+bounds-fields-3 : tie.Need-bounds-fields-3
+bounds-fields-3 c = search rules
 
-element-write-fields-5 : tie.Need-element-write-fields-5
-element-write-fields-5 c = search rules
+bounds-fields-4 : tie.Need-bounds-fields-4
+bounds-fields-4 c = search rules
 
-element-write-fields-6 : tie.Need-element-write-fields-6
-element-write-fields-6 c = search rules
+bounds-fields-5 : tie.Need-bounds-fields-5
+bounds-fields-5 c = search rules
 
-same_length : tie.Need-same-length
-same_length c = search rules
+shape_of-map-then-r-eq0 : tie.Need-shape_of-map-then-r-eq0
+shape_of-map-then-r-eq0 c = search rules
 
-returns : tie.Need-returns
-returns c =
+returns-then-r-eq0 : tie.Need-returns-then-r-eq0
+returns-then-r-eq0 c =
     let l = c.before.before.before.before in
-    reading_stored l.read_record.result _ _ _ l.read_record.ensures c.if1.true
+    reading_stored l.read_record-r.result _ _ _ l.read_record-r.ensures c.if-r-eq0.true
 
-same-length-2 : tie.Need-same-length-2
-same-length-2 c = search rules
+shape_of-map-else-r-eq0 : tie.Need-shape_of-map-else-r-eq0
+shape_of-map-else-r-eq0 c = search rules
 
-returns-2 : tie.Need-returns-2
-returns-2 c =
+returns-else-r-eq0 : tie.Need-returns-else-r-eq0
+returns-else-r-eq0 c =
     let l = c.before.before.before.before in
-    reading_refused l.read_record.result _ _ _ l.read_record.ensures c.if1.false
+    reading_refused l.read_record-r.result _ _ _ l.read_record-r.ensures c.if-r-eq0.false
 
 pub tugrelis_read_record_spec : {M : Type 1} → statement M
 tugrelis_read_record_spec =
     tie.close
     (tie.spec
-    read-record-requires
-    element-write-fields
-    element-write-fields-2
-    element-write-fields-3
-    element-write-fields-4
-    element-write-fields-5
-    element-write-fields-6
-    same_length
-    returns
-    same-length-2
-    returns-2)
+    read_record-r-requires
+    bounds-fields-0
+    bounds-fields-1
+    bounds-fields-2
+    bounds-fields-3
+    bounds-fields-4
+    bounds-fields-5
+    shape_of-map-then-r-eq0
+    returns-then-r-eq0
+    shape_of-map-else-r-eq0
+    returns-else-r-eq0)
