@@ -142,7 +142,7 @@ def idle(text, is_code):
     """The names that are imported and not used: of a `ghost use`, in no clause of a contract."""
     rest = USE.sub('', text)
     contracts, code = clauses(rest) if is_code else ('', rest)
-    used = {'ghost ': set(uses(contracts)), '': set(uses(re.sub('[<>]', ' ', code) if is_code else code))}
+    used = {'ghost ': set(uses(contracts)), '': set(uses(re.sub(r'[<>]|\.\.=?', ' ', code) if is_code else code))}
     for ghost, item in USE.findall(text):
         names = re.search(r'\{([^}]*)\}$', item)
         for name in names.group(1).split(',') if names else re.split(r'::|\.| as ', item)[-1:]:

@@ -60,7 +60,7 @@ class Declare(unittest.TestCase):
             self.assertTrue(part in raw, part)
 
     def test_a_changed_refusal_is_written_in_both(self):
-        self.change('crates/refusals/src/lib.rt', 'BAD_CUT: u32 = 2', 'BAD_CUT: u32 = 77')
+        self.change('crates/refusals/src/lib.rt', 'BadCut = 2', 'BadCut = 77')
         self.assertEqual(self.stale(), [WRITTEN[0], WRITTEN[2]])
         self.assertEqual(self.declare()[0], 0)
         self.assertIn('TUGRELIS_BAD_CUT = 77,', self.text(WRITTEN[0]))
@@ -71,7 +71,7 @@ class Declare(unittest.TestCase):
             ('crates/service/src/lib.rt', 'fn tugrelis_seam(', 'fn tugrelis_stitch(', 'seam, stitch'),
             ('crates/service/src/lib.rt', 'codes: &[u32]', 'codes: &[Code]', 'codes: &[Code] cannot be exported'),
             ('crates/service/src/lib.rt', '#[unsafe(no_mangle)]\n', '#[unsafe(no_mangle)]\n#[cold]\n', 'another form'),
-            ('crates/refusals/src/lib.rt', 'pub const BAD_CUT', 'pub const BAD_CUTS', 'BAD_CUT, BAD_CUTS'),
+            ('crates/refusals/src/lib.rt', 'BadCut =', 'BadCuts =', 'BAD_CUT, BAD_CUTS'),
             ('host/tugrelis.h.in', '. */\n@label@', '. */\n\n@label@', 'label'),
             ('host/tugrelis.h.in', '@label@', '@label@\n@label@', 'label'),
         ):

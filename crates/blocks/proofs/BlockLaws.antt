@@ -6,7 +6,10 @@ use Prim.Native.Nat.{ℕ, ◌+◌, ◌-◌, ◌*◌, ◌≤◌, ◌<◌}
 use native.Mathlib.Omega.{arith}
 use lib.Dec.{leb, ltb}
 use borrow.Author.Tests.{leb-true, ltb-true}
-use Rattle.cells.specs.Box.{Triple, Axis, X, Y, Z, coord, each, index}
+use Rattle.cells.specs.Box.{coord, each, index}
+use Rattle.cells.specs.declared.Axis.{Axis}
+use Rattle.cells.specs.declared.Axis.TheVariants.{X, Y, Z}
+use Rattle.cells.specs.declared.Triple.{Triple}
 use Rattle.cells.specs.Extents.{Sized}
 use Rattle.cells.specs.Grid.{sides}
 use Rattle.cutting.specs.Cutting.{Cutting, cut_list, good_cut, blocks, block_extents, embed, most_blocks, FewBlocks}

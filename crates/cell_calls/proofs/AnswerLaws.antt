@@ -10,7 +10,8 @@ use lib.Dec.{eqb, leb}
 use lib.ListN.{length}
 use borrow.Author.Tests.{eqb-true, eqb-false, eq-eqb, ne_eqb, leb-true, not-false}
 use Rattle.lists.proofs.Cases.{by_test, and_first, and_second}
-use Rattle.refusals.specs.Refusals.{Refusal, unfit_size, bad_cut, wrong_stage, no_such_place, unfit_tray, stray_label, listed_numbers, number, stands_in}
+use Rattle.refusals.specs.declared.Refusal.{Refusal}
+use Rattle.refusals.specs.Refusals.{listed_numbers, number, stands_in}
 use Rattle.refusals.proofs.RefusalLaws.{given_none}
 use Rattle.cells.specs.Extents.{off_size}
 use Rattle.cutting.specs.Cutting.{good_cut}
@@ -37,13 +38,13 @@ module _ (s : State) (c : CellCall) where
   unfolding cell_refusal cell_declines stands_in number
   cell_passed r =
       let n : (z : Refusal) → stands_in (cell_declines s c) z ≡ false = (given_none (stands_in (cell_declines s c))).0 r in
-      let trays = not-false _ (n unfit_tray) in
-      let standing = not-false _ (n stray_label) in
+      let trays = not-false _ (n Refusal.WrongTray) in
+      let standing = not-false _ (n Refusal.StrayLabel) in
       record {
-        on_size = n unfit_size;
-        cut = not-false _ (n bad_cut);
-        stage = not-false _ (n wrong_stage);
-        placed = not-false _ (n no_such_place);
+        on_size = n Refusal.OffSize;
+        cut = not-false _ (n Refusal.BadCut);
+        stage = not-false _ (n Refusal.WrongStage);
+        placed = not-false _ (n Refusal.NoSuchPlace);
         lists = and_first (lists_fit s.job.told.cutting c) _ trays;
         lent = and_second (lists_fit s.job.told.cutting c) _ trays;
         tallies = and_first (tallies_fit s.job) (cells_stand s c) standing;

@@ -12,7 +12,8 @@ use Rattle.lists.specs.Lists.{consecutive, keep, some_of}
 use Rattle.lists.proofs.Cases.{by_test, and_first, and_second}
 use Rattle.lists.proofs.Lists.{consecutive_in, consecutive_out, length-consecutive}
 use Rattle.lists.proofs.Tests.{all_out, some_where, some_true}
-use Rattle.cells.specs.Box.{Triple, X, Y, Z}
+use Rattle.cells.specs.declared.Axis.TheVariants.{X, Y, Z}
+use Rattle.cells.specs.declared.Triple.{Triple}
 use Rattle.cells.specs.Grid.{sides}
 use Rattle.cells.proofs.BoxLaws.{Inside}
 use Rattle.cutting.specs.Cutting.{Cutting, blocks, good_cut}

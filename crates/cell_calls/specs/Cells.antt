@@ -2,7 +2,8 @@
 -- Assumes nothing.
 use Rattle.std.specs.Prelude.{Bool, ◌&&◌, List, ℕ, min, eqb, ltb, get_or, length}
 use Rattle.lists.specs.Lists.{consecutive, keep, all_of, some_of}
-use Rattle.cells.specs.Box.{Triple, triple}
+use Rattle.cells.specs.Box.{triple}
+use Rattle.cells.specs.declared.Triple.{Triple}
 use Rattle.cells.specs.Grid.{sides}
 use Rattle.cutting.specs.Cutting.{Cutting, blocks}
 use Rattle.joiner.specs.Stages.{lowest_block}

@@ -2,7 +2,8 @@
 -- Assumes nothing.
 use Rattle.std.specs.Prelude.{Bool, true, not, ◌&&◌, ◌||◌, List, [], ◌∷◌, ◌++◌, ℕ}
 use Rattle.lists.specs.Lists.{consecutive, all_of}
-use Rattle.refusals.specs.Refusals.{unfit_size, bad_cut, wrong_stage, no_such_place, unfit_tray, stray_label, Case, ◌if◌, given_refusal}
+use Rattle.refusals.specs.declared.Refusal.{Refusal}
+use Rattle.refusals.specs.Refusals.{Case, ◌if◌, given_refusal}
 use Rattle.cells.specs.Extents.{off_size}
 use Rattle.cutting.specs.Cutting.{block_extents, good_cut}
 use Rattle.joiner.specs.Job.{Face, Curve, Point, Closed, same_stage, Told, Tables, State, Tray, lengths_fit, block_trays, number_trays, first_trays}
@@ -28,12 +29,12 @@ cells_stand s (fill l b m t) = map_stands s (block_extents s.job.told.cutting b)
 -- The cases of the two calls.
 unfoldable pub cell_declines : State → CellCall → List Case
 cell_declines s c =
-    unfit_size if off_size 1024 s.job.told.cutting.extents ∷
-    bad_cut if not (good_cut s.job.told.cutting) ∷
-    wrong_stage if not (same_stage s.job.stage Closed) ∷
-    no_such_place if not (cells_placed s.job.told.cutting c) ∷
-    unfit_tray if not (lists_fit s.job.told.cutting c && lengths_fit (lent_for s.job.told s.tables c)) ∷
-    stray_label if not (tallies_fit s.job && cells_stand s c) ∷
+    Refusal.OffSize if off_size 1024 s.job.told.cutting.extents ∷
+    Refusal.BadCut if not (good_cut s.job.told.cutting) ∷
+    Refusal.WrongStage if not (same_stage s.job.stage Closed) ∷
+    Refusal.NoSuchPlace if not (cells_placed s.job.told.cutting c) ∷
+    Refusal.WrongTray if not (lists_fit s.job.told.cutting c && lengths_fit (lent_for s.job.told s.tables c)) ∷
+    Refusal.StrayLabel if not (tallies_fit s.job && cells_stand s c) ∷
     []
 
 -- The number with which a call is refused, 0 where it is accepted.

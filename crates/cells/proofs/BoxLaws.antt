@@ -9,7 +9,10 @@ use lib.Dec.{ltb}
 use borrow.Author.Tests.{ltb-true, ltb-false}
 use Rattle.lists.proofs.Cases.{by_test}
 use lib.Arith.{digits_lt, digits_div, digits_mod}
-use Rattle.cells.specs.Box.{Triple, Axis, X, Y, Z, triple, coord, each, stride, volume, index, place}
+use Rattle.cells.specs.Box.{triple, coord, each, stride, volume, index, place}
+use Rattle.cells.specs.declared.Axis.{Axis}
+use Rattle.cells.specs.declared.Axis.TheVariants.{X, Y, Z}
+use Rattle.cells.specs.declared.Triple.{Triple}
 
 -- A place that lies in the box.
 abbrev pub Inside : Triple → Triple → Type 0

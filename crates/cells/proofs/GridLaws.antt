@@ -6,7 +6,10 @@ use mathlib.Core.List.Memᴰ
 use mathlib.Core.List.{List, [], ◌∷◌, ◌++◌, Memᴰ}
 use Prim.Native.Nat.{ℕ, zero, suc, ◌+◌, ◌-◌, ◌*◌, ◌/◌, ◌%◌, ◌≤◌, ◌<◌}
 use native.Mathlib.Omega.{arith}
-use Rattle.cells.specs.Box.{Triple, Axis, X, Y, Z, triple, coord, each, stride, volume, index, place}
+use Rattle.cells.specs.Box.{triple, coord, each, stride, volume, index, place}
+use Rattle.cells.specs.declared.Axis.{Axis}
+use Rattle.cells.specs.declared.Axis.TheVariants.{X, Y, Z}
+use Rattle.cells.specs.declared.Triple.{Triple}
 use lib.ListN.{length, length-append}
 use Rattle.cells.specs.Grid.{sides, cells, parity, order, along, upper_neighbours, voxel, voxel_cell}
 use Rattle.cells.proofs.BoxLaws.{Inside, index_place, place_index, place_inside, index_inside, raised, lowered, index_raised, index_lowered, lowered_add, coord_each, same_triple}

@@ -5,7 +5,9 @@ use mathlib.Core.Path.{◌≡◌, refl, ap₂}
 use mathlib.Core.List.{List, [], ◌∷◌, ◌++◌, map, map-append}
 use native.Mathlib.Omega.{arith}
 use lib.ListN.{get_or, length, length-append}
-use Rattle.cells.specs.Box.{Triple, X, Y, Z, stride}
+use Rattle.cells.specs.Box.{stride}
+use Rattle.cells.specs.declared.Axis.TheVariants.{X, Y, Z}
+use Rattle.cells.specs.declared.Triple.{Triple}
 use Rattle.cells.specs.Grid.{sides, parity, along, upper_neighbours}
 use Rattle.cells.specs.Steps.{steps_along, steps_of, step_at, pattern, moved}
 use Rattle.cells.proofs.GridLaws.{odd_lt}

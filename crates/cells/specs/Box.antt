@@ -1,15 +1,9 @@
 -- Places in a box, numbered x fastest, then y, then z: one arithmetic for voxels, cells and blocks (document 01, "The grid of cells").
 -- Assumes nothing.
 use Rattle.std.specs.Prelude.{ℕ, ◌+◌, ◌*◌, ◌/◌, ◌%◌}
-
--- A number for each axis: extents, coordinates or an origin.
-pub record Triple : Type 0 where
-  pub x : ℕ
-  pub y : ℕ
-  pub z : ℕ
-
-pub data Axis : Type 0 where
-  X Y Z : Axis
+use Rattle.cells.specs.declared.Axis.{Axis}
+use Rattle.cells.specs.declared.Axis.TheVariants.{X, Y, Z}
+use Rattle.cells.specs.declared.Triple.{Triple}
 
 abbrev pub triple : ℕ → ℕ → ℕ → Triple
 triple a b c = record { x = a; y = b; z = c }

@@ -1,7 +1,7 @@
 -- Extents and their limits (document 01): 1,024 for a volume, 64 for a block.
 -- Assumes nothing.
 use Rattle.std.specs.Prelude.{Bool, not, ◌&&◌, ◌||◌, ℕ, ◌+◌, ◌≤◌, leb, ltb}
-use Rattle.cells.specs.Box.{Triple}
+use Rattle.cells.specs.declared.Triple.{Triple}
 
 -- An extent is from 1 to its limit.
 unfoldable pub is_extent : ℕ → ℕ → Bool

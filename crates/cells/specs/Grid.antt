@@ -1,7 +1,10 @@
 -- The grid of cells of a volume or a block of e voxels (document 01, "The grid of cells"). Cells are named by position.
 -- Assumes nothing.
 use Rattle.std.specs.Prelude.{List, [], ◌∷◌, ◌++◌, ℕ, zero, suc, ◌+◌, ◌-◌, ◌*◌, ◌/◌, ◌%◌}
-use Rattle.cells.specs.Box.{Triple, Axis, X, Y, Z, coord, each, stride, volume, index, place}
+use Rattle.cells.specs.Box.{coord, each, stride, volume, index, place}
+use Rattle.cells.specs.declared.Axis.{Axis}
+use Rattle.cells.specs.declared.Axis.TheVariants.{X, Y, Z}
+use Rattle.cells.specs.declared.Triple.{Triple}
 
 -- "The cell grid has 2n−1 places on each axis, counted from 0."
 unfoldable pub sides : Triple → Triple

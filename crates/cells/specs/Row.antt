@@ -3,7 +3,7 @@
 -- Assumes nothing.
 use Rattle.std.specs.Prelude.{ℕ, zero, suc, ◌+◌, min, max, Bool, true, false, cond, not, List, [], ◌∷◌, map, eqb, get_or}
 use Rattle.lists.specs.Lists.{keep}
-use Rattle.cells.specs.Box.{Triple}
+use Rattle.cells.specs.declared.Triple.{Triple}
 use Rattle.cells.specs.Grid.{upper_neighbours}
 
 -- How often v occurs.

@@ -2,7 +2,8 @@
 -- A step is 0 for none, 1 and 2 for down and up along x, 3 and 4 along y, 5 and 6 along z.
 -- Assumes nothing.
 use Rattle.std.specs.Prelude.{ℕ, zero, suc, ◌+◌, ◌-◌, ◌*◌, ◌/◌, ◌%◌, cond, List, [], ◌∷◌, ◌++◌, eqb, get_or}
-use Rattle.cells.specs.Box.{Triple, X, Y, Z}
+use Rattle.cells.specs.declared.Axis.TheVariants.{X, Y, Z}
+use Rattle.cells.specs.declared.Triple.{Triple}
 use Rattle.cells.specs.Grid.{parity}
 
 -- Which axes of cell p are odd: bit 0 for x, bit 1 for y, bit 2 for z.

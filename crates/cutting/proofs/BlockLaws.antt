@@ -10,7 +10,10 @@ use borrow.Author.Tests.{eqb-true, eqb-false}
 use Prim.Native.Nat.{ℕ, zero, suc, ◌+◌, ◌/◌, ◌≤◌, ◌<◌}
 use native.Mathlib.Omega.{arith}
 use lib.ListN.{get_or, length, length-map}
-use Rattle.cells.specs.Box.{Triple, Axis, X, Y, coord, each, volume, index, place}
+use Rattle.cells.specs.Box.{coord, each, volume, index, place}
+use Rattle.cells.specs.declared.Axis.{Axis}
+use Rattle.cells.specs.declared.Axis.TheVariants.{X, Y}
+use Rattle.cells.specs.declared.Triple.{Triple}
 use Rattle.cells.specs.Grid.{sides, cells, order, upper_neighbours, voxel}
 use Rattle.cells.specs.Row.{row_of, occupied, row, active}
 use Rattle.labels.specs.Components.{first_cell}

@@ -7,7 +7,10 @@ use Prim.Native.Nat.{ℕ, zero, suc, ◌+◌, ◌-◌, ◌*◌, ◌≤◌, ◌<�
 use native.Mathlib.Omega.{arith}
 use lib.Dec.{eqb, leb, ltb}
 use borrow.Author.Tests.{eqb-true, leb-true, leb-false, ltb-true, ltb-false}
-use Rattle.cells.specs.Box.{Triple, Axis, X, Y, Z, coord, each, stride, index, place}
+use Rattle.cells.specs.Box.{coord, each, stride, index, place}
+use Rattle.cells.specs.declared.Axis.{Axis}
+use Rattle.cells.specs.declared.Axis.TheVariants.{X, Y, Z}
+use Rattle.cells.specs.declared.Triple.{Triple}
 use Rattle.cells.specs.Extents.{Sized}
 use Rattle.cells.specs.Grid.{sides, cells, parity, order, along, upper_neighbours}
 use Rattle.cutting.specs.Cutting.{Cutting, cuts, ascends, cut_list, intervals, low_end, high_end, block_sides, blocks, most_blocks, good_cut, interval, origin, block_extents, embed}

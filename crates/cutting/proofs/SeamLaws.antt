@@ -9,11 +9,14 @@ use native.Mathlib.Omega.{arith}
 use lib.Dec.{eqb, ltb}
 use lib.ListN.{get_or, length}
 use borrow.Author.Tests.{eqb-true, eqb-false, eq-eqb, ltb-true, ltb-false, lt-ltb}
-use Rattle.cells.specs.Box.{Triple, Axis, X, Y, Z, triple, coord, index, place}
+use Rattle.cells.specs.Box.{triple, coord, index, place}
+use Rattle.cells.specs.declared.Axis.{Axis}
+use Rattle.cells.specs.declared.Axis.TheVariants.{X, Y, Z}
+use Rattle.cells.specs.declared.Triple.{Triple}
 use Rattle.cells.specs.Grid.{sides, parity, order}
 use Rattle.cutting.specs.Cutting.{Cutting, cuts, ascends, cut_list, intervals, low_end, high_end, block_sides, blocks, good_cut, interval, follows, same_interval, seam}
 use Rattle.cutting.specs.Nodes.{BlockHas, SeamPath, stay, next, last}
-use Rattle.lists.proofs.Cases.{by_test, and_second, and_both, or_left, or_right}
+use Rattle.lists.proofs.Cases.{by_test, and_second, and_both, or_on_left, or_on_right}
 use Rattle.cells.proofs.BoxLaws.{Inside, index_place, place_index, place_inside, raised, same_triple}
 use Rattle.cutting.proofs.CutLaws.{step_up, step_rest, cut_on, Spans, has_spans, spans_has, block_in, interval_at, interval_is, block_sides_on}
 
@@ -70,9 +73,9 @@ seam_raised k b c a hb hc h = and_both (ltb b (blocks k) && ltb c (blocks k)) _ 
     L d = same_interval k b c d
 
     go : (a : Axis) → ((d : Axis) → interval k c d ≡ coord (raised a (place (block_sides k) b)) d) → ((F X && L Y && L Z) || (L X && F Y && L Z) || (L X && L Y && F Z)) ≡ true
-    go X h = or_left ((F X && L Y && L Z) || (L X && F Y && L Z)) (L X && L Y && F Z) (or_left (F X && L Y && L Z) (L X && F Y && L Z) (and_both (F X && L Y) (L Z) (and_both (F X) (L Y) (eq-eqb _ _ (h X)) (eq-eqb _ _ (h Y))) (eq-eqb _ _ (h Z))))
-    go Y h = or_left ((F X && L Y && L Z) || (L X && F Y && L Z)) (L X && L Y && F Z) (or_right (F X && L Y && L Z) (L X && F Y && L Z) (and_both (L X && F Y) (L Z) (and_both (L X) (F Y) (eq-eqb _ _ (h X)) (eq-eqb _ _ (h Y))) (eq-eqb _ _ (h Z))))
-    go Z h = or_right ((F X && L Y && L Z) || (L X && F Y && L Z)) (L X && L Y && F Z) (and_both (L X && L Y) (F Z) (and_both (L X) (L Y) (eq-eqb _ _ (h X)) (eq-eqb _ _ (h Y))) (eq-eqb _ _ (h Z)))
+    go X h = or_on_left ((F X && L Y && L Z) || (L X && F Y && L Z)) (L X && L Y && F Z) (or_on_left (F X && L Y && L Z) (L X && F Y && L Z) (and_both (F X && L Y) (L Z) (and_both (F X) (L Y) (eq-eqb _ _ (h X)) (eq-eqb _ _ (h Y))) (eq-eqb _ _ (h Z))))
+    go Y h = or_on_left ((F X && L Y && L Z) || (L X && F Y && L Z)) (L X && L Y && F Z) (or_on_right (F X && L Y && L Z) (L X && F Y && L Z) (and_both (L X && F Y) (L Z) (and_both (L X) (F Y) (eq-eqb _ _ (h X)) (eq-eqb _ _ (h Y))) (eq-eqb _ _ (h Z))))
+    go Z h = or_on_right ((F X && L Y && L Z) || (L X && F Y && L Z)) (L X && L Y && F Z) (and_both (L X && L Y) (F Z) (and_both (L X) (L Y) (eq-eqb _ _ (h X)) (eq-eqb _ _ (h Y))) (eq-eqb _ _ (h Z)))
 
 module _ (k : Cutting) (good : good_cut k ≡ true) (t : ℕ) where
   -- on each axis, the intervals of a block at a place span the cell's coordinate

@@ -2,7 +2,10 @@
 -- Assumes nothing.
 use Rattle.std.specs.Prelude.{Bool, false, ◌&&◌, ◌||◌, List, [], ◌∷◌, ℕ, suc, ◌+◌, ◌-◌, ◌*◌, ◌≤◌, max, leb, ltb, eqb, get_or, length}
 use Rattle.lists.specs.Lists.{tabulate}
-use Rattle.cells.specs.Box.{Triple, Axis, X, Y, Z, coord, each, volume, index, place}
+use Rattle.cells.specs.Box.{coord, each, volume, index, place}
+use Rattle.cells.specs.declared.Axis.{Axis}
+use Rattle.cells.specs.declared.Axis.TheVariants.{X, Y, Z}
+use Rattle.cells.specs.declared.Triple.{Triple}
 use Rattle.cells.specs.Grid.{sides}
 
 -- What an opening states of the cutting: the volume's extents and a cut list for each axis.

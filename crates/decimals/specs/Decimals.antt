@@ -1,4 +1,4 @@
--- Numbers in decimal digits, as bytes in ASCII: those of the listing (document 01) and of a printed layer (document 02, item 2).
+-- Numbers in decimal digits, as bytes in ASCII: those of the listing and of a printed layer.
 -- Assumes nothing.
 use Rattle.std.specs.Prelude.{Bool, cond, ◌&&◌, List, [], ◌∷◌, ◌++◌, ℕ, zero, suc, ◌+◌, ◌/◌, ◌%◌, leb, ltb}
 

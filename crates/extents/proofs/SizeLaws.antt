@@ -7,7 +7,7 @@ use lib.Dec.{leb}
 use native.Mathlib.Omega.{arith}
 use borrow.Author.Tests.{leb-true, le-leb, not-false}
 use Rattle.lists.proofs.Cases.{and_first, and_second, neither}
-use Rattle.cells.specs.Box.{Triple}
+use Rattle.cells.specs.declared.Triple.{Triple}
 use Rattle.cells.specs.Extents.{Sized, is_extent, off_size, off_place}
 
 module _ (limit n : ℕ) (t : is_extent limit n ≡ true) where

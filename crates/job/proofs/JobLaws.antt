@@ -1,26 +1,20 @@
 -- Tests in the order of the code, the lengths of tables, and the job of a refused opening.
 -- Assumes nothing.
 use mathlib.Core.Path.{◌≡◌, refl, sym}
-use mathlib.Core.Bool.{Bool, false, ◌&&◌, and_assoc}
+use mathlib.Core.Bool.{◌&&◌, and_assoc}
 use mathlib.Core.List.{List, [], ◌∷◌, ◌++◌}
 use Prim.Native.Nat.{ℕ, ◌*◌, ◌^◌, ◌≤◌, ◌<◌}
 use native.Mathlib.Nat.{mul-le-mul}
 use native.Mathlib.Omega.{arith}
-use lib.Dec.{eqb, leb}
-use borrow.Author.Tests.{eq-eqb, ne_eqb, le-leb, lt-leb}
-use Rattle.joiner.specs.Job.{Kind, Face, Curve, Point, Tray, lengths_fit}
+use lib.Dec.{eqb}
+use Rattle.joiner.specs.Job.{Kind, Face, Curve, Point, Tray, lengths_fit, same_stage}
 use Rattle.joiner.specs.Outcomes.{Fresh, nothing}
+use Rattle.job.specs.declared.Stage.{Stage}
 use Rattle.job.specs.declared.Job.{Job}
-use Rattle.job.specs.JobState.{by_kind, job_of, fresh_job, NoJob}
+use Rattle.job.specs.JobState.{by_kind, stage_of, job_of, no_counts, fresh_job, NoJob}
+use Rattle.counts.specs.declared.Counts.{Counts}
 
 -- ---- the lengths of tables
-
-module _ (has states : ℕ) (ok : Bool) where
-  pub also_same : has ≡ states → ok ≡ (eqb has states && ok)
-  also_same e = rw (eq-eqb has states e)
-
-  pub also_other : (has ≡ states → ⊥) → false ≡ (eqb has states && ok)
-  also_other n = rw (ne_eqb has states n)
 
 pub fits_append : (a b : List Tray) → lengths_fit (a ++ b) ≡ (lengths_fit a && lengths_fit b)
 unfolding lengths_fit
@@ -30,15 +24,6 @@ fits_append (t ∷ a) b = rw (fits_append a b) (sym (and_assoc (eqb t.has t.stat
 pub places_high : (w n : ℕ) → w < 256 → n < 2 ^ 32 → w * n ≤ 255 * 4294967295
 places_high w n h k = mul-le-mul {n₂ = 255} {m₂ = 4294967295} (omega arith) (omega arith)
 
--- ---- tallies
-
-module _ (entries tally more : ℕ) where
-  pub tally_within : tally ≤ entries → leb more entries ≡ (leb tally entries && leb more entries)
-  tally_within h = rw (le-leb tally entries h)
-
-  pub tally_beyond : entries < tally → false ≡ (leb tally entries && leb more entries)
-  tally_beyond h = rw (lt-leb tally entries h)
-
 -- ---- the job of a refused opening
 
 none_of : (κ : Kind) → ◌≡◌ {A = ℕ} (by_kind 0 0 0 κ) 0
@@ -47,10 +32,41 @@ none_of Curve = refl
 none_of Point = refl
 
 -- a job that was just opened
-pub fresh_of : (nx ny nz faces curves points : ℕ) (cx cy cz : List ℕ) → Fresh (job_of (fresh_job nx ny nz faces curves points) cx cy cz)
-fresh_of nx ny nz faces curves points cx cy cz = record { stage = refl; sofar = none_of; numbered = none_of }
+pub fresh_of : (nx ny nz : ℕ) (n : Counts) (cx cy cz : List ℕ) → Fresh (job_of (fresh_job nx ny nz n) cx cy cz)
+fresh_of nx ny nz n cx cy cz = record { stage = refl; sofar = none_of; numbered = none_of }
 
-pub empty_of : (r : Job) → r ≡ fresh_job 0 0 0 0 0 0 → NoJob r
+pub empty_of : (r : Job) → r ≡ fresh_job 0 0 0 no_counts → NoJob r
 unfolding nothing
 empty_of r e o t =
     rw e (record { extents = refl; entries = none_of; fresh = record { stage = refl; sofar = none_of; numbered = none_of }; tables = refl })
+
+-- ---- stages
+
+-- Whether two stages are one, as the derived equality tells it.
+pub same_derived : (a b : Stage) → denote.Enum.Bare.sameb Rattle.job.specs.contracts.Stage.the_type a b ≡ same_stage (stage_of a) (stage_of b)
+unfolding same_stage
+same_derived Stage.Enrol Stage.Enrol = refl
+same_derived Stage.Enrol Stage.Seam = refl
+same_derived Stage.Enrol Stage.Crossing = refl
+same_derived Stage.Enrol Stage.Points = refl
+same_derived Stage.Enrol Stage.Closed = refl
+same_derived Stage.Seam Stage.Enrol = refl
+same_derived Stage.Seam Stage.Seam = refl
+same_derived Stage.Seam Stage.Crossing = refl
+same_derived Stage.Seam Stage.Points = refl
+same_derived Stage.Seam Stage.Closed = refl
+same_derived Stage.Crossing Stage.Enrol = refl
+same_derived Stage.Crossing Stage.Seam = refl
+same_derived Stage.Crossing Stage.Crossing = refl
+same_derived Stage.Crossing Stage.Points = refl
+same_derived Stage.Crossing Stage.Closed = refl
+same_derived Stage.Points Stage.Enrol = refl
+same_derived Stage.Points Stage.Seam = refl
+same_derived Stage.Points Stage.Crossing = refl
+same_derived Stage.Points Stage.Points = refl
+same_derived Stage.Points Stage.Closed = refl
+same_derived Stage.Closed Stage.Enrol = refl
+same_derived Stage.Closed Stage.Seam = refl
+same_derived Stage.Closed Stage.Crossing = refl
+same_derived Stage.Closed Stage.Points = refl
+same_derived Stage.Closed Stage.Closed = refl

@@ -1,12 +1,15 @@
 -- The job that the code holds, and the tables that it is lent, as the joiner's definitions see them.
 -- Assumes nothing.
-use Rattle.std.specs.Prelude.{List, [], ◌∷◌, ℕ, ◌*◌}
+use Rattle.std.specs.Prelude.{List, [], ◌∷◌, ℕ, ◌*◌, Result, Ok, Err}
 use Rattle.cells.specs.Box.{triple}
 use Rattle.joiner.specs.Job.{Kind, Face, Curve, Point, Told, Tables, State, Tray, tray, numbers_per_block, ticks_per_block}
 use Rattle.joiner.specs.Job as joiner
 use Rattle.joiner.specs.Outcomes.{Unopened}
+use Rattle.blocks.specs.declared.Cuts.{Cuts}
 use Rattle.job.specs.declared.Stage.{Stage}
 use Rattle.job.specs.declared.Job.{Job}
+use Rattle.refusals.specs.declared.Refusal.{Refusal}
+use Rattle.counts.specs.declared.Counts.{Counts}
 
 -- One of three by kind.
 abbrev pub by_kind {ℓ} : {A : Type ℓ} → A → A → A → Kind → A
@@ -29,15 +32,15 @@ told_by nx ny nz cx cy cz faces curves points =
 
 -- The job holds extents and entries, the cut lists are lent.
 abbrev pub told_of : Job → List ℕ → List ℕ → List ℕ → Told
-told_of j cx cy cz = told_by j.nx j.ny j.nz cx cy cz j.face_entries j.curve_entries j.point_entries
+told_of j cx cy cz = told_by j.nx j.ny j.nz cx cy cz j.entries.faces j.entries.curves j.entries.points
 
 -- The tally of what stands in the tables so far, by kind.
 abbrev pub sofar_tally : Job → Kind → ℕ
-sofar_tally j = by_kind j.faces j.curves j.points
+sofar_tally j = by_kind j.sofar.faces j.sofar.curves j.sofar.points
 
 -- The tally of what is numbered, by kind.
 abbrev pub numbered_tally : Job → Kind → ℕ
-numbered_tally j = by_kind j.numbered_faces j.numbered_curves j.numbered_points
+numbered_tally j = by_kind j.numbered.faces j.numbered.curves j.numbered.points
 
 -- Stage and tallies.
 abbrev pub job_of : Job → List ℕ → List ℕ → List ℕ → joiner.Job
@@ -71,24 +74,20 @@ tables_of ticks blocks face_links curve_links face_keys curve_keys point_keys fa
 abbrev pub state_of : Job → List ℕ → List ℕ → List ℕ → Tables → State
 state_of j cx cy cz t = record { job = job_of j cx cy cz; tables = t }
 
+-- No faces, no curves, no points.
+abbrev pub no_counts : Counts
+no_counts = record { faces = 0; curves = 0; points = 0 }
+
+-- .. with lent cut lists.
+abbrev pub job_by : Job → Cuts → joiner.Job
+job_by j c = job_of j c.x.now c.y.now c.z.now
+
+abbrev pub state_by : Job → Cuts → Tables → State
+state_by j c t = state_of j c.x.now c.y.now c.z.now t
+
 -- A job in the first stage, told these extents and entries.
-abbrev pub fresh_job : ℕ → ℕ → ℕ → ℕ → ℕ → ℕ → Job
-fresh_job nx ny nz faces curves points =
-    record {
-      stage = Stage.Enrol;
-      nx = nx;
-      ny = ny;
-      nz = nz;
-      face_entries = faces;
-      curve_entries = curves;
-      point_entries = points;
-      faces = 0;
-      curves = 0;
-      points = 0;
-      numbered_faces = 0;
-      numbered_curves = 0;
-      numbered_points = 0;
-    }
+abbrev pub fresh_job : ℕ → ℕ → ℕ → Counts → Job
+fresh_job nx ny nz n = record { stage = Stage.Enrol; nx = nx; ny = ny; nz = nz; entries = n; sofar = no_counts; numbered = no_counts }
 
 -- The job of a refused opening, whatever it was told and lent: "every other field 0 or empty".
 abbrev pub NoJob : Job → Type 0
@@ -115,3 +114,8 @@ kind_lengths w n keys rows numbers firsts listed = tray keys n ∷ tray rows (w 
 -- The tables of the readings, of b blocks and so many faces.
 abbrev pub total_lengths : ℕ → ℕ → ℕ → ℕ → ℕ → List Tray
 total_lengths b faces came sums counts = tray came b ∷ tray sums (2 * faces) ∷ tray counts (6 * faces) ∷ []
+
+-- The job after a call that hands one on: where it is refused, the job before.
+abbrev pub job_after : Job → Result Job Refusal → Job
+job_after j (Ok k) = k
+job_after j (Err r) = j

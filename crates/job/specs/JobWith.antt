@@ -12,13 +12,7 @@ job_with j stage sofar numbered =
       nx = j.nx;
       ny = j.ny;
       nz = j.nz;
-      face_entries = j.face_entries;
-      curve_entries = j.curve_entries;
-      point_entries = j.point_entries;
-      faces = sofar Face;
-      curves = sofar Curve;
-      points = sofar Point;
-      numbered_faces = numbered Face;
-      numbered_curves = numbered Curve;
-      numbered_points = numbered Point;
+      entries = j.entries;
+      sofar = record { faces = sofar Face; curves = sofar Curve; points = sofar Point };
+      numbered = record { faces = numbered Face; curves = numbered Curve; points = numbered Point };
     }

@@ -2,33 +2,29 @@
 #![tactic(auto)]
 
 ghost use Rattle.std.specs.Prelude.{◌≡◌};
-ghost use Rattle.job_numbers.specs.Numbers.{stage_in, job_in, numbers_of, kept_numbers};
+ghost use Rattle.job_numbers.specs.Numbers.{stage_in, job_in, numbers_of, KeptAfter};
 
-use job::{Job, Stage, stage_number};
+use counts::Counts;
+use job::{Job, Stage};
+use refusals::Refusal;
 
 // The stage with this number, `other` where there is none.
+#[tactic(auto, unfolding(crate::specs::Numbers::stage_in))]
 fn stage_in(number: u32, other: Stage) -> Stage
     ensures { result ≡ stage_in number other }
 {
-    if number == 0 {
-        return Stage::Enrol;
+    match number {
+        0 => Stage::Enrol,
+        1 => Stage::Seam,
+        2 => Stage::Crossing,
+        3 => Stage::Points,
+        4 => Stage::Closed,
+        _ => other,
     }
-    if number == 1 {
-        return Stage::Seam;
-    }
-    if number == 2 {
-        return Stage::Crossing;
-    }
-    if number == 3 {
-        return Stage::Points;
-    }
-    if number == 4 {
-        return Stage::Closed;
-    }
-    other
 }
 
 // The job that the numbers tell. A number that is no stage is read as `other`.
+#[tactic(auto, unfolding(crate::specs::Numbers::job_in))]
 pub fn job_in(numbers: &[u32; 13], other: Stage) -> Job
     ensures { result ≡ job_in numbers.now other }
 {
@@ -37,45 +33,52 @@ pub fn job_in(numbers: &[u32; 13], other: Stage) -> Job
         nx: numbers[1],
         ny: numbers[2],
         nz: numbers[3],
-        face_entries: numbers[4],
-        curve_entries: numbers[5],
-        point_entries: numbers[6],
-        faces: numbers[7],
-        curves: numbers[8],
-        points: numbers[9],
-        numbered_faces: numbers[10],
-        numbered_curves: numbers[11],
-        numbered_points: numbers[12],
+        entries: Counts {
+            faces: numbers[4],
+            curves: numbers[5],
+            points: numbers[6],
+        },
+        sofar: Counts {
+            faces: numbers[7],
+            curves: numbers[8],
+            points: numbers[9],
+        },
+        numbered: Counts {
+            faces: numbers[10],
+            curves: numbers[11],
+            points: numbers[12],
+        },
     }
 }
 
 // The numbers of a job.
+#[tactic(auto, unfolding(crate::specs::Numbers::numbers_of))]
 pub fn numbers_of(job: Job) -> [u32; 13]
     ensures { result ≡ numbers_of job }
 {
-    let stage = job.stage;
     [
-        stage_number(stage),
+        job.stage.number(),
         job.nx,
         job.ny,
         job.nz,
-        job.face_entries,
-        job.curve_entries,
-        job.point_entries,
-        job.faces,
-        job.curves,
-        job.points,
-        job.numbered_faces,
-        job.numbered_curves,
-        job.numbered_points,
+        job.entries.faces,
+        job.entries.curves,
+        job.entries.points,
+        job.sofar.faces,
+        job.sofar.curves,
+        job.sofar.points,
+        job.numbered.faces,
+        job.numbered.curves,
+        job.numbered.points,
     ]
 }
 
 // Stores the job that a call hands on, unless it was refused.
-pub fn keep(numbers: &mut [u32; 13], refusal: u32, job: Job)
-    ensures { numbers.new ≡ kept_numbers refusal numbers.old job }
+pub fn keep(numbers: &mut [u32; 13], answer: &Result<Job, Refusal>)
+    ensures { KeptAfter numbers.old numbers.new answer.now }
 {
-    if refusal == 0 {
-        *numbers = numbers_of(job);
+    match answer {
+        Ok(job) => *numbers = numbers_of(*job),
+        Err(_) => {}
     }
 }

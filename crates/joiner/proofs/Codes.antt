@@ -11,7 +11,10 @@ use borrow.Author.Tests.{eq-eqb, eqb-true, le-leb, leb-true, lt-ltb, ltb-true, n
 use borrow.Fn.PlainCycle.{is}
 use Rattle.lists.specs.Lists.{consecutive, keep, some_of, tabulate}
 use Rattle.closure.specs.Joined.{edge}
-use Rattle.cells.specs.Box.{Axis, Triple, X, Y, Z, coord, index, place, volume}
+use Rattle.cells.specs.Box.{coord, index, place, volume}
+use Rattle.cells.specs.declared.Axis.{Axis}
+use Rattle.cells.specs.declared.Axis.TheVariants.{X, Y, Z}
+use Rattle.cells.specs.declared.Triple.{Triple}
 use Rattle.cells.specs.Grid.{cells, order, sides, voxel, voxel_cell}
 use Rattle.labels.specs.Numbering.{Numbering}
 use Rattle.cutting.specs.Cutting.{Cutting, block_codes, block_extents, blocks, cuts, embed, good_cut, interval, origin, seam}

@@ -13,7 +13,7 @@ use lib.ListN.{get_or, length, length-set}
 use borrow.Author.Tests.{eqb-false, eqb-true, le-leb, leb-true, ltb-false, ltb-true}
 use Rattle.lists.specs.Lists.{overlay}
 use Rattle.closure.specs.Joined.{edge}
-use Rattle.cells.specs.Box.{Triple}
+use Rattle.cells.specs.declared.Triple.{Triple}
 use Rattle.cells.specs.Grid.{order}
 use Rattle.union_find.specs.Links.{parent, root, sound_at}
 use Rattle.labels.specs.Components.{component, first_cell, largest}

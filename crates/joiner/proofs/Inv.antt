@@ -12,8 +12,9 @@ use lib.ListN.{get_or}
 use borrow.Author.Tests.{eqb-true, le-leb, ltb-true, not-false}
 use Rattle.lists.specs.Lists.{consecutive, is_in, some_of}
 use Rattle.closure.specs.Joined.{edge}
-use Rattle.refusals.specs.Refusals.{Refusal, no_such_place, number, stands_in, wrong_stage}
-use Rattle.cells.specs.Box.{Triple}
+use Rattle.refusals.specs.declared.Refusal.{Refusal}
+use Rattle.refusals.specs.Refusals.{number, stands_in}
+use Rattle.cells.specs.declared.Triple.{Triple}
 use Rattle.cells.specs.Extents.{off_size}
 use Rattle.cells.specs.Row.{same_row}
 use Rattle.labels.specs.Components.{component_row, first_cell, largest}
@@ -245,7 +246,7 @@ module _ (o : Told) (own : ℕ → List ℕ) (ext : off_size 1024 o.cutting.exte
     unfolding book_early stands_in number same_stage
     book_passed z =
         let n : (r : Refusal) → stands_in (early_cases B c) r ≡ false = (given_none (stands_in (early_cases B c))).0 z in
-        (eqb-true _ _ (not-false _ (n wrong_stage)), not-false _ (n no_such_place))
+        (eqb-true _ _ (not-false _ (n Refusal.WrongStage)), not-false _ (n Refusal.NoSuchPlace))
 
     -- with any map, 3 to 6 go by the book, and nothing else up to 6 is given
     pub early_agrees : book_early B c ≢ 0 → refusal s c ≡ book_early B c

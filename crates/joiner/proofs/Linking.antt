@@ -16,7 +16,7 @@ use Rattle.cutting.specs.Cutting.{block_extents}
 use Rattle.joiner.specs.Declines.{all_links_stand, curves_stand, handed_stands, links_stand, look_stands, number_stands, ways_stand}
 use Rattle.joiner.specs.Job.{Curve, Face, Kind, State, count_of, from_of, node, order_of}
 use Rattle.labels.proofs.CountLaws.{largest_bound}
-use Rattle.lists.proofs.Cases.{and_both, by_test, or_left, or_right, picked}
+use Rattle.lists.proofs.Cases.{and_both, by_test, or_on_left, or_on_right, picked}
 use Rattle.lists.proofs.Lists.{consecutive_out}
 use Rattle.lists.proofs.Tests.{all_in}
 use Rattle.union_find.proofs.SoundLaws.{at_below, below_ways}
@@ -64,8 +64,8 @@ module _ (s : State) where
   unfolding handed_stands node
   handed_stands_lem b κ n w e h =
       by_test (eqb n 0)
-      (λ t. or_left (eqb n 0) _ t)
-      (λ t. or_right (eqb n 0) _ (number_stands_lem κ w (node s.tables κ b n) (positive (eqb-false n 0 t))))
+      (λ t. or_on_left (eqb n 0) _ t)
+      (λ t. or_on_right (eqb n 0) _ (number_stands_lem κ w (node s.tables κ b n) (positive (eqb-false n 0 t))))
     where
       positive : (n ≡ 0 → ⊥) → node s.tables κ b n < s.job.sofar κ
       positive k = omega arith

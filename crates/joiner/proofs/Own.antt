@@ -8,7 +8,8 @@ use native.Mathlib.Omega.{arith}
 use lib.ListN.{get_or, length}
 use lib.Seq.{ext_get_or}
 use Rattle.lists.specs.Lists.{tabulate}
-use Rattle.cells.specs.Box.{Triple, volume}
+use Rattle.cells.specs.Box.{volume}
+use Rattle.cells.specs.declared.Triple.{Triple}
 use Rattle.cells.specs.Grid.{voxel_cell}
 use Rattle.cells.specs.Row.{same_row}
 use Rattle.labels.specs.Number.{labels}

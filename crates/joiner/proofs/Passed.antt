@@ -9,8 +9,9 @@ use native.Mathlib.Omega.{arith}
 use lib.Dec.{eqb, leb, ltb}
 use lib.ListN.{get_or}
 use borrow.Author.Tests.{eqb-true, eqb-false, leb-true, ltb-false, not-false}
-use Rattle.refusals.specs.Refusals.{Refusal, unfit_size, bad_cut, wrong_stage, no_such_place, done_already, unfit_tray, stray_label, unlike_layers, table_full, number, stands_in}
-use Rattle.cells.specs.Box.{Triple}
+use Rattle.refusals.specs.declared.Refusal.{Refusal}
+use Rattle.refusals.specs.Refusals.{number, stands_in}
+use Rattle.cells.specs.declared.Triple.{Triple}
 use Rattle.cells.specs.Extents.{off_size}
 use Rattle.cells.specs.Grid.{cells, order}
 use Rattle.labels.specs.Components.{largest}
@@ -69,20 +70,20 @@ pub passed : (s : State) (c : Call) → refusal s c ≡ 0 → Passed s c
 unfolding refusal declines stands_in number stray
 passed s c e =
     let n : (r : Refusal) → stands_in (declines s c) r ≡ false = (given_none (stands_in (declines s c))).0 e in
-    let t : (maps_fit s.job.told.cutting c && lengths_fit (lent_to s.job.told s.tables c)) ≡ true = not-false _ (n unfit_tray) in
-    let w : (tallies_fit s.job && stands_for s c) ≡ true = not-false _ (n stray_label) in
+    let t : (maps_fit s.job.told.cutting c && lengths_fit (lent_to s.job.told s.tables c)) ≡ true = not-false _ (n Refusal.WrongTray) in
+    let w : (tallies_fit s.job && stands_for s c) ≡ true = not-false _ (n Refusal.StrayLabel) in
     record {
-      on_size = n unfit_size;
-      cut = not-false _ (n bad_cut);
-      stage = is_stage s.job.stage (stage_of c) (not-false _ (n wrong_stage));
-      placed_in = not-false _ (n no_such_place);
-      fresh = n done_already;
+      on_size = n Refusal.OffSize;
+      cut = not-false _ (n Refusal.BadCut);
+      stage = is_stage s.job.stage (stage_of c) (not-false _ (n Refusal.WrongStage));
+      placed_in = not-false _ (n Refusal.NoSuchPlace);
+      fresh = n Refusal.DoneAlready;
       maps = and_first (maps_fit s.job.told.cutting c) (lengths_fit (lent_to s.job.told s.tables c)) t;
       lent = and_second (maps_fit s.job.told.cutting c) (lengths_fit (lent_to s.job.told s.tables c)) t;
       tallies = and_first (tallies_fit s.job) (stands_for s c) w;
       stands = and_second (tallies_fit s.job) (stands_for s c) w;
-      layers = n unlike_layers;
-      room = n table_full;
+      layers = n Refusal.LayersDiffer;
+      room = n Refusal.TableFull;
     }
 
 -- ---- lengths

@@ -17,7 +17,7 @@ use Rattle.lists.specs.Lists.{consecutive, keep}
 use Rattle.cells.specs.Row.{once}
 use Rattle.joiner.specs.Outcomes.{class_of, head_of, heads, is_one, leads, not_after, rank}
 use Rattle.joiner.specs.Job.{Kind, Tables, first_at}
-use Rattle.lists.proofs.Cases.{and_both, and_first, and_second, by_test, or_either, or_left, or_right}
+use Rattle.lists.proofs.Cases.{and_both, and_first, and_second, by_test, or_either, or_on_left, or_on_right}
 use Rattle.lists.proofs.Lists.{Ascends, ascends_consecutive, ascends_keep, ascends_le, consecutive_in, consecutive_out, keep_in, keep_out}
 use Rattle.lists.proofs.Tests.{all_in, all_out, first_in_lem, implied, implies, keep_all, keep_same}
 use Rattle.joiner.proofs.Keys.{positions_le, positions_less}
@@ -40,8 +40,8 @@ module _ (t : Tables) (κ : Kind) where
 
   lex_in : (x y : ℕ) → Sooner x y → not_after t κ x y ≡ true
   unfolding not_after Q
-  lex_in x y (earlier h) = or_left (ltb (Q x) (Q y)) _ (lt-ltb _ _ h)
-  lex_in x y (level q h) = or_right (ltb (Q x) (Q y)) _ (and_both (eqb (Q x) (Q y)) (leb x y) (eq-eqb _ _ q) (le-leb _ _ h))
+  lex_in x y (earlier h) = or_on_left (ltb (Q x) (Q y)) _ (lt-ltb _ _ h)
+  lex_in x y (level q h) = or_on_right (ltb (Q x) (Q y)) _ (and_both (eqb (Q x) (Q y)) (leb x y) (eq-eqb _ _ q) (le-leb _ _ h))
 
   lex_trans : (x y z : ℕ) → Sooner x y → Sooner y z → Sooner x z
   lex_trans x y z (earlier a) (earlier b) = earlier (omega arith)

@@ -11,7 +11,8 @@ use lib.Dec.{eqb, ltb}
 use lib.ListN.{drop, get_or, length, length-drop, length-take, take}
 use lib.Seq.{ext_get_or, get_or-drop, get_or-take}
 use borrow.Author.Tests.{eq-eqb, eqb-false, eqb-true, lt-ltb, ltb-false, ltb-true}
-use Rattle.cells.specs.Box.{Triple, index}
+use Rattle.cells.specs.Box.{index}
+use Rattle.cells.specs.declared.Triple.{Triple}
 use Rattle.cells.specs.Grid.{cells, order, sides}
 use Rattle.cells.specs.Row.{active, pad_to}
 use Rattle.labels.specs.Components.{component_row, first_cell, largest}

@@ -7,7 +7,7 @@ use Prim.Native.Nat.{◌<◌, ◌≤◌, max, suc, zero, ℕ}
 use native.Mathlib.Omega.{arith}
 use lib.ListN.{get_or}
 use Rattle.lists.specs.Lists.{keep}
-use Rattle.cells.specs.Box.{Triple}
+use Rattle.cells.specs.declared.Triple.{Triple}
 use Rattle.cells.specs.Grid.{cells, order, upper_neighbours}
 use Rattle.cells.specs.Row.{insert_ascending, once, pad_to, row, row_of, sort_ascending}
 use Rattle.labels.specs.Components.{component, component_row, largest, row_at_first}

@@ -11,7 +11,7 @@ use lib.Dec.{eqb}
 use lib.ListN.{get_or, length, length-map}
 use borrow.Author.Tests.{eq-eqb, eqb-false, eqb-true, ne_eqb}
 use Rattle.lists.specs.Lists.{consecutive, keep, tabulate}
-use Rattle.cells.specs.Box.{Triple}
+use Rattle.cells.specs.declared.Triple.{Triple}
 use Rattle.cells.specs.Grid.{cells, order, upper_neighbours}
 use Rattle.cells.specs.Row.{occurrences, once, pad_to, row, row_of, sort_ascending}
 use Rattle.labels.specs.Components.{component, component_row, first_cell, largest, row_at_first}

@@ -11,7 +11,9 @@ use lib.Dec.{eqb, ltb}
 use borrow.Author.Tests.{eqb-true}
 use Rattle.lists.specs.Lists.{consecutive}
 use Rattle.closure.specs.Joined.{edge}
-use Rattle.cells.specs.Box.{Axis, X, Y, Z, coord, index, place}
+use Rattle.cells.specs.Box.{coord, index, place}
+use Rattle.cells.specs.declared.Axis.{Axis}
+use Rattle.cells.specs.declared.Axis.TheVariants.{X, Y, Z}
 use Rattle.cutting.specs.Cutting.{Cutting, block_sides, blocks, follows, interval, same_interval, seam}
 use Rattle.joiner.specs.Job.{Seam}
 use Rattle.joiner.specs.Stages.{products, seam_axis, seam_step, seams, steps_of}

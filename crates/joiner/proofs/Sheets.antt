@@ -8,7 +8,8 @@ use native.Mathlib.Omega.{arith}
 use lib.ListN.{get_or, length, take}
 use lib.Seq.{ext_get_or}
 use Rattle.lists.specs.Lists.{tabulate}
-use Rattle.cells.specs.Box.{Triple, index, place, volume}
+use Rattle.cells.specs.Box.{index, place, volume}
+use Rattle.cells.specs.declared.Triple.{Triple}
 use Rattle.cells.specs.Extents.{off_size}
 use Rattle.cells.specs.Grid.{cells, order, sides, voxel_cell}
 use Rattle.labels.specs.Components.{component_row, first_cell, largest}

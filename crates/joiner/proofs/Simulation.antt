@@ -12,7 +12,8 @@ use lib.ListN.{get_or, length, take}
 use borrow.Author.Tests.{eq-eqb, eqb-false, eqb-true, leb-true, ltb-true}
 use Rattle.lists.specs.Lists.{is_in, tabulate}
 use Rattle.closure.specs.Joined.{edge}
-use Rattle.cells.specs.Box.{Triple, X}
+use Rattle.cells.specs.declared.Axis.TheVariants.{X}
+use Rattle.cells.specs.declared.Triple.{Triple}
 use Rattle.cells.specs.Extents.{off_size}
 use Rattle.cells.specs.Grid.{cells}
 use Rattle.cells.specs.Row.{same_row}
@@ -101,13 +102,13 @@ module _ (o : Told) (own : ℕ → List ℕ) (ext : off_size 1024 o.cutting.exte
     unfolding uncut_count
     total_at_lem q κ = (closed_uncut B s S q κ).total
 
-    places : (c : Call) → stage_number B.stage ≡ stage_number (stage_of c) → placed o.cutting s.job.numbered c ≡ placed o.cutting (uncut_count B) c
-    places (enrol b m) h = refl
-    places (join b c m n) h = refl
-    places (cross b m) h = refl
-    places (point b m) h = refl
-    places (look b m c) h = refl
-    places (reading κ n) h = ap (λ (x : ℕ). ltb 0 n && leb n x) (total_at_lem h κ)
+    placed_alike : (c : Call) → stage_number B.stage ≡ stage_number (stage_of c) → placed o.cutting s.job.numbered c ≡ placed o.cutting (uncut_count B) c
+    placed_alike (enrol b m) h = refl
+    placed_alike (join b c m n) h = refl
+    placed_alike (cross b m) h = refl
+    placed_alike (point b m) h = refl
+    placed_alike (look b m c) h = refl
+    placed_alike (reading κ n) h = ap (λ (x : ℕ). ltb 0 n && leb n x) (total_at_lem h κ)
 
     -- after the crossings every block is enrolled
     pub enrolled_block : stage_number Points ≤ stage_number B.stage → (b : ℕ) → b < blocks o.cutting → Enrolled s b Face × Enrolled s b Curve
@@ -175,11 +176,11 @@ module _ (o : Told) (own : ℕ → List ℕ) (ext : off_size 1024 o.cutting.exte
     brought c e = by_test (eqb (book_early B c) 0) (λ t. late (eqb-true _ _ t)) (λ t. early (eqb-false _ _ t))
       where
         early : book_early B c ≢ 0 → refusal s c ≡ book_refusal B c
-        early n = early_agrees o own ext good lab B s I c (places c) n ∙ sym (book_early_lem o own ext good lab B s I c (places c) n)
+        early n = early_agrees o own ext good lab B s I c (placed_alike c) n ∙ sym (book_early_lem o own ext good lab B s I c (placed_alike c) n)
 
         late : book_early B c ≡ 0 → refusal s c ≡ book_refusal B c
         late z =
-            let w = book_passed o own ext good lab B s I c (places c) z in
+            let w = book_passed o own ext good lab B s I c (placed_alike c) z in
             own_refused c (brings c (uncut_count B) w.0 (ap (λ (y : Told). placed y.cutting (uncut_count B) c) (sym I.btold) ∙ w.1) e)
 
     -- ---- an accepted step keeps all
@@ -421,11 +422,11 @@ module _ (o : Told) (own : ℕ → List ℕ) (ext : off_size 1024 o.cutting.exte
           record {
             agrees =
                 record {
-                  no_stray = λ w z. book_stray o own ext good lab B s I e.call (places e.call) (sym (P.told ∙ brought e.call w) ∙ z);
+                  no_stray = λ w z. book_stray o own ext good lab B s I e.call (placed_alike e.call) (sym (P.told ∙ brought e.call w) ∙ z);
                   brought = λ w. P.told ∙ brought e.call w;
                   refused = λ w. P.told ∙ own_refused e.call w;
-                  early = λ n. P.told ∙ early_agrees o own ext good lab B s I e.call (places e.call) n;
-                  early_only = λ h k. P.told ∙ early_only o own ext good lab B s I e.call (places e.call) (omega (arith, h, P.told)) (omega (arith, k, P.told));
+                  early = λ n. P.told ∙ early_agrees o own ext good lab B s I e.call (placed_alike e.call) n;
+                  early_only = λ h k. P.told ∙ early_only o own ext good lab B s I e.call (placed_alike e.call) (omega (arith, h, P.told)) (omega (arith, k, P.told));
                   judged = ((λ z. taken (sym P.told ∙ z)), (λ t. P.told ∙ taken_back t));
                   answered = a;
                   closed = closed_so (turned B e.call) e.after T;

@@ -11,7 +11,8 @@ use lib.ListN.{get_or, length}
 use borrow.Author.Tests.{not-false}
 use Rattle.lists.specs.Lists.{is_in}
 use Rattle.lists.proofs.Lists.{length-zeros, zeros_at}
-use Rattle.refusals.specs.Refusals.{Refusal, bad_cut, number, unfit_size, stands_in, unfit_tray}
+use Rattle.refusals.specs.declared.Refusal.{Refusal}
+use Rattle.refusals.specs.Refusals.{number, stands_in}
 use Rattle.cells.specs.Extents.{off_size}
 use Rattle.cutting.specs.Cutting.{block_extents, blocks, good_cut}
 use Rattle.joiner.specs.Book.{begun}
@@ -29,7 +30,7 @@ pub opened_passed : (o : Told) (lent : Tables) → open_refusal o lent ≡ 0 →
 unfolding open_refusal open_declines stands_in number
 opened_passed o lent r =
     let n : (z : Refusal) → stands_in (open_declines o lent) z ≡ false = (given_none (stands_in (open_declines o lent))).0 r in
-    (n unfit_size, not-false _ (n bad_cut), not-false _ (n unfit_tray))
+    (n Refusal.OffSize, not-false _ (n Refusal.BadCut), not-false _ (n Refusal.WrongTray))
 
 -- the book and the service at the start
 module _ (o : Told) (lent : Tables) (s : State) (own : ℕ → List ℕ) (P : Opened o lent s) where

@@ -2,9 +2,11 @@
 -- Assumes nothing.
 use Rattle.std.specs.Prelude.{Bool, true, not, cond, ◌&&◌, List, [], ◌∷◌, ◌++◌, ℕ, ◌+◌, eqb, get_or, length}
 use Rattle.lists.specs.Lists.{tabulate, keep, is_in}
-use Rattle.refusals.specs.Refusals.{wrong_stage, no_such_place, done_already, unfit_tray, unlike_layers, table_full, Case, ◌if◌, given_refusal}
+use Rattle.refusals.specs.declared.Refusal.{Refusal}
+use Rattle.refusals.specs.Refusals.{Case, ◌if◌, given_refusal}
 use Rattle.closure.specs.Joined.{edge}
-use Rattle.cells.specs.Box.{Triple, volume, index}
+use Rattle.cells.specs.Box.{volume, index}
+use Rattle.cells.specs.declared.Triple.{Triple}
 use Rattle.cells.specs.Grid.{sides, voxel_cell}
 use Rattle.cells.specs.Row.{active, pad_to, same_row}
 use Rattle.labels.specs.Number.{labels}
@@ -52,10 +54,10 @@ book_adds B (reading κ' n) κ = 0
 -- block's cells": these "still go by the book", whatever map is brought.
 abbrev pub early_cases : Book → Call → List Case
 early_cases B c =
-    wrong_stage if not (same_stage B.stage (stage_of c)) ∷
-    no_such_place if not (placed B.told.cutting (uncut_count B) c) ∷
-    done_already if repeated B.told.cutting (is_in B.done) c ∷
-    unfit_tray if not (maps_fit B.told.cutting c) ∷
+    Refusal.WrongStage if not (same_stage B.stage (stage_of c)) ∷
+    Refusal.NoSuchPlace if not (placed B.told.cutting (uncut_count B) c) ∷
+    Refusal.DoneAlready if repeated B.told.cutting (is_in B.done) c ∷
+    Refusal.WrongTray if not (maps_fit B.told.cutting c) ∷
     []
 
 -- .. "and 9 ..; 10 .. if faces or curves so far plus the map's largest number of that order pass the table's entries, at a point step if points so
@@ -63,7 +65,7 @@ early_cases B c =
 unfoldable pub book_declines : Book → Call → List Case
 book_declines B c =
     early_cases B c ++
-    (unlike_layers if layers_differ B.told.cutting c ∷ table_full if full B.told.entries B.sofar (book_adds B c) ∷ [])
+    (Refusal.LayersDiffer if layers_differ B.told.cutting c ∷ Refusal.TableFull if full B.told.entries B.sofar (book_adds B c) ∷ [])
 
 -- "The lowest case that stands refuses a call."
 unfoldable pub book_refusal : Book → Call → ℕ

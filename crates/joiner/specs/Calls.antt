@@ -3,7 +3,7 @@
 use Rattle.std.specs.Prelude.{Bool, true, false, not, cond, ◌&&◌, ◌||◌, List, ℕ, ◌+◌, eqb, leb, ltb, get_or, length}
 use Rattle.lists.specs.Lists.{some_of}
 use Rattle.closure.specs.Joined.{Edge, edge}
-use Rattle.cells.specs.Box.{Triple}
+use Rattle.cells.specs.declared.Triple.{Triple}
 use Rattle.cells.specs.Grid.{cells, order}
 use Rattle.cutting.specs.Cutting.{Cutting, blocks, block_extents, seam}
 use Rattle.joiner.specs.Job.{Kind, Face, Curve, Point, Stage, Enrol, Seam, Crossing, Points, Closed}

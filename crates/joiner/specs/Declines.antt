@@ -2,9 +2,10 @@
 -- Assumes nothing.
 use Rattle.std.specs.Prelude.{Bool, true, not, cond, ◌&&◌, ◌||◌, List, [], ◌∷◌, ◌++◌, map, ℕ, ◌+◌, ◌*◌, eqb, leb, ltb, get_or, length}
 use Rattle.lists.specs.Lists.{consecutive, keep, all_of}
-use Rattle.refusals.specs.Refusals.{unfit_size, bad_cut, wrong_stage, no_such_place, done_already, unfit_tray, stray_label, unlike_layers, table_full, Case, ◌if◌, given_refusal}
+use Rattle.refusals.specs.declared.Refusal.{Refusal}
+use Rattle.refusals.specs.Refusals.{Case, ◌if◌, given_refusal}
 use Rattle.union_find.specs.Links.{sound_below, sound_ways}
-use Rattle.cells.specs.Box.{Triple}
+use Rattle.cells.specs.declared.Triple.{Triple}
 use Rattle.cells.specs.Extents.{off_size}
 use Rattle.cells.specs.Grid.{order, upper_neighbours}
 use Rattle.cells.specs.Row.{row_of, occupied}
@@ -144,15 +145,15 @@ cut_for s (reading κ n) = true
 -- The cases of a step or a reading. Of these a call gives 5 only if it is a step, 9 only if it is a seam's, and 10 only if it adds components.
 unfoldable pub declines : State → Call → List Case
 declines s c =
-    unfit_size if off_size 1024 s.job.told.cutting.extents ∷
-    bad_cut if not (cut_for s c) ∷
-    wrong_stage if not (same_stage s.job.stage (stage_of c)) ∷
-    no_such_place if not (placed s.job.told.cutting s.job.numbered c) ∷
-    done_already if repeated s.job.told.cutting (ticked s.tables) c ∷
-    unfit_tray if not (maps_fit s.job.told.cutting c && lengths_fit (lent_to s.job.told s.tables c)) ∷
-    stray_label if stray s c ∷
-    unlike_layers if layers_differ s.job.told.cutting c ∷
-    table_full if full s.job.told.entries s.job.sofar (adds s c) ∷
+    Refusal.OffSize if off_size 1024 s.job.told.cutting.extents ∷
+    Refusal.BadCut if not (cut_for s c) ∷
+    Refusal.WrongStage if not (same_stage s.job.stage (stage_of c)) ∷
+    Refusal.NoSuchPlace if not (placed s.job.told.cutting s.job.numbered c) ∷
+    Refusal.DoneAlready if repeated s.job.told.cutting (ticked s.tables) c ∷
+    Refusal.WrongTray if not (maps_fit s.job.told.cutting c && lengths_fit (lent_to s.job.told s.tables c)) ∷
+    Refusal.StrayLabel if stray s c ∷
+    Refusal.LayersDiffer if layers_differ s.job.told.cutting c ∷
+    Refusal.TableFull if full s.job.told.entries s.job.sofar (adds s c) ∷
     []
 
 -- The number with which a call is refused, 0 where it is accepted.

@@ -4,10 +4,12 @@
 use Rattle.std.specs.Prelude.{◌≡◌, ◌↔◌, ◌≢◌, Bool, true, not, cond, ◌&&◌, ◌||◌, ℕ, zero, suc, ◌+◌, ◌-◌, ◌*◌, ◌/◌, ◌%◌, eqb, leb, ltb, get_or, length, set, take, drop}
 use mathlib.Core.List.{List, [], ◌∷◌, ◌++◌, map, Memᴰ}
 use Rattle.lists.specs.Lists.{consecutive, tabulate, keep, zeros, all_of, overlay}
-use Rattle.refusals.specs.Refusals.{unfit_size, bad_cut, unfit_tray, Case, ◌if◌, given_refusal}
+use Rattle.refusals.specs.declared.Refusal.{Refusal}
+use Rattle.refusals.specs.Refusals.{Case, ◌if◌, given_refusal}
 use Rattle.closure.specs.Joined.{Edge, edge}
 use Rattle.union_find.specs.Links.{root, sound_at, Rooted}
-use Rattle.cells.specs.Box.{Triple, triple, index}
+use Rattle.cells.specs.Box.{triple, index}
+use Rattle.cells.specs.declared.Triple.{Triple}
 use Rattle.cells.specs.Extents.{off_size}
 use Rattle.cells.specs.Grid.{sides, order, upper_neighbours}
 use Rattle.cells.specs.Row.{row_of, sort_ascending, pad_to}
@@ -26,7 +28,7 @@ all_trays o t = block_trays o t ++ link_trays o t ++ kind_trays o t Face ++ kind
 
 -- "1 off size", "2 bad cut", "6 wrong tray".
 unfoldable pub open_declines : Told → Tables → List Case
-open_declines o t = unfit_size if off_size 1024 o.cutting.extents ∷ bad_cut if not (good_cut o.cutting) ∷ unfit_tray if not (lengths_fit (all_trays o t)) ∷ []
+open_declines o t = Refusal.OffSize if off_size 1024 o.cutting.extents ∷ Refusal.BadCut if not (good_cut o.cutting) ∷ Refusal.WrongTray if not (lengths_fit (all_trays o t)) ∷ []
 
 -- What is given, 0 for none.
 unfoldable pub open_refusal : Told → Tables → ℕ

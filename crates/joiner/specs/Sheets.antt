@@ -1,7 +1,8 @@
 -- What a result sheet shows of a closed job, for the corollaries of statement 3: the cutting and the order of the calls leave no trace.
 -- Assumes nothing.
 use Rattle.std.specs.Prelude.{◌≡◌, List, [], ◌∷◌, ℕ, ◌*◌, ◌<◌, length, take}
-use Rattle.cells.specs.Box.{Triple, volume}
+use Rattle.cells.specs.Box.{volume}
+use Rattle.cells.specs.declared.Triple.{Triple}
 use Rattle.labels.specs.Number.{labels}
 use Rattle.cutting.specs.Cutting.{blocks, block_extents, block_codes}
 use Rattle.joiner.specs.Job.{Kind, width, Closed, Told, Tables, State}

@@ -3,7 +3,10 @@
 use Rattle.std.specs.Prelude.{Bool, cond, ◌&&◌, List, [], ◌∷◌, ◌++◌, map, ℕ, ◌+◌, ◌-◌, ◌*◌, eqb, leb, ltb, get_or, length}
 use Rattle.lists.specs.Lists.{consecutive, tabulate, keep, all_of}
 use Rattle.closure.specs.Joined.{Edge, edge}
-use Rattle.cells.specs.Box.{Triple, Axis, X, Y, Z, coord, each, volume, index, place}
+use Rattle.cells.specs.Box.{coord, each, volume, index, place}
+use Rattle.cells.specs.declared.Axis.{Axis}
+use Rattle.cells.specs.declared.Axis.TheVariants.{X, Y, Z}
+use Rattle.cells.specs.declared.Triple.{Triple}
 use Rattle.cells.specs.Grid.{sides, cells, voxel_cell}
 use Rattle.cutting.specs.Cutting.{Cutting, blocks, block_extents, origin, embed, follows, seam}
 use Rattle.joiner.specs.Job.{Stage, Enrol, Seam, Crossing, Points, Closed, ticks_per_block}

@@ -7,14 +7,16 @@ use Prim.Native.Nat.{ℕ, ◌+◌, ◌*◌, ◌≤◌, ◌<◌}
 use native.Mathlib.Omega.{arith}
 use lib.Dec.{eqb, leb, ltb}
 use lib.ListN.{get_or, length}
-use borrow.Author.Tests.{eqb-true, eqb-false, ne_eqb, eq-eqb, le-ltb, leb-true, lt-ltb, ltb-true, not-true, not-false}
+use borrow.Author.Tests.{eqb-true, eqb-false, ne_eqb, eq-eqb, le-ltb, leb-true, lt-ltb, ltb-true}
 use Rattle.lists.proofs.Cases.{by_test, and_first, and_second}
+use Rattle.refusals.specs.declared.Refusal.{Refusal}
+use Rattle.refusals.proofs.RefusalLaws.{number_positive}
 use Rattle.refusals.specs.Refusals.{number, table, first, given_by, stands_in}
-use Rattle.cells.specs.Box.{Triple}
+use Rattle.cells.specs.Box.{triple}
+use Rattle.cells.specs.declared.Triple.{Triple}
 use Rattle.cells.specs.Extents.{Sized, off_size}
 use Rattle.cells.specs.Grid.{cells}
 use Rattle.extents.proofs.SizeLaws.{sized_of}
-use Rattle.labels.specs.Components.{largest}
 use Rattle.cutting.specs.Cutting.{Cutting, blocks, block_extents, good_cut, most_blocks, FewBlocks}
 use Rattle.joiner.specs.Job.{Kind, Face, Curve, Point, Told, Tables, State, Tray, same_stage, count_of, from_of, ticked, lengths_fit, block_trays, link_trays, found_trays, number_trays, first_trays, listed_trays, kind_trays, numbers_per_block}
 use Rattle.joiner.specs.Job as joiner
@@ -24,12 +26,11 @@ use Rattle.joiner.specs.Outcomes.{Done, CallStep, all_trays}
 use Rattle.joiner.proofs.Passed.{tally_fits_lem}
 use Rattle.blocks.specs.Blocks.{AnyExtents, size_of, Tells}
 use Rattle.blocks.specs.declared.Block.{Block}
+use Rattle.blocks.specs.declared.Cuts.{Cuts}
 use Rattle.blocks.proofs.BlockLaws.{good_few, told_sized}
 use Rattle.blocks.proofs.CodeLaws.{blocks_are}
-use Rattle.pass_survey.specs.declared.Survey.{Survey}
 use Rattle.job.specs.declared.Job.{Job}
-use Rattle.job.specs.JobState.{AnyCuts, job_of, told_of}
-use Rattle.job.specs.JobState as job
+use Rattle.job.specs.JobState.{AnyCuts, job_of, job_by}
 use Rattle.job.proofs.JobLaws.{fits_append}
 use Rattle.stages.specs.Ticks.{ticked_in}
 use Rattle.judge.specs.declared.CallName.{CallName}
@@ -51,6 +52,13 @@ module _ (x y : ℕ) where
   pub or_none : first_refusal x y ≡ 0 → (x ≡ 0) × (y ≡ 0)
   unfolding first_refusal
   or_none h = by_test (eqb x 0) (λ t. (eqb-true x 0 t, rw t at h)) (λ t. absurd (eqb-false x 0 t (rw t at h)))
+
+-- .. where the first is an answer's
+pub refused_first : (r : Refusal) (x y : ℕ) → number r ≡ x → number r ≡ first_refusal x y
+refused_first r x y e = e ∙ or_first x y (λ z. absurd (omega (arith, number_positive r, e, z)))
+
+pub passed_first : (x y n : ℕ) → 0 ≡ x → n ≡ y → n ≡ first_refusal x y
+passed_first x y n e q = or_then x y n (sym e) q
 
 pub or_else_assoc : (x y z : ℕ) → first_refusal x (first_refusal y z) ≡ first_refusal (first_refusal x y) z
 unfolding first_refusal
@@ -141,56 +149,6 @@ reached_passed j s ticks b step h =
     go false b h = absurd (omega arith)
     go true b h = refl
 
--- ---- the ways of `opened` and `reached`
-
-module _ (j : Job) (cx cy cz : List ℕ) (s : joiner.Stage) where
-  abbrev Opens : ℕ → Type 0
-  Opens r = r ≡ opened_of (job_of j cx cy cz) s
-
-  module _ (t1 : Bool) (e1 : t1 ≡ off_size 1024 (told_of j cx cy cz).cutting.extents) where
-    pub opened_1 : t1 ≡ true → Opens 1
-    unfolding opened_of
-    opened_1 q = rw (sym e1 ∙ q)
-
-    module _ (q1 : t1 ≡ false) (t2 : Bool) (e2 : t2 ≡ good_cut (told_of j cx cy cz).cutting) where
-      pub opened_2 : not t2 ≡ true → Opens 2
-      unfolding opened_of
-      opened_2 q = rw (sym e1 ∙ q1, sym e2 ∙ not-true t2 q)
-
-      module _ (q2 : not t2 ≡ false) (t3 : Bool) (e3 : t3 ≡ same_stage (job.stage_of j.stage) s) where
-        pub opened_3 : not t3 ≡ true → Opens 3
-        unfolding opened_of
-        opened_3 q = rw (sym e1 ∙ q1, sym e2 ∙ not-false t2 q2, sym e3 ∙ not-true t3 q)
-
-        pub opened_0 : not t3 ≡ false → Opens 0
-        unfolding opened_of
-        opened_0 q = rw (sym e1 ∙ q1, sym e2 ∙ not-false t2 q2, sym e3 ∙ not-false t3 q)
-
-  module _ (ticks : List ℕ) (b step : ℕ) (n : ℕ) (e : n ≡ opened_of (job_of j cx cy cz) s) where
-    abbrev Reaches : ℕ → Type 0
-    Reaches r = r ≡ reached_of (job_of j cx cy cz) s ticks b step
-
-    pub reached_first : (n ≡ 0 → ⊥) → Reaches n
-    unfolding reached_of
-    reached_first q = rw (← e) (or_first n _ q)
-
-    module _ (q : n ≡ 0) (t4 : Bool) (e4 : AnyExtents cx cy cz (λ k. t4 ≡ ltb b (blocks k))) where
-      here : t4 ≡ ltb b (blocks (told_of j cx cy cz).cutting)
-      here = e4 j.nx j.ny j.nz
-
-      pub reached_4 : not t4 ≡ true → Reaches 4
-      unfolding reached_of
-      reached_4 p = rw (← e, sym here ∙ not-true t4 p) (or_then n _ 4 q refl)
-
-      module _ (p : not t4 ≡ false) (t5 : Bool) (e5 : t5 ≡ ticked_in ticks step) where
-        pub reached_5 : t5 ≡ true → Reaches 5
-        unfolding reached_of
-        reached_5 r = rw (← e, sym here ∙ not-false t4 p, sym e5 ∙ r) (or_then n _ 5 q refl)
-
-        pub reached_0 : t5 ≡ false → Reaches 0
-        unfolding reached_of
-        reached_0 r = rw (← e, sym here ∙ not-false t4 p, sym e5 ∙ r) (or_then n _ 0 q refl)
-
 -- ---- a block of a good cut
 
 module _ (k : Cutting) (good : good_cut k ≡ true) where
@@ -204,12 +162,6 @@ module _ (k : Cutting) (good : good_cut k ≡ true) where
   block_sized b h r T = told_sized k b r T good h
 
 -- ---- a block's map and its entry
-
-pub map-stands_by : (e : Triple) (m : List ℕ) (d : Entry) (faces curves : ℕ) (s : Survey) (r : Bool)
-    → s.faces ≡ largest e m 2 → s.curves ≡ largest e m 1 → s.points ≡ largest e m 0
-    → r ≡ stands_by s.faces s.curves s.points d faces curves → r ≡ map_stands_in e d faces curves m
-unfolding map_stands_in
-map-stands_by e m d faces curves s r a b c h = rw (← a, ← b, ← c) h
 
 -- The joiner's test of a map, by the block table.
 pub stands_is : (s : State) (e : Triple) (b : ℕ) (m : List ℕ) → map_stands s e b m ≡ map_stands_in e (entry_of s.tables.blocks b) (s.job.told.entries Face) (s.job.told.entries Curve) m
@@ -390,23 +342,23 @@ module _ (j : Job) (e : Triple) (d : Entry) (m : List ℕ) where
   abbrev MapJudges : Bool → ℕ → Type 0
   MapJudges whole r = AnyCuts (λ cx cy cz. r ≡ map_judged (job_of j cx cy cz) e d whole m)
 
-  pub map-6 : (u : Bool) → not u ≡ true → MapJudges u 6
+  pub map-6 : (u : Bool) → u ≡ false → MapJudges u 6
   unfolding map_judged
-  map-6 u q cx cy cz = rw (not-true u q)
+  map-6 u q cx cy cz = rw (q)
 
-  module _ (u : Bool) (q : not u ≡ false) (t : Bool) (h : AnyCuts (λ cx cy cz. t ≡ tallies_fit (job_of j cx cy cz))) where
-    pub map-tallies : not t ≡ true → MapJudges u 8
+  module _ (u : Bool) (q : u ≡ true) (t : Bool) (h : AnyCuts (λ cx cy cz. t ≡ tallies_fit (job_of j cx cy cz))) where
+    pub map-tallies : t ≡ false → MapJudges u 8
     unfolding map_judged
-    map-tallies p cx cy cz = rw (not-false u q, sym (h cx cy cz) ∙ not-true t p)
+    map-tallies p cx cy cz = rw (q, sym (h cx cy cz) ∙ p)
 
-    module _ (p : not t ≡ false) (v : Bool) (i : v ≡ map_stands_in e d j.face_entries j.curve_entries m) where
-      pub map-8 : not v ≡ true → MapJudges u 8
+    module _ (p : t ≡ true) (v : Bool) (i : v ≡ map_stands_in e d j.entries.faces j.entries.curves m) where
+      pub map-8 : v ≡ false → MapJudges u 8
       unfolding map_judged
-      map-8 w cx cy cz = rw (not-false u q, sym (h cx cy cz) ∙ not-false t p, sym i ∙ not-true v w)
+      map-8 w cx cy cz = rw (q, sym (h cx cy cz) ∙ p, sym i ∙ w)
 
-      pub map-0 : not v ≡ false → MapJudges u 0
+      pub map-0 : v ≡ true → MapJudges u 0
       unfolding map_judged
-      map-0 w cx cy cz = rw (not-false u q, sym (h cx cy cz) ∙ not-false t p, sym i ∙ not-false v w)
+      map-0 w cx cy cz = rw (q, sym (h cx cy cz) ∙ p, sym i ∙ w)
 
 -- a map of the stated length
 pub fits_size : (c : CallName) (i : ℕ) (e : Triple) (n : Kind → ℕ) (z : Lengths) (size : ℕ) (u : Bool) → u ≡ fits_lengths c i e n z size → u ≡ true → size ≡ cells e
@@ -414,46 +366,49 @@ unfolding fits_lengths
 fits_size c i e n z size u f v = eqb-true _ _ (and_first (eqb size (cells e)) _ (sym f ∙ v))
 
 -- n is what the first tests tell
-module _ (j : Job) (cx cy cz ticks : List ℕ) (c : CallName) (z : Lengths) (b step n : ℕ) (s : joiner.Stage) (f : s ≡ stage_for c) (e : n ≡ reached_of (job_of j cx cy cz) s ticks b step) where
+module _ (j : Job) (cuts : Cuts) (ticks : List ℕ) (c : CallName) (z : Lengths) (b step n : ℕ) (s : joiner.Stage) (f : s ≡ stage_for c) (e : n ≡ reached_of (job_by j cuts) s ticks b step) where
   abbrev cut_as : Cutting
-  cut_as = (told_of j cx cy cz).cutting
+  cut_as = (job_by j cuts).told.cutting
 
-  first_is : n ≡ reached_of (job_of j cx cy cz) (stage_for c) ticks b step
+  abbrev extents_of : Triple
+  extents_of = triple j.nx j.ny j.nz
+
+  first_is : n ≡ reached_of (job_by j cuts) (stage_for c) ticks b step
   first_is = rw (← f) e
 
-  pub lengths_first : (size : ℕ) → (n ≡ 0 → ⊥) → n ≡ lengths_judged (job_of j cx cy cz) ticks c z b step size
+  pub lengths_first : (size : ℕ) → (n ≡ 0 → ⊥) → n ≡ lengths_judged (job_by j cuts) ticks c z b step size
   unfolding lengths_judged
   lengths_first size q = rw (← first_is) (or_first n _ q)
 
-  pub judged_first : (table m : List ℕ) → (n ≡ 0 → ⊥) → n ≡ judged_of (job_of j cx cy cz) ticks table c z b step m
+  pub judged_first : (blocks₀ m : List ℕ) → (n ≡ 0 → ⊥) → n ≡ judged_of (job_by j cuts) ticks blocks₀ c z b step m
   unfolding judged_of
-  judged_first table m q = rw (← first_is) (or_first n _ q)
+  judged_first blocks₀ m q = rw (← first_is) (or_first n _ q)
 
   module _ (q : n ≡ 0) where
-    begun : FirstTests (job_of j cx cy cz) (stage_for c) × (b < blocks cut_as)
-    begun = reached_passed (job_of j cx cy cz) (stage_for c) ticks b step (sym first_is ∙ q)
+    begun : FirstTests (job_by j cuts) (stage_for c) × (b < blocks cut_as)
+    begun = reached_passed (job_by j cuts) (stage_for c) ticks b step (sym first_is ∙ q)
 
-    pub begun_few : FewBlocks cx cy cz
+    pub begun_few : FewBlocks cuts.x.now cuts.y.now cuts.z.now
     begun_few = few_of cut_as begun.0.good
 
-    module _ (r : Block) (T : AnyExtents cx cy cz (λ k. Tells k b r)) (i : ℕ) (many : AnyExtents cx cy cz (λ k. i ≡ blocks k)) where
+    module _ (r : Block) (T : AnyExtents cuts (λ k. Tells k b r)) (i : ℕ) (many : AnyExtents cuts (λ k. i ≡ blocks k)) where
       pub begun_sized : (i ≤ most_blocks) × Sized 64 (size_of r)
-      begun_sized = (count_few cut_as begun.0.good i (many j.nx j.ny j.nz), block_sized cut_as begun.0.good b begun.1 r (T j.nx j.ny j.nz))
+      begun_sized = (count_few cut_as begun.0.good i (many extents_of), block_sized cut_as begun.0.good b begun.1 r (T extents_of))
 
       module _ (size : ℕ) (u : Bool) (h : u ≡ fits_lengths c i (size_of r) (entries_of j) z size) where
-        fits_told : u ≡ block_fits (job_of j cx cy cz) c z b size
+        fits_told : u ≡ block_fits (job_by j cuts) c z b size
         unfolding block_fits
-        fits_told = rw (← many j.nx j.ny j.nz, ← (T j.nx j.ny j.nz).size) h
+        fits_told = rw (← many extents_of, ← (T extents_of).size) h
 
-        pub lengths_last : cond (not u) 6 0 ≡ lengths_judged (job_of j cx cy cz) ticks c z b step size
+        pub lengths_last : cond (not u) 6 0 ≡ lengths_judged (job_by j cuts) ticks c z b step size
         unfolding lengths_judged
         lengths_last = rw (← first_is, ← fits_told) (or_then n _ (cond (not u) 6 0) q refl)
 
-      pub judged_then : (table m : List ℕ) (u : Bool) → u ≡ fits_lengths c i (size_of r) (entries_of j) z (length m) → (d : Entry) → d ≡ entry_of table b → (x : ℕ)
-          → AnyCuts (λ cx cy cz. x ≡ map_judged (job_of j cx cy cz) (size_of r) d u m) → x ≡ judged_of (job_of j cx cy cz) ticks table c z b step m
+      pub judged_then : (blocks₀ m : List ℕ) (u : Bool) → u ≡ fits_lengths c i (size_of r) (entries_of j) z (length m) → (d : Entry) → d ≡ entry_of blocks₀ b → (x : ℕ)
+          → AnyCuts (λ cx cy cz. x ≡ map_judged (job_of j cx cy cz) (size_of r) d u m) → x ≡ judged_of (job_by j cuts) ticks blocks₀ c z b step m
       unfolding judged_of
-      judged_then table m u h d g x l =
-          rw (← first_is, ← fits_told (length m) u h, ← g, ← (T j.nx j.ny j.nz).size) (or_then n _ x q (l cx cy cz))
+      judged_then blocks₀ m u h d g x l =
+          rw (← first_is, ← fits_told (length m) u h, ← g, ← (T extents_of).size) (or_then n _ x q (l cuts.x.now cuts.y.now cuts.z.now))
 
 -- ---- one call
 

@@ -2,7 +2,7 @@
 -- Assumes nothing.
 use Rattle.std.specs.Prelude.{Bool, not, cond, ◌&&◌, List, [], ◌∷◌, ◌++◌, ℕ, ◌+◌, ◌*◌, eqb, leb, ltb, get_or, length}
 use Rattle.union_find.specs.Links.{sound_ways}
-use Rattle.cells.specs.Box.{Triple}
+use Rattle.cells.specs.declared.Triple.{Triple}
 use Rattle.cells.specs.Extents.{off_size}
 use Rattle.cells.specs.Grid.{cells}
 use Rattle.labels.specs.Components.{largest}
@@ -48,7 +48,7 @@ placed_of s c =
 
 -- The entries that the opening was told, by kind.
 abbrev pub entries_of : Job → Kind → ℕ
-entries_of j = by_kind j.face_entries j.curve_entries j.point_entries
+entries_of j = by_kind j.entries.faces j.entries.curves j.entries.points
 
 -- The lengths of the tables of one sort.
 abbrev kinds_of : (Kind → List ℕ) → KindLengths

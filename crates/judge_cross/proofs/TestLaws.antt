@@ -3,59 +3,55 @@
 use mathlib.Core.Path.{◌≡◌, refl, sym, ap, ◌∙◌}
 use mathlib.Core.Bool.{Bool, true, false, not, cond, ◌&&◌, ◌||◌}
 use mathlib.Core.List.{List, [], ◌∷◌, map}
-use Prim.Native.Nat.{ℕ}
+use Prim.Native.Nat.{ℕ, zero, suc, ◌≤◌}
+use native.Mathlib.Numerals.{add-one}
 use lib.Dec.{eqb}
-use borrow.Author.Tests.{eq-eqb, ne_eqb}
+use Rattle.std.specs.List.{list_all, range_with_len}
 use Rattle.lists.specs.Lists.{consecutive, all_of}
-use Rattle.cutting.specs.Cutting.{Cutting, blocks, good_cut}
+use Rattle.cutting.specs.Cutting.{Cutting, blocks, good_cut, most_blocks, FewBlocks}
+use Rattle.blocks.specs.Blocks.{AnyExtents}
+use Rattle.blocks.specs.declared.Cuts.{Cuts}
 use Rattle.joiner.specs.Job.{Kind, Face, Curve, State, ticked}
 use Rattle.joiner.specs.Stages.{finished, steps_of, crossing_step}
 use Rattle.joiner.specs.Calls.{cross}
 use Rattle.joiner.specs.Declines.{adds, all_links_stand, last_crossing, links_stand, refusal, rows_stand}
 use Rattle.job.specs.declared.Job.{Job}
-use Rattle.job.specs.JobState.{job_of, told_of}
+use Rattle.job.specs.JobState.{job_by}
 use Rattle.stages.specs.Ticks.{ticked_in}
 use Rattle.judge.specs.declared.CallName.{CallName}
 use Rattle.judge.specs.declared.Lengths.{Lengths}
-use Rattle.judge.specs.declared.Entry.{Entry}
 use Rattle.judge.specs.Judge.{lengths_of, judged_of, entry_of}
-use Rattle.judge.proofs.JudgeLaws.{or_first, or_then, judged_passed, links_is, refusal_judged, rest_none}
+use Rattle.judge.proofs.JudgeLaws.{few_of, count_few, passed_first, judged_passed, links_is, refusal_judged, rest_none}
 use Rattle.judge_cross.specs.Tests.{crossed_but, last_in, rows_in, all_ready, numberable, own_stands, refusal_of}
 
--- ---- the last crossing
+-- ---- the numbers from i on, as the code's chains go through them
 
-module _ (ticks : List ℕ) (b x r : ℕ) (e : r ≡ crossing_step b) where
-  pub crossed_here : r ≡ crossing_step x → true ≡ crossed_but ticks b x
-  unfolding crossed_but
-  crossed_here q = rw (eq-eqb (crossing_step b) (crossing_step x) (sym e ∙ q))
+pub all_told : (f : ℕ → Bool) (n i : ℕ) → list_all f (range_with_len i n) ≡ all_of f (consecutive i n)
+unfolding consecutive
+all_told f zero i = refl
+all_told f (suc n) i = ap (λ t. f i && t) (rw add-one (all_told f n (suc i)))
 
-  pub crossed_else : (r ≡ crossing_step x → ⊥) → (u : Bool) → u ≡ ticked_in ticks (crossing_step x) → u ≡ crossed_but ticks b x
-  unfolding crossed_but
-  crossed_else q u h = rw (ne_eqb (crossing_step b) (crossing_step x) (λ p. q (e ∙ p))) h
+-- ---- what the judge has passed, and what comes after it
 
--- ---- the ways of `judge_crossing`
+module _ (j : Job) (cuts : Cuts) (ticks : List ℕ) (z : Lengths) (table : List ℕ) (b : ℕ) (m : List ℕ) (step : ℕ) (f : step ≡ crossing_step b)
+    (passed : 0 ≡ judged_of (job_by j cuts) ticks table CallName.Crossing z b step m) where
+  abbrev cut_as : Cutting
+  cut_as = (job_by j cuts).told.cutting
 
-module _ (j : Job) (cx cy cz ticks : List ℕ) (z : Lengths) (table rows fl cl : List ℕ) (b : ℕ) (m : List ℕ) (step r : ℕ) (f : step ≡ crossing_step b)
-    (e : r ≡ judged_of (job_of j cx cy cz) ticks table CallName.Crossing z b step m) where
-  abbrev Refuses : ℕ → Type 0
-  Refuses x = x ≡ refusal_of (job_of j cx cy cz) ticks z table rows fl cl b m
+  pub cross_good : good_cut cut_as ≡ true
+  cross_good = (judged_passed (job_by j cuts) ticks CallName.Crossing z b step table m (sym passed)).first.good
 
-  pub cross_first : (r ≡ 0 → ⊥) → Refuses r
-  unfolding refusal_of
-  cross_first q = rw (← f, ← e) (or_first r _ q)
+  pub cross_few : FewBlocks cuts.x.now cuts.y.now cuts.z.now
+  cross_few = few_of cut_as cross_good
 
-  module _ (q : r ≡ 0) where
-    pub cross_good : good_cut (told_of j cx cy cz).cutting ≡ true
-    cross_good = (judged_passed (job_of j cx cy cz) ticks CallName.Crossing z b step table m (sym e ∙ q)).first.good
+  module _ (i : ℕ) (many : AnyExtents cuts (λ k. i ≡ blocks k)) where
+    pub cross_most : i ≤ most_blocks
+    cross_most = count_few cut_as cross_good i (many cut_as.extents)
 
-    module _ (i : ℕ) (many : i ≡ blocks (told_of j cx cy cz).cutting) (d : Entry) (g : d ≡ entry_of table b) (u : Bool)
-        (h : u ≡ own_stands ticks b i d rows j.face_entries j.faces j.curves fl cl) where
-      own_told : u ≡ own_stands ticks b (blocks (told_of j cx cy cz).cutting) (entry_of table b) rows j.face_entries j.faces j.curves fl cl
-      own_told = rw (← many, ← g) h
-
-      pub cross_last_lem : Refuses (cond (not u) 8 0)
-      unfolding refusal_of
-      cross_last_lem = rw (← f, ← e, ← own_told) (or_then r _ (cond (not u) 8 0) q refl)
+    pub cross_last_lem : (rows fl cl : List ℕ) (u : Bool) → u ≡ own_stands ticks b i (entry_of table b) rows j.entries.faces j.sofar.faces j.sofar.curves fl cl
+        → cond (not u) 8 0 ≡ refusal_of (job_by j cuts) ticks z table rows fl cl b m
+    unfolding refusal_of
+    cross_last_lem rows fl cl u h = rw (← f, ← many cut_as.extents, ← h) (passed_first _ _ (cond (not u) 8 0) passed refl)
 
 -- ---- the tests are the joiner's
 

@@ -1,18 +1,19 @@
 // The tests of a crossing step: the judge's, then the links of the block's faces and curves, and with the last block all links and rows.
 #![tactic(auto)]
 
-ghost use Rattle.std.specs.Prelude.{◌≡◌, ◌≤◌, ◌<◌, leb, get_or};
+ghost use Rattle.std.specs.Prelude.{◌≡◌, ◌≤◌, ◌<◌};
 ghost use Rattle.cutting.specs.Cutting.{most_blocks};
 ghost use Rattle.joiner.specs.Stages.{crossing_step};
-ghost use Rattle.job.specs.JobState.{job_of};
+ghost use Rattle.job.specs.JobState.{job_by};
 ghost use Rattle.judge_cross.specs.Tests.{crossed_but, last_in, rows_in, all_ready, numberable, own_stands, refusal_of};
+ghost use Rattle.refusals.specs.Refusals.{number_of};
 
-use blocks::block_count;
+use blocks::Cuts;
 use job::Job;
 use joiner::{CROSSING_TICK, TICKS_PER_BLOCK};
 use judge::{CallName, Entry, Lengths, entry_of, judge, links_stand};
-use lists::read_or_zero;
-use refusals::STRAY_LABEL;
+use lists::read_or;
+use refusals::Refusal;
 use stages::is_ticked;
 use union_find::all_sound;
 
@@ -24,15 +25,13 @@ pub fn step_of(b: u32) -> usize
 }
 
 // Whether block x is crossed, or is b.
+#[tactic(auto, unfolding(crate::specs::Tests::crossed_but))]
 fn crossed_but(ticks: &[u32], b: u32, x: usize) -> bool
     requires { x < most_blocks }
     ensures { result ≡ crossed_but ticks.now b x }
 {
     let step = TICKS_PER_BLOCK * x + CROSSING_TICK;
-    if step_of(b) == step {
-        return true;
-    }
-    is_ticked(ticks, step)
+    step_of(b) == step || is_ticked(ticks, step)
 }
 
 // Whether with block b all blocks are crossed.
@@ -40,54 +39,28 @@ fn last_crossing(ticks: &[u32], b: u32, blocks: usize) -> bool
     requires { blocks ≤ most_blocks }
     ensures { result ≡ last_in ticks.now b blocks }
 {
-    for x in 0..blocks {
-        if !crossed_but(ticks, b, x) {
-            return false;
-        }
-    }
-    true
+    (0..blocks).all(|x| crossed_but(ticks, b, x))
 }
 
-// Whether entry i of the rows is a place of a table of so many faces, + 1.
-fn face_in(rows: &[u32], i: usize, faces: u32) -> bool
-    ensures { result ≡ leb (get_or rows.now i 0) faces }
-{
-    read_or_zero(rows, i) <= faces
-}
-
-// Whether the first n entries of the rows are such places.
+// Whether the first n entries of the rows are places of a table of so many faces, + 1.
 fn rows_stand(rows: &[u32], faces: u32, n: usize) -> bool
     ensures { result ≡ rows_in rows.now faces n }
 {
-    for i in 0..n {
-        if !face_in(rows, i, faces) {
-            return false;
-        }
-    }
-    true
+    (0..n).all(|i| read_or(rows, i, 0) <= faces)
 }
 
 // Whether all can be numbered: the rows of curves name places of the face table, and no link is longer than its place.
-fn all_ready(
-    rows: &[u32],
-    entries: u32,
-    faces: u32,
-    curves: u32,
-    face_links: &[u32],
-    curve_links: &[u32],
-) -> bool
-    ensures { result ≡ all_ready rows.now entries faces curves face_links.now curve_links.now }
+#[tactic(auto, unfolding(crate::specs::Tests::all_ready))]
+fn all_ready(job: Job, rows: &[u32], face_links: &[u32], curve_links: &[u32]) -> bool
+    ensures { result ≡ all_ready rows.now job.entries.faces job.sofar.faces job.sofar.curves face_links.now curve_links.now }
 {
-    if !rows_stand(rows, entries, 4 * curves as usize) {
-        return false;
-    }
-    if !all_sound(face_links, faces as usize) {
-        return false;
-    }
-    all_sound(curve_links, curves as usize)
+    rows_stand(rows, job.entries.faces, 4 * job.sofar.curves as usize)
+        && all_sound(face_links, job.sofar.faces as usize)
+        && all_sound(curve_links, job.sofar.curves as usize)
 }
 
 // .. asked at the last crossing only.
+#[tactic(auto, unfolding(crate::specs::Tests::numberable))]
 fn rows_ready(
     job: Job,
     ticks: &[u32],
@@ -98,22 +71,13 @@ fn rows_ready(
     curve_links: &[u32],
 ) -> bool
     requires { blocks ≤ most_blocks }
-    ensures { result ≡ numberable ticks.now b blocks rows.now job.face_entries job.faces job.curves face_links.now curve_links.now }
+    ensures { result ≡ numberable ticks.now b blocks rows.now job.entries.faces job.sofar.faces job.sofar.curves face_links.now curve_links.now }
 {
-    if last_crossing(ticks, b, blocks) {
-        return all_ready(
-            rows,
-            job.face_entries,
-            job.faces,
-            job.curves,
-            face_links,
-            curve_links,
-        );
-    }
-    true
+    !last_crossing(ticks, b, blocks) || all_ready(job, rows, face_links, curve_links)
 }
 
 // Whether the block's links may be followed, and with the last block all can be numbered.
+#[tactic(auto, unfolding(crate::specs::Tests::own_stands))]
 fn own_stands(
     job: Job,
     ticks: &[u32],
@@ -125,21 +89,16 @@ fn own_stands(
     curve_links: &[u32],
 ) -> bool
     requires { blocks ≤ most_blocks }
-    ensures { result ≡ own_stands ticks.now b blocks entry rows.now job.face_entries job.faces job.curves face_links.now curve_links.now }
+    ensures { result ≡ own_stands ticks.now b blocks entry rows.now job.entries.faces job.sofar.faces job.sofar.curves face_links.now curve_links.now }
 {
-    if !links_stand(face_links, curve_links, entry) {
-        return false;
-    }
-    rows_ready(job, ticks, b, blocks, rows, face_links, curve_links)
+    links_stand(face_links, curve_links, entry)
+        && rows_ready(job, ticks, b, blocks, rows, face_links, curve_links)
 }
 
-// The number of the refusal, the lowest that applies, and 0 for none. Layers cannot differ, and no table gets full. What grows with the tallies
-// comes after their test.
+// The lowest refusal that applies. Layers cannot differ, and no table gets full. What grows with the tallies comes after their test.
 pub fn judge_crossing(
     job: Job,
-    cx: &[u32],
-    cy: &[u32],
-    cz: &[u32],
+    cuts: &Cuts,
     ticks: &[u32],
     lengths: Lengths,
     table: &[u32],
@@ -148,15 +107,13 @@ pub fn judge_crossing(
     curve_links: &[u32],
     b: u32,
     m: &[u32],
-) -> u32
-    ensures { result ≡ refusal_of (job_of job cx.now cy.now cz.now) ticks.now lengths table.now rows.now face_links.now curve_links.now b m.now }
+) -> Result<(), Refusal>
+    ensures { number_of result ≡ refusal_of (job_by job cuts.now) ticks.now lengths table.now rows.now face_links.now curve_links.now b m.now }
 {
     let step = step_of(b);
-    let number = judge(
+    judge(
         job,
-        cx,
-        cy,
-        cz,
+        cuts,
         ticks,
         table,
         CallName::Crossing,
@@ -164,14 +121,11 @@ pub fn judge_crossing(
         b,
         step,
         m,
-    );
-    if number != 0 {
-        return number;
-    }
-    let count = block_count(cx, cy, cz);
+    )?;
+    let count = cuts.block_count();
     let entry = entry_of(table, b);
     if !own_stands(job, ticks, b, count, entry, rows, face_links, curve_links) {
-        return STRAY_LABEL;
+        return Err(Refusal::StrayLabel);
     }
-    0
+    Ok(())
 }

@@ -1,5 +1,5 @@
 -- The tests of an enrolment after those by lengths. Assumes nothing.
-use Rattle.std.specs.Prelude.{◌≡◌, not, cond, List, ℕ, length}
+use Rattle.std.specs.Prelude.{◌≡◌, not, cond, List, ℕ, length, Result, IfOk}
 use Rattle.labels.specs.Components.{largest}
 use Rattle.cutting.specs.Cutting.{block_extents}
 use Rattle.joiner.specs.Job.{Kind}
@@ -11,7 +11,9 @@ use Rattle.job.specs.JobState.{by_kind}
 use Rattle.judge.specs.declared.CallName.{CallName}
 use Rattle.judge.specs.declared.Lengths.{Lengths}
 use Rattle.judge.specs.Judge.{first_refusal, lengths_judged}
-use Rattle.judge_enrol.specs.declared.Plan.{Plan}
+use Rattle.counts.specs.declared.Counts.{Counts}
+use Rattle.refusals.specs.declared.Refusal.{Refusal}
+use Rattle.refusals.specs.Refusals.{number_of}
 
 -- The lengths of the tables that an enrolment is lent, 0 for the others.
 abbrev pub lent_lengths : ℕ → ℕ → ℕ → ℕ → ℕ → ℕ → ℕ → ℕ → Lengths
@@ -38,11 +40,12 @@ refusal_of j ticks z b m =
     (late_of j (by_kind (largest (block_extents j.told.cutting b) m 2) (largest (block_extents j.told.cutting b) m 1) 0))
 
 -- The block's largest numbers.
-pub record Planned (j : joiner.Job) (b : ℕ) (m : List ℕ) (r : Plan) : Type 0 where
+pub record Planned (j : joiner.Job) (b : ℕ) (m : List ℕ) (r : Counts) : Type 0 where
   pub faces : r.faces ≡ largest (block_extents j.told.cutting b) m 2
   pub curves : r.curves ≡ largest (block_extents j.told.cutting b) m 1
   pub points : r.points ≡ largest (block_extents j.told.cutting b) m 0
 
-pub record Judged (j : joiner.Job) (ticks : List ℕ) (z : Lengths) (b : ℕ) (m : List ℕ) (r : Plan) : Type 0 where
-  pub told : r.refusal ≡ refusal_of j ticks z b m
-  pub plan : r.refusal ≡ 0 → Planned j b m r
+-- What the tests answer: the refusal, and the block's largest numbers where there is none.
+pub record Judged (j : joiner.Job) (ticks : List ℕ) (z : Lengths) (b : ℕ) (m : List ℕ) (r : Result Counts Refusal) : Type 0 where
+  pub told : number_of r ≡ refusal_of j ticks z b m
+  pub plan : IfOk r (Planned j b m)

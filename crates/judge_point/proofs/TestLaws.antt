@@ -1,14 +1,20 @@
 -- The ways of the tests of a point step, and that they are the joiner's.
 -- Assumes nothing.
 use mathlib.Core.Path.{◌≡◌, refl, sym, ap, ◌∙◌}
-use mathlib.Core.Bool.{Bool, true, false, not, cond}
+use mathlib.Core.Bool.{Bool, true, false, not, cond, ◌&&◌, true≢false}
 use mathlib.Core.List.{List}
-use Prim.Native.Nat.{ℕ, ◌+◌, ◌≤◌, ◌<◌}
+use Prim.Native.Nat.{ℕ, zero, suc, ◌+◌, ◌≤◌, ◌<◌}
 use native.Mathlib.Omega.{arith}
 use lib.Dec.{ltb}
 use lib.ListN.{length}
-use borrow.Author.Tests.{not-true, not-false, lt-ltb, le-ltb}
-use Rattle.cells.specs.Box.{Triple}
+use borrow.Author.Tests.{lt-ltb, le-ltb}
+use native.Mathlib.Numerals.{add-one}
+use Rattle.std.specs.List.{list_all, range_with_len}
+use Rattle.std.specs.Prelude.{Result, Ok, Err, IsErr, IsErrAnd}
+use Rattle.refusals.specs.declared.Refusal.{Refusal}
+use Rattle.refusals.specs.Refusals.{number, number_of}
+use Rattle.lists.specs.Lists.{consecutive, all_of}
+use Rattle.cells.specs.declared.Triple.{Triple}
 use Rattle.cells.specs.Extents.{Sized}
 use Rattle.cells.specs.Grid.{cells}
 use Rattle.cutting.specs.Cutting.{Cutting, block_extents}
@@ -17,75 +23,80 @@ use Rattle.joiner.specs.Stages.{point_step}
 use Rattle.joiner.specs.Calls.{point, full, overfull}
 use Rattle.joiner.specs.Declines.{adds, curves_stand, number_stands, refusal, tallies_fit}
 use Rattle.joiner.proofs.Passed.{tally_fits_lem}
-use Rattle.blocks.specs.Blocks.{Tells, size_of, AnyExtents}
+use Rattle.blocks.specs.Blocks.{Tells, AnyExtents}
 use Rattle.blocks.specs.declared.Block.{Block}
+use Rattle.blocks.specs.declared.Cuts.{Cuts}
 use Rattle.pass_point.specs.FoundPoints.{found_cells}
 use Rattle.pass_point.proofs.FoundLaws.{found_cells_lem}
 use Rattle.job.specs.declared.Job.{Job}
-use Rattle.job.specs.JobState.{AnyCuts, job_of, told_of}
+use Rattle.job.specs.JobState.{AnyCuts, job_by, job_of}
 use Rattle.stages.specs.Ticks.{ticked_in}
 use Rattle.judge.specs.declared.CallName.{CallName}
 use Rattle.judge.specs.declared.Lengths.{Lengths}
 use Rattle.judge.specs.declared.Entry.{Entry}
 use Rattle.judge.specs.Judge.{lengths_of, judged_of, entry_of, number_stands_in}
-use Rattle.judge.proofs.JudgeLaws.{or_first, or_then, or_none, judged_passed, block_sized, refusal_judged, judged_same}
-use Rattle.judge_point.specs.declared.Plan.{Plan}
+use Rattle.judge.proofs.JudgeLaws.{refused_first, passed_first, judged_passed, block_sized, refusal_judged, judged_same}
 use Rattle.judge_point.specs.Tests.{curves_in, found_by, late_of, found_of, refusal_of, Plans}
 
--- a plan that refuses
-refuses : (n number found : ℕ) (r : Plan) → (n ≡ 0 → ⊥) → r.refusal ≡ n → n ≡ number → Plans number found r
-refuses n number found r z e q = record { told = e ∙ q; counted = λ h. absurd (z (q ∙ h)) }
+-- ---- the numbers from i on, as the code's chain goes through them
 
--- ---- the rungs of `late`
+pub all_told : (f : ℕ → Bool) (n i : ℕ) → list_all f (range_with_len i n) ≡ all_of f (consecutive i n)
+unfolding consecutive
+all_told f zero i = refl
+all_told f (suc n) i = ap (λ t. f i && t) (rw add-one (all_told f n (suc i)))
 
-module _ (j : Job) (e : Triple) (d : Entry) (curves m : List ℕ) (u : Bool) (i : u ≡ curves_in curves j.numbered_curves d.curve_from d.curves) where
-  abbrev Late : Plan → Type 0
+-- ---- what is refused, and what is counted
+
+module _ (j : Job) (e : Triple) (d : Entry) (curves m : List ℕ) (u : Bool) (i : u ≡ curves_in curves j.numbered.curves d.curve_from d.curves) where
+  abbrev Late : Result ℕ Refusal → Type 0
   Late r = AnyCuts (λ cx cy cz. Plans (late_of (job_of j cx cy cz) e d curves m) (found_by e d curves m) r)
 
-  pub late_stray : not u ≡ true → (r : Plan) → r.refusal ≡ 8 → Late r
-  unfolding late_of
-  late_stray p r x cx cy cz = refuses 8 _ _ r (λ z. omega (arith, z)) x (rw (sym i ∙ not-true u p))
+  pub late_stray : u ≡ false → Late (Err Refusal.StrayLabel)
+  unfolding late_of number
+  late_stray p cx cy cz = record { told = rw (sym i ∙ p); counted = tt }
 
-  module _ (p : not u ≡ false) (n : ℕ) (f : n ≡ length (found_cells e curves d.curve_from m)) where
-    pub late_full : j.point_entries < j.points + n → (r : Plan) → r.refusal ≡ 10 → Late r
-    unfolding late_of found_by
-    late_full l r x cx cy cz = refuses 10 _ _ r (λ z. omega (arith, z)) x (rw (sym i ∙ not-false u p, ← f, lt-ltb j.point_entries (j.points + n) l))
+  module _ (p : u ≡ true) (n : ℕ) (f : n ≡ length (found_cells e curves d.curve_from m)) where
+    pub late_full : j.entries.points < j.sofar.points + n → Late (Err Refusal.TableFull)
+    unfolding late_of found_by number
+    late_full l cx cy cz = record { told = rw (sym i ∙ p, ← f, lt-ltb j.entries.points (j.sofar.points + n) l); counted = tt }
 
-    pub late_found : j.points + n ≤ j.point_entries → Late (record { refusal = 0; points = n })
+    pub late_found : j.sofar.points + n ≤ j.entries.points → Late (Ok n)
     unfolding late_of found_by
-    late_found l cx cy cz = record { told = rw (sym i ∙ not-false u p, ← f, le-ltb j.point_entries (j.points + n) l); counted = λ _. f }
+    late_found l cx cy cz = record { told = rw (sym i ∙ p, ← f, le-ltb j.entries.points (j.sofar.points + n) l); counted = f }
 
 -- ---- the ways of `judge_points`
 
-module _ (j : Job) (cx cy cz ticks : List ℕ) (z : Lengths) (table curves : List ℕ) (b : ℕ) (m : List ℕ) (n : ℕ)
-    (e : n ≡ judged_of (job_of j cx cy cz) ticks table CallName.Points z b (point_step b) m) where
+module _ (j : Job) (cuts : Cuts) (ticks : List ℕ) (z : Lengths) (table curves : List ℕ) (b : ℕ) (m : List ℕ) where
   abbrev k : Cutting
-  k = (told_of j cx cy cz).cutting
+  k = (job_by j cuts).told.cutting
 
-  abbrev Judges : Plan → Type 0
-  Judges r = Plans (refusal_of (job_of j cx cy cz) ticks z table curves b m) (found_of k table curves b m) r
+  abbrev judged : ℕ
+  judged = judged_of (job_by j cuts) ticks table CallName.Points z b (point_step b) m
 
-  pub points_first : (n ≡ 0 → ⊥) → (r : Plan) → r.refusal ≡ n → Judges r
+  abbrev Judges : Result ℕ Refusal → Type 0
+  Judges r = Plans (refusal_of (job_by j cuts) ticks z table curves b m) (found_of k table curves b m) r
+
+  pub points_first : (d : Refusal) → number d ≡ judged → (r : Result ℕ Refusal) → IsErr r × IsErrAnd r (λ x. x ≡ d) → Judges r
   unfolding refusal_of
-  points_first q r x = refuses n _ _ r q x (rw (← e) (or_first n _ q))
+  points_first d q (Ok n) h = absurd (true≢false (sym h.0))
+  points_first d q (Err x) h = record { told = refused_first x _ _ (ap number h.1 ∙ q); counted = tt }
 
-  module _ (q : n ≡ 0) (r : Block) (T : AnyExtents cx cy cz (λ k. Tells k b r)) where
+  module _ (q : 0 ≡ judged) (r : Block) (T : AnyExtents cuts (λ k. Tells k b r)) where
+    tells : Tells k b r
+    tells = T k.extents
+
     -- what `late` requires
-    pub points_map : Sized 64 (size_of r) × (length m ≡ cells (size_of r))
+    pub points_map : Sized 64 r.size × (length m ≡ cells r.size)
     points_map =
-        let p = judged_passed (job_of j cx cy cz) ticks CallName.Points z b (point_step b) table m (sym e ∙ q) in
-        let t : Tells k b r = T j.nx j.ny j.nz in
-        (block_sized k p.first.good b p.there r t, p.whole ∙ ap cells (sym t.size))
+        let p = judged_passed (job_by j cuts) ticks CallName.Points z b (point_step b) table m (sym q) in
+        (block_sized k p.first.good b p.there r tells, p.whole ∙ ap cells (sym tells.size))
 
-    pub points_late : (d : Entry) → d ≡ entry_of table b → (p : Plan)
-        → AnyCuts (λ cx cy cz. Plans (late_of (job_of j cx cy cz) (size_of r) d curves m) (found_by (size_of r) d curves m) p) → Judges p
+    pub points_late : (p : Result ℕ Refusal) → AnyCuts (λ cx cy cz. Plans (late_of (job_of j cx cy cz) r.size (entry_of table b) curves m) (found_by r.size (entry_of table b) curves m) p)
+        → Judges p
     unfolding refusal_of found_of
-    points_late d f p L =
-        let l = rw (f, (T j.nx j.ny j.nz).size) at (L cx cy cz) in
-        record {
-          told = rw (← e) (or_then n _ p.refusal q l.told);
-          counted = λ y. l.counted (or_none (judged_of (job_of j cx cy cz) ticks table CallName.Points z b (point_step b) m) _ y).1;
-        }
+    points_late p L =
+        let l = rw tells.size at (L k.cx k.cy k.cz) in
+        record { told = passed_first _ _ (number_of p) q l.told; counted = l.counted }
 
 -- ---- the tests are the joiner's
 

@@ -1,18 +1,19 @@
 -- The tests of a point step, by the judge and by what it reads besides.
 -- Assumes nothing.
-use Rattle.std.specs.Prelude.{◌≡◌, Bool, not, cond, List, ℕ, ◌+◌, ltb, length}
+use Rattle.std.specs.Prelude.{◌≡◌, Bool, not, cond, List, ℕ, ◌+◌, ltb, length, Result, IfOk}
 use Rattle.lists.specs.Lists.{consecutive, all_of}
-use Rattle.cells.specs.Box.{Triple}
+use Rattle.cells.specs.declared.Triple.{Triple}
 use Rattle.cutting.specs.Cutting.{Cutting, block_extents}
 use Rattle.joiner.specs.Job.{Curve, Point}
 use Rattle.joiner.specs.Job as joiner
 use Rattle.joiner.specs.Stages.{point_step}
 use Rattle.pass_point.specs.FoundPoints.{found_cells}
+use Rattle.refusals.specs.declared.Refusal.{Refusal}
+use Rattle.refusals.specs.Refusals.{number_of}
 use Rattle.judge.specs.declared.CallName.{CallName}
 use Rattle.judge.specs.declared.Lengths.{Lengths}
 use Rattle.judge.specs.declared.Entry.{Entry}
 use Rattle.judge.specs.Judge.{first_refusal, judged_of, entry_of, number_stands_in}
-use Rattle.judge_point.specs.declared.Plan.{Plan}
 
 -- How many points a block of e voxels has, by its entry and the curves' final numbers.
 unfoldable pub found_by : Triple → Entry → List ℕ → List ℕ → ℕ
@@ -36,7 +37,7 @@ unfoldable pub refusal_of : joiner.Job → List ℕ → Lengths → List ℕ →
 refusal_of j ticks z table curves b m =
     first_refusal (judged_of j ticks table CallName.Points z b (point_step b) m) (late_of j (block_extents j.told.cutting b) (entry_of table b) curves m)
 
--- A plan tells the refusal, and where it is 0 the points.
-pub record Plans (number found : ℕ) (r : Plan) : Type 0 where
-  pub told : r.refusal ≡ number
-  pub counted : number ≡ 0 → r.points ≡ found
+-- An answer tells the refusal, and where there is none the points.
+pub record Plans (number found : ℕ) (r : Result ℕ Refusal) : Type 0 where
+  pub told : number_of r ≡ number
+  pub counted : IfOk r (λ n. n ≡ found)

@@ -1,7 +1,7 @@
 -- The tests of a seam step, by lengths and by the entries of the block table, and the layer that its blocks share.
 -- Assumes nothing.
 use Rattle.std.specs.Prelude.{◌≡◌, Bool, true, false, ◌&&◌, List, ℕ, eqb}
-use Rattle.cells.specs.Box.{Triple}
+use Rattle.cells.specs.declared.Triple.{Triple}
 use Rattle.cells.specs.Grid.{cells, sides}
 use Rattle.cutting.specs.Cutting.{Cutting, good_cut, seam}
 use Rattle.joiner.specs.Job.{Kind, Tables}

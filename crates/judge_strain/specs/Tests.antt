@@ -2,7 +2,8 @@
 -- Assumes nothing.
 use Rattle.std.specs.Prelude.{Bool, not, cond, ◌&&◌, List, [], ◌∷◌, ℕ, ◌*◌, eqb, get_or, length, Float}
 use Rattle.lists.specs.Lists.{consecutive, all_of}
-use Rattle.cells.specs.Box.{Triple, volume}
+use Rattle.cells.specs.Box.{volume}
+use Rattle.cells.specs.declared.Triple.{Triple}
 use Rattle.cells.specs.Grid.{cells}
 use Rattle.cutting.specs.Cutting.{Cutting, blocks, block_extents}
 use Rattle.joiner.specs.Job.{Face, Curve, Closed, Job, tray, lengths_fit, numbers_per_block}
@@ -11,10 +12,21 @@ use Rattle.job.specs.JobState.{total_lengths}
 use Rattle.judge.specs.declared.Entry.{Entry}
 use Rattle.judge.specs.Judge.{first_refusal, reached_of, entry_of, map_stands_in, number_stands_in}
 use Rattle.totals.specs.Totals.{both_stand, readings_fit}
-use Rattle.strain_calls.specs.Tables.{TotalTables}
-use Rattle.judge_strain.specs.declared.Sizes.{Sizes}
+use Rattle.strain_calls.specs.Tables.{TotalTables, total_tables}
+use Rattle.judge_strain.specs.declared.Brought.{Brought}
+use Rattle.judge_strain.specs.declared.StrainTables.{StrainTables}
 
--- The lengths of what a block brings, and of the tables.
+-- The lengths of the map and the lists that a block brings, and of the tables.
+pub record Sizes : Type 0 where
+  pub cells : ℕ
+  pub values : ℕ
+  pub kinds : ℕ
+  pub blocks : ℕ
+  pub numbers : ℕ
+  pub came : ℕ
+  pub sums : ℕ
+  pub counts : ℕ
+
 abbrev pub sizes_of : List ℕ → List Float → List ℕ → List ℕ → List ℕ → TotalTables → Sizes
 sizes_of m values kinds table numbers w =
     record {
@@ -27,6 +39,14 @@ sizes_of m values kinds table numbers w =
       sums = length w.sums;
       counts = length w.counts;
     }
+
+-- The tables of the readings, of what the code is lent.
+abbrev pub totals_in : StrainTables → TotalTables
+totals_in t = total_tables t.came.now t.sums.now t.counts.now
+
+-- .. and the lengths.
+abbrev pub lengths_of : StrainTables → Brought → Sizes
+lengths_of t g = sizes_of g.map.now g.values.now g.kinds.now t.blocks.now t.numbers.now (totals_in t)
 
 -- 6 denies it: a block of e voxels brings a map of n cells, so many values and so many kind bytes.
 unfoldable pub lists_in : Triple → ℕ → ℕ → ℕ → Bool

@@ -3,7 +3,7 @@
 use mathlib.Core.Path.{◌≡◌, refl, ap, ◌∙◌}
 use mathlib.Core.List.{List}
 use Prim.Native.Nat.{ℕ, suc, ◌*◌, ◌/◌, ◌%◌, ◌≤◌}
-use native.Mathlib.Nat.{le_refl, mul-le-mul, mul-le-mul_right}
+use native.Mathlib.Nat.{le_refl, mul-le-mul}
 use native.Mathlib.Omega.{arith}
 use lib.ListN.{get_or, length, take}
 use Rattle.lists.specs.Lists.{tabulate, overlay}
@@ -34,10 +34,6 @@ numbered_kind s t κ n N = record {
 
 times_low : (w : ℕ) {a b : ℕ} → a ≤ b → w * a ≤ w * b
 times_low w h = mul-le-mul (le_refl w) h
-
--- The ranking takes two places for each component.
-pub rank_room : (w n l : ℕ) → 2 ≤ w → w * n ≤ l → 2 * n ≤ l
-rank_room w n l h r = omega (arith, mul-le-mul_right n h)
 
 -- There are no more numbers than components, so all rows have room.
 module _ (links keys numbers numbers' firsts places : List ℕ) (n total : ℕ) (R : AnyKind links keys (λ t κ. Ranked t κ n total numbers numbers' firsts places)) where

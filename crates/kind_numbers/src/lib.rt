@@ -31,6 +31,8 @@ pub fn number_copied(
 }
 
 // Numbers the n curves, their rows by the faces' final numbers. Not an entry.
+// Kept: apart from `number_copied`, of whose three calls one is another here. One function with a closure for it would be no plainer: it
+// takes the same seven tables and n, and needs a clause of its own for what the closure leaves.
 pub fn number_curves(
     links: &[u32],
     keys: &[u64],

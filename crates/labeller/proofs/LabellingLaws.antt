@@ -10,16 +10,18 @@ use lib.ListN.{length}
 use borrow.Author.Tests.{eqb-true, eq-eqb, ne_eqb, not-false}
 use Rattle.lists.specs.Lists.{tabulate, zeros}
 use Rattle.lists.proofs.Cases.{and_first, and_second}
-use Rattle.refusals.specs.Refusals.{unfit_size, unfit_tray, number, table, first, given_by, listed_numbers, stands_in}
+use Rattle.refusals.specs.declared.Refusal.{Refusal}
+use Rattle.refusals.specs.Refusals.{number, table, first, given_by, listed_numbers, stands_in}
 use Rattle.refusals.proofs.RefusalLaws.{given_none}
-use Rattle.cells.specs.Box.{Triple, volume}
+use Rattle.cells.specs.Box.{volume}
+use Rattle.cells.specs.declared.Triple.{Triple}
 use Rattle.cells.specs.Grid.{cells}
 use Rattle.cells.specs.Extents.{off_size}
 use Rattle.extents.proofs.SizeLaws.{sized_of, size_fits}
 use Rattle.labels.specs.Number.{numbered, code_at, map_down, labels}
 use Rattle.labels.specs.Components.{largest}
 use Rattle.labels.proofs.CountLaws.{count_down}
-use Rattle.labeller.specs.declared.Labelled.{Labelled}
+use Rattle.counts.specs.Counts.{Counted}
 use Rattle.labeller.specs.Labelling.{wrong_tray, declines, refusal_of, Ready, outcome, accepted, refused, labelling}
 
 -- ---- the ladder of refusals
@@ -34,10 +36,10 @@ pub ready_of : (e : Triple) (codes n m : ℕ) → refusal_of e codes n m ≡ 0 �
 unfolding refusal_of wrong_tray declines stands_in number
 ready_of e codes n m h =
     let none = (given_none (stands_in (declines e codes n m))).0 h in
-    let a = not-false (eqb codes (volume e) && (eqb n (cells e) && eqb m (cells e))) (none unfit_tray) in
+    let a = not-false (eqb codes (volume e) && (eqb n (cells e) && eqb m (cells e))) (none Refusal.WrongTray) in
     let b = and_second (eqb codes (volume e)) (eqb n (cells e) && eqb m (cells e)) a in
     record {
-      sized = sized_of 64 e (none unfit_size);
+      sized = sized_of 64 e (none Refusal.OffSize);
       codes_are = eqb-true _ _ (and_first (eqb codes (volume e)) (eqb n (cells e) && eqb m (cells e)) a);
       map_is = eqb-true _ _ (and_first (eqb n (cells e)) (eqb m (cells e)) b);
       work_is = eqb-true _ _ (and_second (eqb n (cells e)) (eqb m (cells e)) b);
@@ -58,7 +60,7 @@ unfolding labelling refused
 label_refused e codes m w n h z = rw (← h, ne_eqb n 0 z)
 
 pub label_accepted : (e : Triple) (codes m w : List ℕ) (n : ℕ) → n ≡ refusal_of e (length codes) (length m) (length w) → n ≡ 0
-    → (r : Labelled) (m' w' : List ℕ) → outcome r m' w' ≡ accepted e codes → outcome r m' w' ≡ labelling e codes m w
+    → (r : Counted) (m' w' : List ℕ) → outcome r m' w' ≡ accepted e codes → outcome r m' w' ≡ labelling e codes m w
 unfolding labelling
 label_accepted e codes m w n h z r m' w' q = rw (← h, eq-eqb n 0 z) q
 

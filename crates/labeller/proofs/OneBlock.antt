@@ -11,7 +11,7 @@ use Rattle.lists.specs.Lists.{zeros}
 use borrow.Author.Tests.{eq-eqb, ne_eqb}
 use Rattle.lists.proofs.Cases.{by_test}
 use Rattle.refusals.proofs.RefusalLaws.{outcome_refusal}
-use Rattle.cells.specs.Box.{Triple}
+use Rattle.cells.specs.declared.Triple.{Triple}
 use Rattle.cells.specs.Grid.{cells, order}
 use Rattle.cells.specs.Row.{active}
 use Rattle.labels.specs.Number.{labels}
@@ -19,10 +19,10 @@ use Rattle.labels.specs.Numbering.{Joined, Numbering}
 use Rattle.labels.specs.Components.{largest}
 use Rattle.labels.proofs.LabelLaws.{labels_numbering}
 use Rattle.labels.proofs.CountLaws.{Somewhere, every_number}
-use Rattle.labeller.specs.declared.Labelled.{Labelled}
+use Rattle.counts.specs.Counts.{Counted}
 use Rattle.labeller.specs.Labelling.{Outcome, outcome, refusal_of, accepted, refused, labelling}
 
-module _ (e : Triple) (codes m w : List ℕ) (r : Labelled) (m' w' : List ℕ) (promise : outcome r m' w' ≡ labelling e codes m w) where
+module _ (e : Triple) (codes m w : List ℕ) (r : Counted) (m' w' : List ℕ) (promise : outcome r m' w' ≡ labelling e codes m w) where
   -- The refusal given is the one that the table decides.
   pub label_refusal : r.refusal ≡ refusal_of e (length codes) (length m) (length w)
   unfolding labelling accepted refused

@@ -1,22 +1,24 @@
--- What `label` answers and leaves in the trays, for every input (document 01, "Numbering one block" and "What the service declines").
+-- What `label` answers and leaves in the trays, for every input.
 -- Assumes nothing.
 use Rattle.std.specs.Prelude.{◌≡◌, Bool, cond, not, ◌&&◌, List, [], ◌∷◌, ℕ, eqb, length}
 use Rattle.lists.specs.Lists.{zeros}
-use Rattle.refusals.specs.Refusals.{unfit_size, unfit_tray, Case, ◌if◌, given_refusal}
-use Rattle.cells.specs.Box.{Triple, volume}
+use Rattle.refusals.specs.declared.Refusal.{Refusal}
+use Rattle.refusals.specs.Refusals.{Case, ◌if◌, given_refusal}
+use Rattle.cells.specs.Box.{volume}
+use Rattle.cells.specs.declared.Triple.{Triple}
 use Rattle.cells.specs.Grid.{cells}
 use Rattle.cells.specs.Extents.{Sized, off_size}
 use Rattle.labels.specs.Number.{labels}
 use Rattle.labels.specs.Components.{largest}
-use Rattle.labeller.specs.declared.Labelled.{Labelled}
+use Rattle.counts.specs.Counts.{Counted}
 
 -- "The length of a tray, map, code list or table is not the stated one": codes for the voxels, map and working tray for the cells.
 unfoldable pub wrong_tray : Triple → ℕ → ℕ → ℕ → Bool
 wrong_tray e codes map work = not (eqb codes (volume e) && (eqb map (cells e) && eqb work (cells e)))
 
--- The cases of `label`, by the lengths of codes, map and working tray. "Refusal 7 is no longer given" (document 02, item 4).
+-- The cases of `label`, by the lengths of codes, map and working tray. Refusal 7 is no longer given.
 unfoldable pub declines : Triple → ℕ → ℕ → ℕ → List Case
-declines e codes map work = unfit_size if off_size 64 e ∷ unfit_tray if wrong_tray e codes map work ∷ []
+declines e codes map work = Refusal.OffSize if off_size 64 e ∷ Refusal.WrongTray if wrong_tray e codes map work ∷ []
 
 -- The refusal of a call, 0 for none.
 unfoldable pub refusal_of : Triple → ℕ → ℕ → ℕ → ℕ
@@ -24,11 +26,11 @@ refusal_of e codes map work = given_refusal (declines e codes map work)
 
 -- The answer, and what the map tray and the working tray hold.
 pub record Outcome : Type 0 where
-  pub answer : Labelled
+  pub answer : Counted
   pub map_tray : List ℕ
   pub work_tray : List ℕ
 
-abbrev pub outcome : Labelled → List ℕ → List ℕ → Outcome
+abbrev pub outcome : Counted → List ℕ → List ℕ → Outcome
 outcome r m w = record { answer = r; map_tray = m; work_tray = w }
 
 -- Accepted: the block's map, "how many faces, curves and points there are", and zeros in the working tray.

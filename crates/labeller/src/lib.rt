@@ -1,128 +1,82 @@
 // The labeller of one block.
 #![tactic(auto)]
 
-ghost use Rattle.std.specs.Prelude.{◌≡◌, ◌≤◌, length};
+ghost use Rattle.std.specs.Prelude.{◌≡◌, ◌≤◌, length, Ok};
 ghost use Rattle.lists.specs.Lists.{zeros};
-ghost use Rattle.cells.specs.Box.{triple};
+ghost use Rattle.refusals.specs.Refusals.{number_of};
+ghost use Rattle.counts.specs.Counts.{told};
 ghost use Rattle.cells.specs.Extents.{Sized};
 ghost use Rattle.cells.specs.Grid.{cells};
 ghost use Rattle.labels.specs.Number.{numbered};
 ghost use Rattle.labels.specs.Components.{largest};
 ghost use Rattle.labeller.specs.Labelling.{wrong_tray, refusal_of, Ready, outcome, accepted, labelling};
 
+use cells::Triple;
+use counts::Counts;
 use extents::{grid_cells, off_size};
 use pass_fill::fill;
 use pass_join::join_cells;
 use pass_number::number_cells;
-use refusals::{OFF_SIZE, WRONG_TRAY};
+use refusals::Refusal;
 use union_find::clear;
 
-// What a labelling answers: the number of its refusal, 0 for none, and how many faces, curves and points there are.
-#[derive(Clone, Copy)]
-pub struct Labelled {
-    pub refusal: u32,
-    pub faces: u32,
-    pub curves: u32,
-    pub points: u32,
-}
-
 // Whether the length of the codes, of the map or of the working tray is not the block's.
-fn wrong_tray(nx: usize, ny: usize, nz: usize, codes: usize, map: usize, work: usize) -> bool
-    requires { Sized 64 (triple nx ny nz) }
-    ensures { result ≡ wrong_tray (triple nx ny nz) codes map work }
+#[tactic(auto, using(cells::proofs::ExtentLaws::area_high, cells::proofs::ExtentLaws::volume_high), unfolding(crate::specs::Labelling::wrong_tray, cells::specs::Box::volume))]
+fn wrong_tray(e: Triple, codes: usize, map: usize, work: usize) -> bool
+    requires { Sized 64 e }
+    ensures { result ≡ wrong_tray e codes map work }
 {
-    if codes != nx * ny * nz {
-        return true;
-    }
-    let cells = grid_cells(nx, ny, nz);
-    if map != cells {
-        return true;
-    }
-    work != cells
+    let cells = grid_cells(e);
+    !(codes == e.x * e.y * e.z && map == cells && work == cells)
 }
 
-// The number of the refusal, the lowest that applies, and 0 for none.
-fn refusal(codes: usize, nx: usize, ny: usize, nz: usize, map: usize, work: usize) -> u32
-    ensures { result ≡ refusal_of (triple nx ny nz) codes map work }
+// What refuses a call, by the lengths of its codes and trays: the refusal of the lowest number that applies.
+#[tactic(auto, using(crate::proofs::LabellingLaws::refusal_is, extents::proofs::SizeLaws::sized_of), unfolding(refusals::specs::Refusals::number))]
+fn judge(codes: usize, e: Triple, map: usize, work: usize) -> Result<(), Refusal>
+    ensures { number_of result ≡ refusal_of e codes map work }
 {
-    if off_size(64, nx, ny, nz) {
-        return OFF_SIZE;
+    if off_size(64, e) {
+        return Err(Refusal::OffSize);
     }
-    if wrong_tray(nx, ny, nz, codes, map, work) {
-        return WRONG_TRAY;
+    if wrong_tray(e, codes, map, work) {
+        return Err(Refusal::WrongTray);
     }
-    0
+    Ok(())
 }
 
 // Numbers the components of order j over the map of the orders above, and answers how many there are. The links are zeros before and after.
-fn number_order(
-    map: &mut [u32],
-    nx: usize,
-    ny: usize,
-    nz: usize,
-    j: usize,
-    links: &mut [u32],
-) -> u32
-    requires { Sized 64 (triple nx ny nz) × (length map.old ≡ cells (triple nx ny nz)) × (links.old ≡ zeros (cells (triple nx ny nz))) × (j ≤ 2) }
-    ensures numbers { map.new ≡ numbered (triple nx ny nz) j map.old }
-    ensures total { result ≡ largest (triple nx ny nz) (numbered (triple nx ny nz) j map.old) j }
-    ensures cleared { links.new ≡ zeros (cells (triple nx ny nz)) }
+fn number_order(map: &mut [u32], e: Triple, j: usize, links: &mut [u32]) -> u32
+    requires { Sized 64 e × (length map.old ≡ cells e) × (links.old ≡ zeros (cells e)) × (j ≤ 2) }
+    ensures numbers { map.new ≡ numbered e j map.old }
+    ensures total { result ≡ largest e (numbered e j map.old) j }
+    ensures cleared { links.new ≡ zeros (cells e) }
 {
-    join_cells(map, nx, ny, nz, j, links);
-    number_cells(map, nx, ny, nz, j, links)
+    join_cells(map, e, j, links);
+    number_cells(map, e, j, links)
 }
 
 // Labels a block that is not refused.
-fn label_block(
-    codes: &[u32],
-    nx: usize,
-    ny: usize,
-    nz: usize,
-    map: &mut [u32],
-    work: &mut [u32],
-) -> Labelled
-    requires { Ready (triple nx ny nz) (length codes.now) (length map.old) (length work.old) }
-    ensures { outcome result map.new work.new ≡ accepted (triple nx ny nz) codes.now }
+fn label_block(codes: &[u32], e: Triple, map: &mut [u32], work: &mut [u32]) -> Counts
+    requires { Ready e (length codes.now) (length map.old) (length work.old) }
+    ensures { outcome (told (Ok result)) map.new work.new ≡ accepted e codes.now }
 {
-    fill(codes, nx, ny, nz, map);
+    fill(codes, e, map);
     clear(work);
-    let faces = number_order(map, nx, ny, nz, 2, work);
-    let curves = number_order(map, nx, ny, nz, 1, work);
+    let faces = number_order(map, e, 2, work);
+    let curves = number_order(map, e, 1, work);
     // Point cells never meet: there is nothing to join.
-    let points = number_cells(map, nx, ny, nz, 0, work);
-    Labelled {
-        refusal: 0,
-        faces: faces,
-        curves: curves,
-        points: points,
+    let points = number_cells(map, e, 0, work);
+    Counts {
+        faces,
+        curves,
+        points,
     }
 }
 
-// Labels a block of nx, ny and nz voxels: the codes, x fastest, into the map. The working tray is left with zeros.
-pub fn label(
-    codes: &[u32],
-    nx: u16,
-    ny: u16,
-    nz: u16,
-    map: &mut [u32],
-    work: &mut [u32],
-) -> Labelled
-    ensures { outcome result map.new work.new
-        ≡ labelling (triple nx ny nz) codes.now map.old work.old }
+// Labels a block of these extents: the codes, x fastest, into the map. The working tray is left with zeros.
+pub fn label(codes: &[u32], e: Triple, map: &mut [u32], work: &mut [u32]) -> Result<Counts, Refusal>
+    ensures { outcome (told result) map.new work.new ≡ labelling e codes.now map.old work.old }
 {
-    let x = nx as usize;
-    let y = ny as usize;
-    let z = nz as usize;
-    let n = map.len();
-    let m = work.len();
-    let number = refusal(codes.len(), x, y, z, n, m);
-    if number != 0 {
-        return Labelled {
-            refusal: number,
-            faces: 0,
-            curves: 0,
-            points: 0,
-        };
-    }
-    label_block(codes, x, y, z, map, work)
+    judge(codes.len(), e, map.len(), work.len())?;
+    Ok(label_block(codes, e, map, work))
 }

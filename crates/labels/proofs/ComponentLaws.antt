@@ -12,7 +12,7 @@ use borrow.Author.Tests.{eqb-true, eq-eqb}
 use Rattle.lists.specs.Lists.{consecutive}
 use Rattle.lists.proofs.Lists.{keep_in, keep_out, consecutive_in, consecutive_out, Ascends, ascends_consecutive, ascends_keep, ascends_le}
 use Rattle.lists.proofs.Tests.{first_in_lem}
-use Rattle.cells.specs.Box.{Triple}
+use Rattle.cells.specs.declared.Triple.{Triple}
 use Rattle.cells.specs.Grid.{cells, order}
 use Rattle.labels.specs.Components.{of_order, component, first_cell}
 

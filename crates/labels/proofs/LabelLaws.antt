@@ -12,7 +12,9 @@ use lib.Seq.{ext_get_or}
 use borrow.Author.Tests.{eqb-true, eqb-false, eq-eqb, ne_eqb, ltb-true, ltb-false}
 use Rattle.lists.proofs.Cases.{by_test}
 use Rattle.lists.proofs.Lists.{length-tabulate, get_or_tabulate, map_same}
-use Rattle.cells.specs.Box.{Triple, X, Y, Z, stride}
+use Rattle.cells.specs.Box.{stride}
+use Rattle.cells.specs.declared.Axis.TheVariants.{X, Y, Z}
+use Rattle.cells.specs.declared.Triple.{Triple}
 use Rattle.cells.specs.Grid.{sides, cells, parity, order, along, upper_neighbours, voxel}
 use Rattle.cells.specs.Row.{row_of, occupied, row, active}
 use Rattle.labels.specs.Number.{number, numbered_at, numbered, code_at, map_down, labels}

@@ -16,7 +16,7 @@ use Rattle.lists.proofs.Lists.{keep_in, keep_out, consecutive_in, consecutive_ou
 use Rattle.closure.specs.Joined.{Edge, edge, Linked, stay, along, back, via, rep}
 use Rattle.closure.proofs.Classes.{rep_low, rep_idem, rep_path, path_rep, path_to_rep}
 use Rattle.closure.proofs.Numbers.{path_act, path_alone, Leaders, label_off, label_is, label_same, label_inj, label_earlier}
-use Rattle.cells.specs.Box.{Triple}
+use Rattle.cells.specs.declared.Triple.{Triple}
 use Rattle.cells.specs.Grid.{cells, order, upper_neighbours}
 use Rattle.cells.specs.Row.{row, active, occupied, same_row}
 use Rattle.cells.proofs.GridLaws.{Upper, upper_neighbour}

@@ -16,7 +16,9 @@ use Rattle.lists.proofs.Cases.{by_test}
 use Rattle.lists.proofs.Lists.{length-keep, length-consecutive, get_or-consecutive}
 use Rattle.closure.specs.Numbered.{count_below}
 use Rattle.closure.proofs.Numbers.{count_same, count_rest, keep_count}
-use Rattle.cells.specs.Box.{Triple, X, Y, Z, triple, volume, index}
+use Rattle.cells.specs.Box.{triple, volume, index}
+use Rattle.cells.specs.declared.Axis.TheVariants.{X, Y, Z}
+use Rattle.cells.specs.declared.Triple.{Triple}
 use Rattle.cells.specs.Extents.{Sized}
 use Rattle.cells.specs.Grid.{sides, cells, order}
 use Rattle.cells.proofs.BoxLaws.{Inside}

@@ -9,7 +9,7 @@ use native.Mathlib.Omega.{arith}
 use lib.ListN.{get_or}
 use borrow.Author.Tests.{ne_eqb}
 use Rattle.lists.proofs.Lists.{map_same}
-use Rattle.cells.specs.Box.{Triple}
+use Rattle.cells.specs.declared.Triple.{Triple}
 use Rattle.cells.specs.Grid.{cells, order, upper_neighbours, voxel}
 use Rattle.cells.specs.Row.{row_of, row, occupied, active}
 use Rattle.cells.proofs.GridLaws.{upper_neighbour}

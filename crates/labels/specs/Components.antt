@@ -3,7 +3,7 @@
 -- Assumes nothing.
 use mathlib.Core.List.{List, [], ◌∷◌, map, foldr}
 use Rattle.std.specs.Prelude.{ℕ, max, eqb, get_or}
-use Rattle.cells.specs.Box.{Triple}
+use Rattle.cells.specs.declared.Triple.{Triple}
 use Rattle.cells.specs.Row.{row_of, row}
 use Rattle.cells.specs.Grid.{cells, order}
 use Rattle.lists.specs.Lists.{consecutive, keep}

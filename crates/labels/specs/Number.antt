@@ -5,7 +5,7 @@ use Rattle.std.specs.Prelude.{Bool, cond, ◌&&◌, List, [], ◌∷◌, ◌++�
 use Rattle.lists.specs.Lists.{consecutive, tabulate, keep}
 use Rattle.closure.specs.Joined.{Edge, edge, rep}
 use Rattle.closure.specs.Numbered.{label}
-use Rattle.cells.specs.Box.{Triple}
+use Rattle.cells.specs.declared.Triple.{Triple}
 use Rattle.cells.specs.Grid.{cells, order, upper_neighbours, voxel}
 use Rattle.cells.specs.Row.{row, active, same_row}
 

@@ -2,7 +2,7 @@
 -- Assumes nothing.
 use Rattle.std.specs.Prelude.{◌≡◌, ◌⊎◌, ◌≢◌, List, [], ◌∷◌, map, ℕ, ◌<◌, get_or}
 use Rattle.lists.specs.Lists.{nonzero}
-use Rattle.cells.specs.Box.{Triple}
+use Rattle.cells.specs.declared.Triple.{Triple}
 use Rattle.cells.specs.Grid.{cells, order, upper_neighbours, voxel}
 use Rattle.cells.specs.Row.{row_of, row}
 use Rattle.labels.specs.Number.{labels}

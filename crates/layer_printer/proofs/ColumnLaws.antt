@@ -9,7 +9,7 @@ use native.Mathlib.Omega.{arith}
 use lib.Dec.{eqb, ltb}
 use lib.ListN.{length, get_or, replicate, length-append, replicate-append-replicate, get_or-replicate}
 use borrow.Author.Tests.{ltb-true, ltb-false, eqb-true, eqb-false, eq-eqb, ne_eqb, lt-ltb, le-ltb}
-use Rattle.lists.specs.Lists.{all_of, laid}
+use Rattle.lists.specs.Lists.{all_of}
 use Rattle.lists.proofs.Cases.{by_test}
 use Rattle.lists.proofs.Lists.{get_or-in}
 use Rattle.lists.proofs.Tests.{all_out}
@@ -25,11 +25,7 @@ unfoldable columns : ℕ → ℕ → List ℕ
 columns zero n = []
 columns (suc w) n = columns w (n / 10) ++ (column_byte n ∷ [])
 
-pub column_none : (n : ℕ) → n ≡ 0 → 32 ≡ column_byte n
-unfolding column_byte
-column_none n e = rw (eq-eqb n 0 e)
-
-pub column_digit : (n : ℕ) → (n ≡ 0 → ⊥) → 48 + n % 10 ≡ column_byte n
+column_digit : (n : ℕ) → (n ≡ 0 → ⊥) → 48 + n % 10 ≡ column_byte n
 unfolding column_byte
 column_digit n d = rw (ne_eqb n 0 d)
 
@@ -104,10 +100,6 @@ module _ (n : ℕ) where
       let p : 0 < n = omega arith in
       by_test (ltb 99999 n) (λ u. rw (cell_large (ltb-true 99999 n u)) b)
       (λ u. let h : n ≤ 99999 = ltb-false 99999 n u in rw (cell_number_lem p h) (c p h)))
-
--- what is laid for a cell, by the way that its number goes
-pub cell_laid : (at n : ℕ) (t u five : List ℕ) → cell_columns n ≡ five → u ≡ laid at five t → u ≡ laid at (cell_columns n) t
-cell_laid at n t u five e i = rw e i
 
 module _ (line : List ℕ) (x : ℕ) where
   -- "Places beyond the grid are blank."

@@ -9,7 +9,7 @@ use lib.ListN.{length, get_or, take, drop, set, replicate, length-append, length
 use borrow.Author.Tests.{ltb-true, ltb-false}
 use Rattle.lists.specs.Lists.{consecutive, laid}
 use Rattle.lists.proofs.Cases.{by_test}
-use Rattle.lists.proofs.Laid.{laid_none, laid_next, laid_more, laid_front}
+use Rattle.lists.proofs.Laid.{laid_next, laid_more, laid_front}
 use Rattle.lists.proofs.Pieces.{length-pieces, pieces_next, pieces_none, pieces_laid}
 use Rattle.layer_printer.specs.Printed.{cell_columns, place_columns, first_places, page_line, cell_line, page, page_count, pages}
 use Rattle.layer_printer.proofs.ColumnLaws.{place_beyond, place_cell, place_five}
@@ -84,13 +84,6 @@ module _ (line : List ℕ) (p : ℕ) where
       j ∙ ap (laid (at + 5 * n) (replicate (80 - 5 * n) 32)) i ∙ laid_next at (at + 5 * n) (first_places line p n) (replicate (80 - 5 * n) 32) t (omega arith) (omega arith)
       ∙ ap (λ (l : List ℕ). laid at l t) (sym (places_all n e)) in
       rw whole (laid_more at 80 10 (first_places line p 16) t (places_length line p 16) (omega arith))
-
--- spaces, one by one
-pub spaces_none : (at : ℕ) (t : List ℕ) → at ≤ length t → t ≡ laid at (replicate 0 32) t
-spaces_none at t h = laid_none at t h
-
-pub spaces_next : (at : ℕ) (t : List ℕ) (i : ℕ) (u : List ℕ) → at + i < length t → u ≡ laid at (replicate i 32) t → set u (at + i) 32 ≡ laid at (replicate (i + 1) 32) t
-spaces_next at t i u h e = rw e (laid_more at i 32 (replicate i 32) t (length-replicate i 32) h ∙ ap (λ (l : List ℕ). laid at l t) (replicate-append-replicate i 1 32))
 
 -- ---- a page, line by line
 

@@ -12,7 +12,9 @@ use borrow.Author.Tests.{eqb-true, eqb-false, eq-eqb, ne_eqb, ltb-true, ltb-fals
 use Rattle.lists.proofs.Cases.{by_test}
 use Rattle.lists.proofs.Overlay.{row_place}
 use Rattle.lists.proofs.Pieces.{pieces_at}
-use Rattle.cells.specs.Box.{Triple, X, Y, Z, triple, volume, index, place}
+use Rattle.cells.specs.Box.{triple, volume, index, place}
+use Rattle.cells.specs.declared.Axis.TheVariants.{X, Y, Z}
+use Rattle.cells.specs.declared.Triple.{Triple}
 use Rattle.cells.proofs.BoxLaws.{Inside, index_place, place_index, place_inside, index_inside}
 use Rattle.layer_printer.specs.Printed.{cell_columns, place_columns, first_places, page_line, cell_line, page, page_count, pages}
 use Rattle.layer_printer.specs.Places.{byte_box, Owner, of_cell, of_blank, line_end, IsOwner, column_at, place_of, column_owner, owner_at, owner_byte, is_column, LaidOut}

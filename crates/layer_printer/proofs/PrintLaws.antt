@@ -10,9 +10,10 @@ use lib.ListN.{length, take, drop, length-take, length-drop}
 use borrow.Author.Tests.{eqb-true, eq-eqb, ne_eqb, le-leb, lt-leb, leb-false, not-false}
 use Rattle.lists.proofs.Cases.{neither}
 use Rattle.lists.proofs.Overlay.{listed_room}
-use Rattle.refusals.specs.Refusals.{unfit_size, no_such_place, unfit_tray, number, table, first, given_by, listed_numbers, stands_in}
-use Rattle.refusals.proofs.RefusalLaws.{given_none}
-use Rattle.cells.specs.Box.{Triple}
+use Rattle.refusals.specs.declared.Refusal.{Refusal}
+use Rattle.refusals.specs.Refusals.{number, table, first, given_by, listed_numbers, stands_in}
+use Rattle.refusals.proofs.RefusalLaws.{given_none, number_nonzero}
+use Rattle.cells.specs.declared.Triple.{Triple}
 use Rattle.cells.specs.Extents.{Sized, off_size}
 use Rattle.cells.specs.Grid.{sides, cells}
 use Rattle.cells.proofs.ExtentLaws.{cells_are}
@@ -63,10 +64,10 @@ module _ (e : Triple) (z : ℕ) (m : List ℕ) (tray : ℕ) where
       let none = (given_none (stands_in (declines e z m tray))).0 n in
       let a = not (eqb (length m) (cells e)) in
       let b = not (eqb tray (length (printed_layer e z m))) in
-      let w = neither a b (none unfit_tray) in
+      let w = neither a b (none Refusal.WrongTray) in
       record {
-        sized = sized_of 64 e (none unfit_size);
-        there = leb-false (2 * e.z - 1) z (none no_such_place);
+        sized = sized_of 64 e (none Refusal.OffSize);
+        there = leb-false (2 * e.z - 1) z (none Refusal.NoSuchPlace);
         mapped = eqb-true _ _ (not-false _ w.0);
         fits = eqb-true _ _ (not-false _ w.1) ∙ printed_length e z m;
       }
@@ -92,16 +93,16 @@ layer_whole e z m tray r = record {
 
 -- ---- the ways of `print_layer`
 
-module _ (e : Triple) (z : ℕ) (m t : List ℕ) (n : ℕ) (h : n ≡ refusal_of e z m (length t)) where
-  pub print_refused : (n ≡ 0 → ⊥) → outcome n t ≡ layer_printing e z m t
+module _ (e : Triple) (z : ℕ) (m t : List ℕ) where
+  pub print_refused : (r : Refusal) → number r ≡ refusal_of e z m (length t) → layer_printing e z m t ≡ outcome (number r) t
   unfolding layer_printing refused
-  print_refused d = rw (← h, ne_eqb n 0 d)
+  print_refused r h = rw (← h, number_nonzero r)
 
-  pub print_accepted : (u : List ℕ) → n ≡ 0 → u ≡ pages (2 * e.x - 1) (2 * e.y - 1) (layer_part e z m) → outcome 0 u ≡ layer_printing e z m t
+  pub print_accepted : (u : List ℕ) → 0 ≡ refusal_of e z m (length t) → u ≡ pages (2 * e.x - 1) (2 * e.y - 1) (layer_part e z m) → outcome 0 u ≡ layer_printing e z m t
   unfolding layer_printing accepted printed_layer map_layer sides
-  print_accepted u i j =
+  print_accepted u h j =
       let c : layer_cells e * z + layer_cells e - layer_cells e * z ≡ layer_cells e = omega arith in
-      rw (← h, eq-eqb n 0 i) (ap (outcome 0) (j ∙ rw c))
+      rw (← h) (ap (outcome 0) (j ∙ rw c))
 
 -- The numbers that `print_layer` lists, in the order of the table.
 pub layer_listed : (e : Triple) (z : ℕ) (m : List ℕ) (tray : ℕ) → listed_numbers (declines e z m tray) ≡ 1 ∷ 4 ∷ 6 ∷ []

@@ -10,7 +10,8 @@ use lib.Seq.{get_or-take, get_or-drop}
 use borrow.Author.Tests.{eq-eqb, ne_eqb}
 use Rattle.lists.proofs.Overlay.{row_place, listed_room}
 use Rattle.refusals.proofs.RefusalLaws.{outcome_refusal}
-use Rattle.cells.specs.Box.{Triple, index}
+use Rattle.cells.specs.Box.{index}
+use Rattle.cells.specs.declared.Triple.{Triple}
 use Rattle.cells.specs.Grid.{sides, cells}
 use Rattle.layer_printer.specs.Printed.{cell_line, map_layer, printed_layer}
 use Rattle.layer_printer.specs.Printing.{refusal_of, Outcome, outcome, accepted, refused, layer_printing}

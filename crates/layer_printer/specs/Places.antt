@@ -2,7 +2,8 @@
 -- Assumes nothing.
 use Rattle.std.specs.Prelude.{◌≡◌, Bool, true, cond, ◌||◌, List, ℕ, ◌+◌, ◌*◌, ◌/◌, ◌%◌, ◌≤◌, ◌<◌, eqb, ltb, length, get_or, take, drop}
 use Rattle.decimals.specs.Decimals.{digit}
-use Rattle.cells.specs.Box.{Triple, triple, index, place}
+use Rattle.cells.specs.Box.{triple, index, place}
+use Rattle.cells.specs.declared.Triple.{Triple}
 use Rattle.cells.specs.Grid.{sides}
 use Rattle.layer_printer.specs.Printed.{cell_columns, page_count}
 

@@ -4,7 +4,7 @@ use Rattle.std.specs.Prelude.{cond, ℕ, ◌+◌, ◌-◌, ◌*◌, ◌/◌, eqb
 use mathlib.Core.List.{List, [], ◌∷◌, ◌++◌, flat_map}
 use Rattle.lists.specs.Lists.{consecutive}
 use Rattle.decimals.specs.Decimals.{decimal_digits}
-use Rattle.cells.specs.Box.{Triple}
+use Rattle.cells.specs.declared.Triple.{Triple}
 use Rattle.cells.specs.Grid.{sides}
 
 -- "Right-aligned in 5 columns": spaces before a text of at most five bytes.

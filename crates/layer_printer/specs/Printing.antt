@@ -1,8 +1,9 @@
 -- What `print_layer` answers and leaves in the tray, for every input (document 02, item 2).
 -- Assumes nothing.
 use Rattle.std.specs.Prelude.{cond, not, ◌||◌, List, [], ◌∷◌, ℕ, eqb, leb, length}
-use Rattle.refusals.specs.Refusals.{unfit_size, no_such_place, unfit_tray, Case, ◌if◌, given_refusal}
-use Rattle.cells.specs.Box.{Triple}
+use Rattle.refusals.specs.declared.Refusal.{Refusal}
+use Rattle.refusals.specs.Refusals.{Case, ◌if◌, given_refusal}
+use Rattle.cells.specs.declared.Triple.{Triple}
 use Rattle.cells.specs.Extents.{off_size}
 use Rattle.cells.specs.Grid.{sides, cells}
 use Rattle.layer_printer.specs.Printed.{printed_layer}
@@ -11,8 +12,8 @@ use Rattle.layer_printer.specs.Printed.{printed_layer}
 -- length than the pages". The tray goes in by its length.
 unfoldable pub declines : Triple → ℕ → List ℕ → ℕ → List Case
 declines e z m tray =
-    unfit_size if off_size 64 e ∷ no_such_place if leb (sides e).z z ∷
-    unfit_tray if (not (eqb (length m) (cells e)) || not (eqb tray (length (printed_layer e z m)))) ∷ []
+    Refusal.OffSize if off_size 64 e ∷ Refusal.NoSuchPlace if leb (sides e).z z ∷
+    Refusal.WrongTray if (not (eqb (length m) (cells e)) || not (eqb tray (length (printed_layer e z m)))) ∷ []
 
 -- The refusal of a call, 0 for none.
 unfoldable pub refusal_of : Triple → ℕ → List ℕ → ℕ → ℕ

@@ -10,7 +10,10 @@ use native.Mathlib.Omega.{arith}
 use lib.Dec.{eqb}
 use Rattle.lists.specs.Lists.{consecutive, some_of}
 use Rattle.closure.specs.Joined.{Edge, edge}
-use Rattle.cells.specs.Box.{Axis, Triple, coord, index, place, volume, X, Y, Z}
+use Rattle.cells.specs.Box.{coord, index, place, volume}
+use Rattle.cells.specs.declared.Axis.{Axis}
+use Rattle.cells.specs.declared.Axis.TheVariants.{X, Y, Z}
+use Rattle.cells.specs.declared.Triple.{Triple}
 use Rattle.cells.specs.Grid.{cells, sides}
 use Rattle.cutting.specs.Cutting.{Cutting, block_extents, block_sides, blocks, cuts, embed, good_cut, high_end, interval, intervals, low_end, origin, seam}
 use Rattle.joiner.specs.Stages.{seam_axis, shared}

@@ -3,7 +3,10 @@
 use Rattle.std.specs.Prelude.{cond, List, [], ◌∷◌, ◌++◌, map, ℕ, ◌-◌, eqb}
 use Rattle.lists.specs.Lists.{consecutive}
 use Rattle.closure.specs.Joined.{Edge, edge}
-use Rattle.cells.specs.Box.{Triple, Axis, X, Y, Z, triple, coord, index}
+use Rattle.cells.specs.Box.{triple, coord, index}
+use Rattle.cells.specs.declared.Axis.{Axis}
+use Rattle.cells.specs.declared.Axis.TheVariants.{X, Y, Z}
+use Rattle.cells.specs.declared.Triple.{Triple}
 use Rattle.cells.specs.Grid.{sides}
 
 -- The axis of a seam by number (`seam_axis`).

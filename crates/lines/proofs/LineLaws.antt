@@ -14,7 +14,10 @@ use borrow.Author.Tests.{eqb-true, eqb-false, eq-eqb, ne_eqb, ltb-true, ltb-fals
 use Rattle.lists.specs.Lists.{consecutive, keep}
 use Rattle.lists.proofs.Cases.{by_test, picked}
 use Rattle.lists.proofs.Lists.{consecutive_split}
-use Rattle.cells.specs.Box.{Triple, Axis, X, Y, Z, triple, coord, stride, volume, index, place}
+use Rattle.cells.specs.Box.{triple, coord, stride, volume, index, place}
+use Rattle.cells.specs.declared.Axis.{Axis}
+use Rattle.cells.specs.declared.Axis.TheVariants.{X, Y, Z}
+use Rattle.cells.specs.declared.Triple.{Triple}
 use Rattle.cells.specs.Extents.{Sized}
 use Rattle.cells.specs.Grid.{sides, cells, parity, order, along, upper_neighbours}
 use Rattle.cells.proofs.BoxLaws.{index_place, raised, lowered, index_raised, index_lowered}

@@ -10,7 +10,8 @@ use lib.Dec.{eqb}
 use borrow.Author.Tests.{eq-eqb, ne_eqb}
 use Rattle.lists.specs.Lists.{consecutive, keep}
 use Rattle.lists.proofs.Lists.{keep_append}
-use Rattle.cells.specs.Box.{Triple, stride}
+use Rattle.cells.specs.Box.{stride}
+use Rattle.cells.specs.declared.Triple.{Triple}
 use Rattle.cells.specs.Extents.{Sized}
 use Rattle.cells.specs.Grid.{sides, cells, order}
 use Rattle.cells.proofs.ExtentLaws.{cells_high}
@@ -109,15 +110,52 @@ module _ {e : Triple} {n l : ℕ} {r : Line} (L : LineAt e n l r) where
     unfolding ahead
     cells_last {x} h = rw (L.base, L.width) (line_end T x (omega (arith, L.width)))
 
+-- A pass over a line cell by cell: the k-th one lies at an even distance from the first.
+unfoldable pub rest_of : (ℕ → Bool) → Line → ℕ → List ℕ
+rest_of f r k = ahead f r (r.start + 2 * k)
+
+module _ {e : Triple} {n l : ℕ} {r : Line} (L : LineAt e n l r) where
+  pub cell_within : {k : ℕ} → k < r.count → r.start + 2 * k < r.width
+  cell_within h = omega (arith, L.count)
+
+  pub cell_walks : (k : ℕ) → Walking e n l (r.start + 2 * k)
+  cell_walks k = walk_even L (omega arith) (omega arith)
+
+  -- The sums of a turn fit, and a list with a place for each cell has this one.
+  module _ {k : ℕ} (h : k < r.count) where
+    pub cell_sum : Sized 64 e → l < line_count e → r.base + (r.start + 2 * k) < 2 ^ 64
+    cell_sum s b = walk_sum L (r.start + 2 * k) (cell_within h) s b
+
+    pub cell_step : Sized 64 e → l < line_count e → r.start + 2 * k < 2 ^ 64
+    cell_step s b = omega (arith, cell_sum s b)
+
+    pub cell_read : l < line_count e → {m : ℕ} → m ≡ cells e → r.base + (r.start + 2 * k) < m
+    cell_read b i = walk_read L (r.start + 2 * k) (cell_within h) b i
+
+  module _ {f : ℕ → Bool} (T : Tests f (l * (sides e).x) (sides e).x n (line_y e l + line_z e l)) where
+    pub cell_first : keep f (consecutive (l * (sides e).x) (sides e).x) ≡ rest_of f r 0
+    unfolding rest_of
+    cell_first = let i : r.start + 2 * 0 ≡ r.start = omega arith in rw i (cells_first L T)
+
+    pub cell_next : {k : ℕ} → k < r.count → rest_of f r k ≡ (r.base + (r.start + 2 * k)) ∷ rest_of f r (k + 1)
+    unfolding rest_of
+    cell_next {k} h =
+        let i : r.start + 2 * (k + 1) ≡ r.start + 2 * k + 2 = omega arith in
+        rw i (cells_next L T (cell_walks k) (cell_within h))
+
+    pub cell_last : {k : ℕ} → r.count ≤ k → rest_of f r k ≡ []
+    unfolding rest_of
+    cell_last h = cells_last L T (omega (arith, L.count))
+
 -- The strides of the cell at x.
 pub walk_strided : {e : Triple} {n l x : ℕ} {r : StridedLine} → StridedAt e n l r → Walking e n l x → x < r.line.width → 0 < n
-    → Strided e (r.line.base + x) n r.first r.line.width r.last
+    → Strided e (r.line.base + x) n r.strides.first r.strides.middle r.strides.last
 unfolding stride
 walk_strided {e} {n} {l} {x} {r} S W h g =
     let L = S.line in
     let k : x < (sides e).x = omega (arith, L.width) in
     let p = W.passes k in
-    rw (S.first, S.last, L.base, L.width, L.start, first_parity n (line_y e l + line_z e l) (sides e).x x p) (line_strides e l x n k g p)
+    rw (S.first, S.middle, S.last, L.base, L.start, first_parity n (line_y e l + line_z e l) (sides e).x x p) (line_strides e l x n k g p)
 
 -- All cells, those of the next line, and none past the last line.
 module _ (f : ℕ → Bool) (e : Triple) where

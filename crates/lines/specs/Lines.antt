@@ -1,7 +1,9 @@
 -- Cells line by line: line l holds the cells from l times the grid's width on, and all of them have the same parity on y and z.
 -- Assumes nothing.
 use Rattle.std.specs.Prelude.{ℕ, zero, suc, ◌+◌, ◌-◌, ◌*◌, ◌/◌, ◌%◌, ◌≡◌, cond, List, [], ◌∷◌, ◌++◌, eqb}
-use Rattle.cells.specs.Box.{Triple, X, Y, Z, stride}
+use Rattle.cells.specs.Box.{stride}
+use Rattle.cells.specs.declared.Axis.TheVariants.{X, Y, Z}
+use Rattle.cells.specs.declared.Triple.{Triple}
 use Rattle.cells.specs.Grid.{sides, parity}
 use Rattle.cells.specs.Steps.{step_at, step_length}
 use Rattle.lines.specs.declared.Line.{Line}
@@ -56,9 +58,11 @@ pub record LineAt (e : Triple) (n l : ℕ) (r : Line) : Type 0 where
   pub width : r.width ≡ (sides e).x
   pub base : r.base ≡ l * (sides e).x
   pub start : r.start ≡ first_x n (line_y e l + line_z e l) (sides e).x
+  pub count : r.count ≡ (r.width - r.start + 1) / 2
 
 -- .. with their strides.
 pub record StridedAt (e : Triple) (n l : ℕ) (r : StridedLine) : Type 0 where
   pub line : LineAt e n l r.line
-  pub first : r.first ≡ first_stride r.line.start (line_y e l) (stride (sides e) Y) (stride (sides e) Z)
-  pub last : r.last ≡ last_stride (line_z e l) (stride (sides e) Y) (stride (sides e) Z)
+  pub first : r.strides.first ≡ first_stride r.line.start (line_y e l) (stride (sides e) Y) (stride (sides e) Z)
+  pub middle : r.strides.middle ≡ stride (sides e) Y
+  pub last : r.strides.last ≡ last_stride (line_z e l) (stride (sides e) Y) (stride (sides e) Z)

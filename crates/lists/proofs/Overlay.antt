@@ -18,14 +18,14 @@ use Rattle.lists.proofs.Cases.{by_test}
 use Rattle.lists.proofs.Lists.{length-tabulate, get_or_tabulate, tabulate_zeros, front_more}
 
 -- no place, one more, all
-pub overlay_none : (xs : List ℕ) (from : ℕ) (f : ℕ → ℕ) → xs ≡ overlay xs from f 0
+pub overlay_none : {A : Type 0} (xs : List A) (from : ℕ) (f : ℕ → A) → xs ≡ overlay xs from f 0
 unfolding overlay
 overlay_none xs from f = refl
 
-pub overlay_end : (xs : List ℕ) (from : ℕ) (f : ℕ → ℕ) (i n : ℕ) (ys : List ℕ) → i ≤ n → n ≤ i → ys ≡ overlay xs from f i → ys ≡ overlay xs from f n
+pub overlay_end : {A : Type 0} (xs : List A) (from : ℕ) (f : ℕ → A) (i n : ℕ) (ys : List A) → i ≤ n → n ≤ i → ys ≡ overlay xs from f i → ys ≡ overlay xs from f n
 overlay_end xs from f i n ys h k e = let s : i ≡ n = omega arith in e ∙ ap (overlay xs from f) s
 
-pub overlay_next : (xs : List ℕ) (from : ℕ) (f : ℕ → ℕ) (n v : ℕ) (ys : List ℕ) → ys ≡ overlay xs from f n → v ≡ f n → set ys (from + n) v ≡ overlay xs from f (n + 1)
+pub overlay_next : {A : Type 0} (xs : List A) (from : ℕ) (f : ℕ → A) (n : ℕ) (v : A) (ys : List A) → ys ≡ overlay xs from f n → v ≡ f n → set ys (from + n) v ≡ overlay xs from f (n + 1)
 unfolding overlay
 overlay_next xs from f n v ys e i = rw (add-one n, e, i)
 

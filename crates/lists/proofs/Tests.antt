@@ -12,7 +12,7 @@ use lib.ListN.{get_or}
 use borrow.Author.Tests.{eqb-true, eqb-false, eq-eqb, not-true, not-false}
 use Rattle.lists.specs.Lists.{consecutive, keep, all_of, some_of, is_in}
 use Rattle.lists.proofs.Lists.{consecutive_in, consecutive_out}
-use Rattle.lists.proofs.Cases.{by_test, and_first, and_second, and_both, neither, or_left, or_right}
+use Rattle.lists.proofs.Cases.{by_test, and_first, and_second, and_both, neither, or_on_left, or_on_right}
 
 module _ {A : Type 0} where
   pub all_in : (f : A → Bool) (l : List A) → ((x : A) → Memᴰ x l → f x ≡ true) → all_of f l ≡ true
@@ -48,8 +48,8 @@ module _ {A : Type 0} where
   some_true f (x ∷ l) {d} m t = go (Memᴰ.cases_cons m) (λ k. some_true f l k t)
     where
       go : (d ≡ x) ⊎ Memᴰ d l → (Memᴰ d l → some_of f l ≡ true) → (f x || some_of f l) ≡ true
-      go (inl e) ih = or_left (f x) (some_of f l) (ap f (sym e) ∙ t)
-      go (inr k) ih = or_right (f x) (some_of f l) (ih k)
+      go (inl e) ih = or_on_left (f x) (some_of f l) (ap f (sym e) ∙ t)
+      go (inr k) ih = or_on_right (f x) (some_of f l) (ih k)
 
   pub some_where : (f : A → Bool) (l : List A) → some_of f l ≡ true → (d : A) × Memᴰ d l × (f d ≡ true)
   some_where f [] t = absurd (true≢false (sym t))

@@ -38,7 +38,7 @@ unfoldable pub is_in : List ℕ → ℕ → Bool
 is_in xs x = some_of (λ y. eqb y x) xs
 
 -- xs with n places from `from` on written: f i at from + i.
-unfoldable pub overlay : List ℕ → ℕ → (ℕ → ℕ) → ℕ → List ℕ
+unfoldable pub overlay : {A : Type 0} → List A → ℕ → (ℕ → A) → ℕ → List A
 overlay xs from f zero = xs
 overlay xs from f (suc n) = set (overlay xs from f n) (from + n) (f n)
 

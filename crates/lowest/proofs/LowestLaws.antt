@@ -7,11 +7,14 @@ use Prim.Native.Nat.{ℕ, zero, suc, ◌+◌, ◌-◌, ◌*◌, ◌/◌, ◌%◌
 use native.Mathlib.Nat.{mul-le-mul_right, mul-pos, div-div-eq-div-mul}
 use native.Mathlib.Omega.{arith}
 use lib.Dec.{eqb, leb}
-use borrow.Author.Tests.{eq-eqb, ne_eqb, lt-leb, leb-true, leb-false, le-leb}
+use borrow.Author.Tests.{eq-eqb, ne_eqb, leb-true, leb-false}
 use Rattle.lists.specs.Lists.{consecutive, keep}
 use Rattle.lists.proofs.Cases.{by_test}
 use Rattle.lists.proofs.Lists.{ascends_consecutive, ascends_keep, consecutive_in, keep_in}
-use Rattle.cells.specs.Box.{Triple, Axis, X, Y, Z, triple, coord, stride, index, place}
+use Rattle.cells.specs.Box.{triple, coord, stride, index, place}
+use Rattle.cells.specs.declared.Axis.{Axis}
+use Rattle.cells.specs.declared.Axis.TheVariants.{X, Y, Z}
+use Rattle.cells.specs.declared.Triple.{Triple}
 use Rattle.cells.specs.Grid.{sides, cells}
 use Rattle.cells.proofs.BoxLaws.{Inside, coord_each, index_place, place_index, place_inside, lowered, lowered_add}
 use Rattle.cells.proofs.GridLaws.{inside, lowered_inside}
@@ -35,7 +38,7 @@ lowest_le k c b hb t =
 -- ---- one axis
 
 -- an interval ends where a later one begins, or before
-ordered_by : (n : ℕ) (c : List ℕ) → cut_list n c ≡ true → (i d : ℕ) → suc (i + d) < intervals c → high_end c i ≤ low_end c (suc (i + d))
+pub ordered_by : (n : ℕ) (c : List ℕ) → cut_list n c ≡ true → (i d : ℕ) → suc (i + d) < intervals c → high_end c i ≤ low_end c (suc (i + d))
 ordered_by n c t i zero h = let e : suc (i + 0) ≡ suc i = omega arith in omega (arith, cut_ends n c t i (omega arith), ap (low_end c) e)
 ordered_by n c t i (suc d) h =
     let e : suc (i + suc d) ≡ suc (suc (i + d)) = omega arith in
@@ -185,20 +188,4 @@ module _ (k : Cutting) (good : good_cut k ≡ true) (b : ℕ) (hb : b < blocks k
 pub start_is : (cx cy : List ℕ) (b w h x y z : ℕ) → w ≡ intervals cx → h ≡ intervals cy → x ≡ min 1 (b % w) → y ≡ min 1 (b / w % h) → z ≡ min 1 (b / w / h)
     → AnyDepth cx cy (λ k. triple x y z ≡ starts k b)
 unfolding starts interval place block_sides
-start_is cx cy b w h x y z e f p q r nx ny nz cz = rw (p, q, r, e, f, div-div-eq-div-mul b (intervals cx) (intervals cy))
-
-pub by_x : (s c : Triple) → c.x < s.x → false ≡ starts_by s c
-unfolding starts_by
-by_x s c h = rw (lt-leb s.x c.x h)
-
-pub by_y : (s c : Triple) → s.x ≤ c.x → c.y < s.y → false ≡ starts_by s c
-unfolding starts_by
-by_y s c g h = rw (le-leb s.x c.x g, lt-leb s.y c.y h)
-
-pub by_z : (s c : Triple) → s.x ≤ c.x → s.y ≤ c.y → c.z < s.z → false ≡ starts_by s c
-unfolding starts_by
-by_z s c g h l = rw (le-leb s.x c.x g, le-leb s.y c.y h, lt-leb s.z c.z l)
-
-pub by_all : (s c : Triple) → s.x ≤ c.x → s.y ≤ c.y → s.z ≤ c.z → true ≡ starts_by s c
-unfolding starts_by
-by_all s c g h l = rw (le-leb s.x c.x g, le-leb s.y c.y h, le-leb s.z c.z l)
+start_is cx cy b w h x y z e f p q r n cz = rw (p, q, r, e, f, div-div-eq-div-mul b (intervals cx) (intervals cy))

@@ -3,26 +3,34 @@
 use mathlib.Core.Path.{◌≡◌, sym, ap, ◌∙◌}
 use mathlib.Core.Bool.{Bool, true, false, not, true≢false}
 use mathlib.Core.List.{List}
-use Prim.Native.Nat.{ℕ, suc, ◌+◌, ◌-◌, ◌*◌, ◌/◌, ◌≤◌, ◌<◌}
+use Prim.Native.Nat.{ℕ, suc, ◌+◌, ◌-◌, ◌*◌, ◌≤◌, ◌<◌}
 use native.Mathlib.Omega.{arith}
 use lib.Dec.{eqb, ltb}
-use lib.ListN.{get_or}
-use borrow.Author.Tests.{ltb-true, ltb-false, ne_eqb, not-true, not-false}
+use lib.ListN.{get_or, length, take, drop}
+use Rattle.std.proofs.Common.{length-drop}
+use Rattle.std.proofs.lemmas.Grind.{get_or_after_one}
+use Rattle.std.proofs.lemmas.List.{get_or-take, get_or_default, length-take-le}
+use borrow.Author.Tests.{lt-ltb, ltb-true, ltb-false, ne_eqb, not-true, not-false}
+use Rattle.std.specs.List.Sorted.{IsPartitionedBy, IsPartitionPoint}
 use Rattle.lists.proofs.Cases.{by_test}
-use Rattle.cells.specs.Box.{Triple, Axis, X, Y, Z, triple, coord, each, volume, index, place}
+use Rattle.cells.specs.Box.{triple, coord, each, index, place}
+use Rattle.cells.specs.declared.Axis.{Axis}
+use Rattle.cells.specs.declared.Axis.TheVariants.{X, Y, Z}
+use Rattle.cells.specs.declared.Triple.{Triple}
 use Rattle.cells.specs.Grid.{sides, cells}
 use Rattle.cells.proofs.BoxLaws.{Inside, index_place, place_index, index_inside, same_triple}
-use Rattle.cutting.specs.Cutting.{Cutting, cuts, intervals, low_end, block_sides, blocks, most_blocks, FewBlocks, good_cut, interval, block_extents}
+use Rattle.cutting.specs.Cutting.{Cutting, cuts, cut_list, intervals, low_end, block_sides, blocks, good_cut, interval, block_extents}
 use Rattle.cutting.proofs.CutLaws.{Spans, cut_interval, cut_on, block_sides_on, interval_is, has_spans, spans_has, block_in, interval_at}
 use Rattle.cutting.proofs.SeamLaws.{cut_ends}
 use Rattle.joiner.specs.Stages.{has_cell, local, lowest_block}
 use Rattle.joiner.proofs.Codes.{cell_in_block, block_has_cell, lowest_has_cell, lowest_there}
-use Rattle.blocks.specs.Blocks.{cut_of, AnyExtents, origin_of, size_of, Tells, has_in, local_in}
+use Rattle.blocks.specs.Blocks.{cut_by, origin_of, size_of, Tells, has_in, local_in}
+use Rattle.blocks.specs.declared.Cuts.{Cuts}
 use Rattle.blocks.specs.declared.Block.{Block}
 use Rattle.blocks.proofs.BlockLaws.{in_low, in_high, has_told, local_told}
 use Rattle.strain_calls.specs.Adding.{is_lowest}
 use Rattle.lowest.specs.Lowest.{starts, starts_by, own_cell, own_in, FirstInterval, InVolume}
-use Rattle.lowest.proofs.LowestLaws.{lowest_le, listed, ordered, index_le, own_lowest}
+use Rattle.lowest.proofs.LowestLaws.{lowest_le, listed, ordered, ordered_by, index_le, own_lowest}
 
 -- ---- a place of the volume
 
@@ -141,50 +149,73 @@ module _ (r : Block) (c : Triple) (t : Bool) (e : t ≡ has_in r c) where
     unfolding own_in
     owns n u f = rw (has n) f
 
--- ---- the loop of `interval_of`
+-- ---- the ways of `interval_of`
 
--- The first interval that has x is interval `from`, or one of the `more` next ones.
-pub record Among (c : List ℕ) (x from more : ℕ) : Type 0 where
-  pub within : from + more < intervals c
-  pub begun : 0 < from → 2 * low_end c from < x
-  pub next_not : suc (from + more) < intervals c → x ≤ 2 * low_end c (suc (from + more))
+-- the places where the intervals of a cut list begin do not fall
+begins_rise : (n : ℕ) (c : List ℕ) → cut_list n c ≡ true → (i j : ℕ) → i ≤ j → j < intervals c → low_end c i ≤ low_end c j
+begins_rise n c t i j h k =
+    by_test (ltb i j)
+    (λ l.
+    let m : i < j = ltb-true i j l in
+    let e : suc (i + (j - suc i)) ≡ j = omega arith in
+    omega (arith, (cut_interval n c t i (omega arith)).upward, ordered_by n c t i (j - suc i) (omega arith), ap (low_end c) e))
+    (λ l. let m : j ≤ i = ltb-false i j l in let e : i ≡ j = omega arith in omega (arith, ap (low_end c) e))
 
 module _ (c : List ℕ) (x : ℕ) where
-  pub among_all : (w : ℕ) → w ≡ intervals c → Among c x 0 (w - 1)
+  -- a list that has one interval
+  pub alone_within : length c < 2 → 0 < intervals c
   unfolding intervals
-  among_all w e = record { within = omega (arith, e); begun = λ h. absurd (omega arith); next_not = λ h. absurd (omega (arith, e)) }
+  alone_within h = omega arith
 
-  module _ (from more : ℕ) (m : Among c x from more) where
-    pub among_one : more ≡ 0 → FirstInterval c x from
-    among_one z =
-        let e : from + more ≡ from = omega arith in
-        record { within = omega (arith, m.within); begun = m.begun; next_not = rw e at m.next_not }
+  pub alone_first : length c < 2 → FirstInterval c x 0
+  unfolding intervals
+  alone_first h = record { within = omega arith; begun = λ k. absurd (omega arith); next_not = λ k. absurd (omega arith) }
 
-    module _ (o : more ≡ 0 → ⊥) (y : ℕ) (e : y ≡ get_or c (from + more / 2 + 1) 0) where
-      pub among-upper : 2 * y < x → Among c x (from + more / 2 + 1) (more - more / 2 - 1)
-      unfolding low_end
-      among-upper h =
-          let s : from + more / 2 + 1 + (more - more / 2 - 1) ≡ from + more = omega (arith, o) in
-          record { within = omega (arith, m.within, o); begun = λ _. rw (← e) h; next_not = rw s m.next_not }
+  -- the places xs where the later intervals begin
+  module _ (xs : List ℕ) (long : length xs + 2 ≡ length c) (same : (i d : ℕ) → i < length xs → get_or xs i d ≡ get_or c (i + 1) 0) where
+    pub more_within : (r : ℕ) → r ≤ length xs → r < intervals c
+    unfolding intervals
+    more_within r h = omega (arith, long)
 
-      pub among-lower : x ≤ 2 * y → Among c x from (more / 2)
-      unfolding low_end
-      among-lower h =
-          let s : suc (from + more / 2) ≡ from + more / 2 + 1 = omega arith in
-          record { within = omega (arith, m.within); begun = m.begun; next_not = λ _. rw (s, ← e) h }
+    pub parted : (n : ℕ) → cut_list n c ≡ true → IsPartitionedBy (λ y. ltb (2 * y) x) xs
+    unfolding low_end
+    parted n t i j d h k q =
+        let u : get_or xs i d ≤ get_or xs j d = omega (arith, same i d (omega arith), same j d k, begins_rise n c t (i + 1) (j + 1) (omega arith) (more_within (j + 1) (omega arith))) in
+        lt-ltb (2 * get_or xs i d) x (omega (arith, ltb-true (2 * get_or xs j d) x q))
+
+    pub more_first : (r : ℕ) → r ≤ length xs → IsPartitionPoint (λ y. ltb (2 * y) x ≡ true) (λ y. ltb (2 * y) x ≡ false) xs r → FirstInterval c x r
+    unfolding low_end intervals
+    more_first r h p = record {
+      within = more_within r h;
+      begun = λ k.
+          let s : r - 1 + 1 ≡ r = omega arith in
+          omega (arith, ltb-true (2 * get_or xs (r - 1) 0) x (p.0 (r - 1) 0 (omega arith) (omega arith)), same (r - 1) 0 (omega arith), ap (λ (i : ℕ). get_or c i 0) s);
+      next_not = λ k.
+          let s : r + 1 ≡ suc r = omega arith in
+          omega (arith, long, ltb-false (2 * get_or xs r 0) x (p.1 r 0 (omega arith) (omega (arith, long))), same r 0 (omega (arith, long)), ap (λ (i : ℕ). get_or c i 0) s);
+    }
+
+-- a list without its first entry and its last
+module _ (c : List ℕ) (h : 2 ≤ length c) where
+  abbrev pub inner : List ℕ
+  inner = take (length c - 1 - 1) (drop 1 c)
+
+  pub inner_long : length inner + 2 ≡ length c
+  inner_long = omega (arith, length-take-le (length c - 1 - 1) (drop 1 c) (omega (arith, length-drop 1 c)))
+
+  pub inner_same : (i d : ℕ) → i < length inner → get_or inner i d ≡ get_or c (i + 1) 0
+  inner_same i d k =
+      let s : 1 + i ≡ i + 1 = omega arith in
+      get_or-take (length c - 1 - 1) (drop 1 c) i d (omega (arith, inner_long)) ∙ get_or_after_one c i d ∙ ap (λ (j : ℕ). get_or c j d) s
+      ∙ get_or_default c (i + 1) d 0 (omega (arith, inner_long))
 
 -- ---- the number that `lowest_block` finds
 
-module _ (cx cy cz : List ℕ) (x y z i j l : ℕ) (fx : FirstInterval cx x i) (fy : FirstInterval cy y j) (fz : FirstInterval cz z l) (w h : ℕ) (ew : w ≡ intervals cx) (eh : h ≡ intervals cy) where
-  abbrev number : ℕ
-  number = i + j * w + l * (w * h)
-
-  pub number_few : FewBlocks cx cy cz → number < most_blocks
-  unfolding index volume
-  number_few few =
-      rw (ew, eh)
-      (omega (arith, index_inside (triple (intervals cx) (intervals cy) (intervals cz)) (triple i j l) (elim [ X ↦ fx.within | Y ↦ fy.within | Z ↦ fz.within ])))
-
-  pub number_lowest : AnyExtents cx cy cz (λ k. good_cut k ≡ true → InVolume k (triple x y z) → number ≡ lowest_block k (triple x y z))
+module _ (cuts : Cuts) (c : Triple) (i j l w h : ℕ) (ew : w ≡ intervals cuts.x.now) (eh : h ≡ intervals cuts.y.now) where
+  pub number_lowest : (e : Triple) (good : good_cut (cut_by e cuts) ≡ true) → InVolume (cut_by e cuts) c
+      → ((n : ℕ) → cut_list n cuts.x.now ≡ true → FirstInterval cuts.x.now c.x i) → ((n : ℕ) → cut_list n cuts.y.now ≡ true → FirstInterval cuts.y.now c.y j)
+      → ((n : ℕ) → cut_list n cuts.z.now ≡ true → FirstInterval cuts.z.now c.z l) → i + j * w + l * (w * h) ≡ lowest_block (cut_by e cuts) c
   unfolding index block_sides
-  number_lowest nx ny nz good v = rw (ew, eh) (first_lowest (cut_of nx ny nz cx cy cz) good (triple i j l) (triple x y z) v (elim [ X ↦ fx | Y ↦ fy | Z ↦ fz ]))
+  number_lowest e good v fx fy fz =
+      let k : Cutting = cut_by e cuts in
+      rw (ew, eh) (first_lowest k good (triple i j l) c v (elim [ X ↦ fx e.x (cut_on k good X) | Y ↦ fy e.y (cut_on k good Y) | Z ↦ fz e.z (cut_on k good Z) ]))

@@ -2,12 +2,13 @@
 -- that has it" (document 02, item 1).
 -- Assumes nothing.
 use Rattle.std.specs.Prelude.{Bool, ◌&&◌, List, ℕ, suc, ◌-◌, ◌*◌, ◌<◌, ◌≤◌, min, leb}
-use Rattle.cells.specs.Box.{Triple, Axis, triple, coord, each, place}
+use Rattle.cells.specs.Box.{coord, each, place}
+use Rattle.cells.specs.declared.Axis.{Axis}
+use Rattle.cells.specs.declared.Triple.{Triple}
 use Rattle.cells.specs.Grid.{sides}
 use Rattle.cutting.specs.Cutting.{Cutting, intervals, low_end, interval, block_extents}
-use Rattle.blocks.specs.Blocks.{cut_of, origin_of, has_in}
+use Rattle.blocks.specs.Blocks.{origin_of, has_in}
 use Rattle.blocks.specs.declared.Block.{Block}
-use Rattle.lowest.specs.declared.Start.{Start}
 
 -- 1 on an axis on which a block stands before block b, and else 0: the first coordinate of its own cells.
 unfoldable pub starts : Cutting → ℕ → Triple
@@ -21,13 +22,9 @@ starts_by s c = leb s.x c.x && (leb s.y c.y && leb s.z c.z)
 unfoldable pub own_cell : Cutting → ℕ → ℕ → Bool
 own_cell k b p = starts_by (starts k b) (place (sides (block_extents k b)) p)
 
--- The starts as the code has them.
-abbrev pub start_of : Start → Triple
-start_of s = triple s.x s.y s.z
-
 -- What holds of a cutting with these lists on x and y whatever the extents and the list on z are.
 abbrev pub AnyDepth : List ℕ → List ℕ → (Cutting → Type 0) → Type 0
-AnyDepth cx cy P = (nx ny nz : ℕ) (cz : List ℕ) → P (cut_of nx ny nz cx cy cz)
+AnyDepth cx cy P = (e : Triple) (cz : List ℕ) → P (record { extents = e; cx = cx; cy = cy; cz = cz })
 
 -- ---- the lowest-numbered block of a cell
 

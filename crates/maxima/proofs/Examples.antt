@@ -7,7 +7,8 @@ use Rattle.lists.specs.Lists.{consecutive, tabulate}
 use Rattle.closure.specs.Joined.{merge_ids, join_classes, joins, rep}
 use Rattle.closure.specs.Numbered.{count_below, leader, number_by, label}
 use Rattle.refusals.specs.Refusals.{number, table, first, given_by, stands_in}
-use Rattle.cells.specs.Box.{Triple, triple, stride, volume, index, place}
+use Rattle.cells.specs.Box.{triple, stride, volume, index, place}
+use Rattle.cells.specs.declared.Triple.{Triple}
 use Rattle.cells.specs.Extents.{is_extent, off_size}
 use Rattle.cells.specs.Grid.{sides, cells, parity, order, along, upper_neighbours, voxel}
 use Rattle.cells.specs.Row.{row_of, occupied, row, active}

@@ -10,7 +10,8 @@ use lib.ListN.{length, get_or}
 use borrow.Author.Tests.{eqb-true, eqb-false}
 use Rattle.lists.proofs.Cases.{by_test}
 use Rattle.lists.proofs.Lists.{length-tabulate, get_or_tabulate}
-use Rattle.cells.specs.Box.{Triple, volume}
+use Rattle.cells.specs.Box.{volume}
+use Rattle.cells.specs.declared.Triple.{Triple}
 use Rattle.cells.specs.Extents.{Sized, off_size}
 use Rattle.cells.specs.Grid.{cells}
 use Rattle.cells.proofs.ExtentLaws.{volume_high}
@@ -18,16 +19,15 @@ use Rattle.extents.proofs.SizeLaws.{size_fits}
 use Rattle.labels.specs.Number.{labels}
 use Rattle.labels.specs.Components.{largest}
 use Rattle.labels.specs.OrderCounts.{cells_of_order}
-use Rattle.labeller.specs.declared.Labelled.{Labelled}
 use Rattle.labeller.specs.Labelling.{Outcome, outcome, labelling, refused, Ready}
 use Rattle.labeller.proofs.LabellingLaws.{ready_of, ready_accepted}
 use Rattle.labeller.proofs.OneBlock.{label_refusal, label_refused, label_map, label_counts}
-use Rattle.maxima.specs.declared.Most.{Most}
+use Rattle.counts.specs.Counts.{Counted}
 use Rattle.maxima.specs.Maxima.{DifferentCodes, counted_codes, accepted, most_components}
 use Rattle.maxima.proofs.MaximaLaws.{most, numbers_reach, different_codes, counted_different, most_accepted}
 
-module _ (e : Triple) (codes m w : List ℕ) (r : Labelled) (m' w' : List ℕ) (promise : outcome r m' w' ≡ labelling e codes m w)
-    (s : Most) (answered : s ≡ most_components e) where
+module _ (e : Triple) (codes m w : List ℕ) (r : Counted) (m' w' : List ℕ) (promise : outcome r m' w' ≡ labelling e codes m w)
+    (s : Counted) (answered : s ≡ most_components e) where
   module _ (fine : r.refusal ≡ 0) where
     -- an accepted labelling has extents that are not off size
     sized : off_size 64 e ≡ false
@@ -47,7 +47,7 @@ module _ (e : Triple) (codes m w : List ℕ) (r : Labelled) (m' w' : List ℕ) (
 
     tells : (s.faces ≡ cells_of_order e 2) × (s.curves ≡ cells_of_order e 1) × (s.points ≡ cells_of_order e 0)
     unfolding accepted
-    tells = (ap (λ (a : Most). a.faces) told, ap (λ (a : Most). a.curves) told, ap (λ (a : Most). a.points) told)
+    tells = (ap (λ (a : Counted). a.faces) told, ap (λ (a : Counted). a.curves) told, ap (λ (a : Counted). a.points) told)
 
     accepted_most : (r.faces ≤ s.faces) × (r.curves ≤ s.curves) × (r.points ≤ s.points)
     accepted_most = (
@@ -83,7 +83,7 @@ module _ (e : Triple) (codes m w : List ℕ) (r : Labelled) (m' w' : List ℕ) (
 -- `label` accepts every list of different codes, also with a 0 among them, in trays of the right lengths, and answers as many faces, curves and points as
 -- `most_components`.
 pub different_reached : (e : Triple) (codes m w : List ℕ) → Sized 64 e → length codes ≡ volume e → length m ≡ cells e → length w ≡ cells e → DifferentCodes e codes
-    → (r : Labelled) (m' w' : List ℕ) → outcome r m' w' ≡ labelling e codes m w → (s : Most) → s ≡ most_components e
+    → (r : Counted) (m' w' : List ℕ) → outcome r m' w' ≡ labelling e codes m w → (s : Counted) → s ≡ most_components e
     → (r.refusal ≡ 0) × (r.faces ≡ s.faces) × (r.curves ≡ s.curves) × (r.points ≡ s.points)
 different_reached e codes m w z n k l D r m' w' promise s answered =
     let ready : Ready e (length codes) (length m) (length w) = record { sized = z; codes_are = n; map_is = k; work_is = l } in
@@ -101,8 +101,8 @@ module _ (e : Triple) (z : Sized 64 e) where
       let n : volume e ≤ 262144 = volume_high z in
       (omega arith, omega arith)
 
-  pub counted_reached : (m w : List ℕ) → length m ≡ cells e → length w ≡ cells e → (r : Labelled) (m' w' : List ℕ) → outcome r m' w' ≡ labelling e (counted_codes e) m w
-      → (s : Most) → s ≡ most_components e → (r.refusal ≡ 0) × (r.faces ≡ s.faces) × (r.curves ≡ s.curves) × (r.points ≡ s.points)
+  pub counted_reached : (m w : List ℕ) → length m ≡ cells e → length w ≡ cells e → (r : Counted) (m' w' : List ℕ) → outcome r m' w' ≡ labelling e (counted_codes e) m w
+      → (s : Counted) → s ≡ most_components e → (r.refusal ≡ 0) × (r.faces ≡ s.faces) × (r.curves ≡ s.curves) × (r.points ≡ s.points)
   counted_reached m w k l r m' w' promise s answered =
       let n : length (counted_codes e) ≡ volume e = unfold counted_codes in length-tabulate (volume e) suc in
       different_reached e (counted_codes e) m w z n k l (counted_different e) r m' w' promise s answered

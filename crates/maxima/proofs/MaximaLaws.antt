@@ -15,7 +15,8 @@ use Rattle.closure.specs.Numbered.{count_below, leader}
 use Rattle.closure.proofs.Classes.{rep_low}
 use Rattle.closure.proofs.Numbers.{count_le, label_root}
 use Rattle.refusals.specs.Refusals.{number, table, first, given_by, stands_in, listed_numbers}
-use Rattle.cells.specs.Box.{Triple, volume}
+use Rattle.cells.specs.Box.{volume}
+use Rattle.cells.specs.declared.Triple.{Triple}
 use Rattle.cells.specs.Extents.{Sized, off_size}
 use Rattle.cells.specs.Grid.{cells, order, voxel, voxel_cell}
 use Rattle.cells.specs.Row.{active, occupied}
@@ -28,7 +29,7 @@ use Rattle.labels.proofs.NumberLaws.{rep_leaders}
 use Rattle.labels.proofs.LabelLaws.{labels_numbering, shared_row, label_at, row_over}
 use Rattle.labels.proofs.CountLaws.{largest_leaders, count_down}
 use Rattle.labels.proofs.OrderCounts.{count_cells}
-use Rattle.maxima.specs.declared.Most.{Most}
+use Rattle.counts.specs.Counts.{Counted}
 use Rattle.maxima.specs.Maxima.{DifferentCodes, IsMost, counted_codes, declines, refusal_of, accepted, refused, most_components}
 use Rattle.maxima.proofs.Apart.{DifferentNumbers, all_active, row_apart}
 
@@ -154,7 +155,7 @@ unfolding most_components
 most_refused e t = let z : refusal_of e ≡ 1 = refusal_is e ∙ rw t in rw z
 
 -- "For every extent from 1 to 64 .. the service answers with them": from the promise of `most_components`, what it answers is the most.
-pub answer_most : (e : Triple) → Sized 64 e → (s : Most) → s ≡ most_components e → (s.refusal ≡ 0) × IsMost e 2 s.faces × IsMost e 1 s.curves × IsMost e 0 s.points
+pub answer_most : (e : Triple) → Sized 64 e → (s : Counted) → s ≡ most_components e → (s.refusal ≡ 0) × IsMost e 2 s.faces × IsMost e 1 s.curves × IsMost e 0 s.points
 unfolding accepted
 answer_most e z s promise =
     rw (promise ∙ most_accepted e (size_fits 64 64 e (omega arith) z)) (refl, largest_block e 2 (omega arith), largest_block e 1 (omega arith), largest_block e 0 (omega arith))

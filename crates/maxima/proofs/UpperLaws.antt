@@ -9,7 +9,10 @@ use native.Mathlib.Omega.{arith}
 use lib.Dec.{eqb}
 use borrow.Author.Tests.{eqb-true}
 use Rattle.lists.proofs.Cases.{by_test}
-use Rattle.cells.specs.Box.{Triple, Axis, X, Y, Z, coord, stride}
+use Rattle.cells.specs.Box.{coord, stride}
+use Rattle.cells.specs.declared.Axis.{Axis}
+use Rattle.cells.specs.declared.Axis.TheVariants.{X, Y, Z}
+use Rattle.cells.specs.declared.Triple.{Triple}
 use Rattle.cells.specs.Grid.{sides, cells, parity, order, along, upper_neighbours}
 use Rattle.cells.specs.Row.{occurrences}
 use Rattle.cells.proofs.GridLaws.{inside, low_side, high_side, odd_lt, axis_down}

@@ -1,15 +1,17 @@
--- The largest block (document 02, item 13): "the most faces, curves and points that a block of given extents can have". The three numbers are
+-- The largest block: "the most faces, curves and points that a block of given extents can have". The three numbers are
 -- `cells_of_order` (labels/specs/OrderCounts).
 -- Assumes nothing.
 use Rattle.std.specs.Prelude.{◌≡◌, cond, List, [], ◌∷◌, ℕ, suc, ◌≤◌, ◌<◌, eqb, get_or}
 use Rattle.lists.specs.Lists.{tabulate}
-use Rattle.refusals.specs.Refusals.{unfit_size, Case, ◌if◌, given_refusal}
-use Rattle.cells.specs.Box.{Triple, volume}
+use Rattle.refusals.specs.declared.Refusal.{Refusal}
+use Rattle.refusals.specs.Refusals.{Case, ◌if◌, given_refusal}
+use Rattle.cells.specs.Box.{volume}
+use Rattle.cells.specs.declared.Triple.{Triple}
 use Rattle.cells.specs.Extents.{off_size}
 use Rattle.labels.specs.Number.{labels}
 use Rattle.labels.specs.Components.{largest}
 use Rattle.labels.specs.OrderCounts.{cells_of_order}
-use Rattle.maxima.specs.declared.Most.{Most}
+use Rattle.counts.specs.Counts.{Counted}
 
 -- "All codes different": no two voxels of the block have one code. One of the codes may be 0.
 pub record DifferentCodes (e : Triple) (codes : List ℕ) : Type 0 where
@@ -27,20 +29,20 @@ counted_codes e = tabulate (volume e) suc
 
 -- The cases of `most_components`.
 unfoldable pub declines : Triple → List Case
-declines e = unfit_size if off_size 64 e ∷ []
+declines e = Refusal.OffSize if off_size 64 e ∷ []
 
 -- The refusal of a call, 0 for none.
 unfoldable pub refusal_of : Triple → ℕ
 refusal_of e = given_refusal (declines e)
 
 -- Accepted: the numbers of face, curve and point cells.
-unfoldable pub accepted : Triple → Most
+unfoldable pub accepted : Triple → Counted
 accepted e = record { refusal = 0; faces = cells_of_order e 2; curves = cells_of_order e 1; points = cells_of_order e 0 }
 
 -- Refused: "a refusal returns its number, .. every other field 0 or empty".
-unfoldable pub refused : ℕ → Most
+unfoldable pub refused : ℕ → Counted
 refused n = record { refusal = n; faces = 0; curves = 0; points = 0 }
 
 -- The answer to a call with these extents.
-unfoldable pub most_components : Triple → Most
+unfoldable pub most_components : Triple → Counted
 most_components e = cond (eqb (refusal_of e) 0) (accepted e) (refused (refusal_of e))

@@ -1,19 +1,21 @@
 ghost use Rattle.std.specs.Prelude.{[]};
 ghost use Rattle.joiner.specs.Calls.{enrol, answer};
 ghost use Rattle.joiner.specs.Outcomes.{CallStep};
-ghost use Rattle.job.specs.JobState.{state_of, AnyTables};
+ghost use Rattle.job.specs.JobState.{state_by, job_after, AnyTables};
+ghost use Rattle.refusals.specs.Refusals.{number_of};
 ghost use Rattle.job.specs.Lent.{enrol_lent};
 
-use crate::{Joining, Stepped};
+use crate::Joining;
+use blocks::Cuts;
+use job::Job;
+use refusals::Refusal;
 use step_enrol::enrol;
 
 impl Joining {
     // Enrols a block with its map.
     pub fn enrol(
         self,
-        cx: &[u32],
-        cy: &[u32],
-        cz: &[u32],
+        cuts: &Cuts,
         ticks: &mut [u32],
         blocks: &mut [u32],
         face_links: &mut [u32],
@@ -24,21 +26,19 @@ impl Joining {
         curve_rows: &mut [u32],
         block: u32,
         m: &[u32],
-    ) -> Stepped
+    ) -> Result<Job, Refusal>
         ensures { AnyTables (λ t. CallStep
-            (state_of self.job cx.now cy.now cz.now
+            (state_by self.job cuts.now
             (enrol_lent t ticks.old blocks.old face_links.old curve_links.old face_keys.old
             curve_keys.old face_rows.old curve_rows.old))
-            (enrol block m.now) (answer result.refusal 0 [])
-            (state_of result.joining.job cx.now cy.now cz.now
+            (enrol block m.now) (answer (number_of result) 0 [])
+            (state_by (job_after self.job result) cuts.now
             (enrol_lent t ticks.new blocks.new face_links.new curve_links.new face_keys.new
             curve_keys.new face_rows.new curve_rows.new))) }
     {
-        let r = enrol(
+        enrol(
             self.job,
-            cx,
-            cy,
-            cz,
+            cuts,
             ticks,
             blocks,
             face_links,
@@ -49,11 +49,6 @@ impl Joining {
             curve_rows,
             block,
             m,
-        );
-        let job = r.job;
-        Stepped {
-            refusal: r.refusal,
-            joining: Joining { job: job },
-        }
+        )
     }
 }

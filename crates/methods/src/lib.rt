@@ -21,10 +21,3 @@ use job::Job;
 pub struct Joining {
     pub job: Job,
 }
-
-// What a step answers: the number of the refusal, 0 for none, and the job that it hands on, for the next call.
-#[derive(Clone, Copy)]
-pub struct Stepped {
-    pub refusal: u32,
-    pub joining: Joining,
-}

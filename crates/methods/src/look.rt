@@ -1,53 +1,32 @@
 ghost use Rattle.std.specs.Prelude.{[]};
-ghost use Rattle.cells.specs.Box.{triple};
 ghost use Rattle.joiner.specs.Calls.{look, answer};
 ghost use Rattle.joiner.specs.Outcomes.{CallStep};
-ghost use Rattle.job.specs.JobState.{state_of, AnyTables};
-ghost use Rattle.job.specs.Lent.{look_lent};
+ghost use Rattle.job.specs.JobState.{state_by, AnyTables};
+ghost use Rattle.reading_cell.specs.Inner.{number_read};
+ghost use Rattle.reading_cells.specs.Inner.{lent_over};
+ghost use Rattle.refusals.specs.Refusals.{number_of};
 
 use crate::Joining;
-use reading_cell::{Found, lookup};
+use blocks::Cuts;
+use cells::Triple;
+use reading_cell::{LookupTables, lookup};
+use refusals::Refusal;
 
 impl Joining {
     // The number of a cell of a closed job.
     pub fn lookup(
         self,
-        cx: &[u32],
-        cy: &[u32],
-        cz: &[u32],
-        ticks: &[u32],
-        blocks: &[u32],
-        face_numbers: &[u32],
-        curve_numbers: &[u32],
-        point_firsts: &[u64],
+        cuts: &Cuts,
+        tables: &LookupTables,
         block: u32,
         m: &[u32],
-        x: u32,
-        y: u32,
-        z: u32,
-    ) -> Found
+        c: Triple,
+    ) -> Result<u32, Refusal>
         ensures { AnyTables (λ t. CallStep
-            (state_of self.job cx.now cy.now cz.now
-            (look_lent t ticks.now blocks.now face_numbers.now curve_numbers.now point_firsts.now))
-            (look block m.now (triple x y z)) (answer result.refusal result.number [])
-            (state_of self.job cx.now cy.now cz.now
-            (look_lent t ticks.now blocks.now face_numbers.now curve_numbers.now point_firsts.now))) }
+            (state_by self.job cuts.now (lent_over t tables.now))
+            (look block m.now c) (answer (number_of result) (number_read result) [])
+            (state_by self.job cuts.now (lent_over t tables.now))) }
     {
-        lookup(
-            self.job,
-            cx,
-            cy,
-            cz,
-            ticks,
-            blocks,
-            face_numbers,
-            curve_numbers,
-            point_firsts,
-            block,
-            m,
-            x,
-            y,
-            z,
-        )
+        lookup(self.job, cuts, tables, block, m, c)
     }
 }

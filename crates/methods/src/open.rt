@@ -1,8 +1,14 @@
-ghost use Rattle.job.specs.JobState.{told_by, tables_of, state_of};
+ghost use Rattle.job.specs.JobState.{told_by, tables_of, state_by};
+ghost use Rattle.refusals.specs.Refusals.{number_of};
+ghost use Rattle.step_open.specs.Inner.{job_opened};
 ghost use Rattle.strain_calls.specs.Tables.{total_tables};
 ghost use Rattle.strain_calls.specs.Outcomes.{TotalsOpening};
 
-use crate::{Joining, Stepped};
+use crate::Joining;
+use blocks::Cuts;
+use counts::Counts;
+use job::Job;
+use refusals::Refusal;
 use step_open::open;
 
 impl Joining {
@@ -11,12 +17,8 @@ impl Joining {
         nx: u32,
         ny: u32,
         nz: u32,
-        cx: &[u32],
-        cy: &[u32],
-        cz: &[u32],
-        face_entries: u32,
-        curve_entries: u32,
-        point_entries: u32,
+        cuts: &Cuts,
+        entries: Counts,
         ticks: &mut [u32],
         blocks: &[u32],
         face_links: &[u32],
@@ -39,32 +41,28 @@ impl Joining {
         came: &mut [u32],
         face_sums: &mut [f64],
         face_counts: &mut [u64],
-    ) -> Stepped
+    ) -> Result<Job, Refusal>
         ensures { TotalsOpening
-            (told_by nx ny nz cx.now cy.now cz.now face_entries curve_entries point_entries)
+            (told_by nx ny nz cuts.now.x.now cuts.now.y.now cuts.now.z.now entries.faces entries.curves entries.points)
             (tables_of ticks.old blocks.now face_links.now curve_links.now
             face_keys.now curve_keys.now point_keys.now face_rows.now curve_rows.now point_rows.now
             face_numbers.now curve_numbers.now point_numbers.now face_firsts.now curve_firsts.now point_firsts.now
             face_listed.now curve_listed.now point_listed.now)
             (total_tables came.old face_sums.old face_counts.old)
-            result.refusal
-            (state_of result.joining.job cx.now cy.now cz.now
+            (number_of result)
+            (state_by (job_opened result) cuts.now
             (tables_of ticks.new blocks.now face_links.now curve_links.now
             face_keys.now curve_keys.now point_keys.now face_rows.now curve_rows.now point_rows.now
             face_numbers.now curve_numbers.now point_numbers.now face_firsts.now curve_firsts.now point_firsts.now
             face_listed.now curve_listed.now point_listed.now))
             (total_tables came.new face_sums.new face_counts.new) }
     {
-        let r = open(
+        open(
             nx,
             ny,
             nz,
-            cx,
-            cy,
-            cz,
-            face_entries,
-            curve_entries,
-            point_entries,
+            cuts,
+            entries,
             ticks,
             blocks,
             face_links,
@@ -87,11 +85,6 @@ impl Joining {
             came,
             face_sums,
             face_counts,
-        );
-        let job = r.job;
-        Stepped {
-            refusal: r.refusal,
-            joining: Joining { job: job },
-        }
+        )
     }
 }

@@ -1,28 +1,28 @@
-ghost use Rattle.job.specs.JobState.{state_of, AnyTables};
-ghost use Rattle.cell_calls.specs.Cells.{cell_lists};
+ghost use Rattle.job.specs.JobState.{state_by, AnyTables};
 ghost use Rattle.cell_calls.specs.Calls.{request, cell_answer};
 ghost use Rattle.cell_calls.specs.Outcomes.{CellStep};
+ghost use Rattle.reading_blocks.specs.Marks.{count_of, lists_of};
+ghost use Rattle.refusals.specs.Refusals.{number_of};
 
 use crate::Joining;
-use reading_blocks::{Requested, request_blocks};
+use blocks::Cuts;
+use judge_cells::CellLists;
+use reading_blocks::request_blocks;
+use refusals::Refusal;
 
 impl Joining {
-    // The blocks that a list of cells of a closed job is read from.
+    // The blocks that a list of cells of a closed job is read from: how many they are.
     pub fn request_blocks(
         self,
-        cx: &[u32],
-        cy: &[u32],
-        cz: &[u32],
-        xs: &[u32],
-        ys: &[u32],
-        zs: &[u32],
+        cuts: &Cuts,
+        cells: &CellLists,
         needed: &mut [u32],
-    ) -> Requested
+    ) -> Result<u32, Refusal>
         ensures { AnyTables (λ t. CellStep
-            (state_of self.job cx.now cy.now cz.now t)
-            (request (cell_lists xs.now ys.now zs.now) needed.old)
-            (cell_answer result.refusal result.count needed.new)) }
+            (state_by self.job cuts.now t)
+            (request (lists_of cells.now) needed.old)
+            (cell_answer (number_of result) (count_of result) needed.new)) }
     {
-        request_blocks(self.job, cx, cy, cz, xs, ys, zs, needed)
+        request_blocks(self.job, cuts, cells, needed)
     }
 }

@@ -1,19 +1,21 @@
 ghost use Rattle.std.specs.Prelude.{[]};
 ghost use Rattle.joiner.specs.Calls.{join, answer};
 ghost use Rattle.joiner.specs.Outcomes.{CallStep};
-ghost use Rattle.job.specs.JobState.{state_of, AnyTables};
+ghost use Rattle.job.specs.JobState.{state_by, job_after, AnyTables};
+ghost use Rattle.refusals.specs.Refusals.{number_of};
 ghost use Rattle.job.specs.Lent.{seam_lent};
 
-use crate::{Joining, Stepped};
+use crate::Joining;
+use blocks::Cuts;
+use job::Job;
+use refusals::Refusal;
 use step_seam::seam;
 
 impl Joining {
     // Joins two blocks at their seam.
     pub fn seam(
         self,
-        cx: &[u32],
-        cy: &[u32],
-        cz: &[u32],
+        cuts: &Cuts,
         ticks: &mut [u32],
         blocks: &[u32],
         face_links: &mut [u32],
@@ -22,19 +24,17 @@ impl Joining {
         upper: u32,
         m: &[u32],
         n: &[u32],
-    ) -> Stepped
+    ) -> Result<Job, Refusal>
         ensures { AnyTables (λ t. CallStep
-            (state_of self.job cx.now cy.now cz.now
+            (state_by self.job cuts.now
             (seam_lent t ticks.old blocks.now face_links.old curve_links.old))
-            (join lower upper m.now n.now) (answer result.refusal 0 [])
-            (state_of result.joining.job cx.now cy.now cz.now
+            (join lower upper m.now n.now) (answer (number_of result) 0 [])
+            (state_by (job_after self.job result) cuts.now
             (seam_lent t ticks.new blocks.now face_links.new curve_links.new))) }
     {
-        let r = seam(
+        seam(
             self.job,
-            cx,
-            cy,
-            cz,
+            cuts,
             ticks,
             blocks,
             face_links,
@@ -43,11 +43,6 @@ impl Joining {
             upper,
             m,
             n,
-        );
-        let job = r.job;
-        Stepped {
-            refusal: r.refusal,
-            joining: Joining { job: job },
-        }
+        )
     }
 }

@@ -1,18 +1,18 @@
-ghost use Rattle.std.specs.Prelude.{◌≡◌};
-ghost use Rattle.job.specs.JobState.{job_of};
+ghost use Rattle.job.specs.JobState.{job_by};
+ghost use Rattle.refusals.specs.Refusals.{number_of};
 ghost use Rattle.strain_calls.specs.Tables.{total_tables};
 ghost use Rattle.strain_calls.specs.Outcomes.{StrainPromise};
 
-use crate::{Joining, Stepped};
+use crate::Joining;
+use blocks::Cuts;
+use refusals::Refusal;
 use step_strain::strain;
 
 impl Joining {
-    // Adds the readings of a block of a closed job to the totals of its faces. The job is handed on as it was.
+    // Adds the readings of a block of a closed job to the totals of its faces. The job stays as it was.
     pub fn strain(
         self,
-        cx: &[u32],
-        cy: &[u32],
-        cz: &[u32],
+        cuts: &Cuts,
         blocks: &[u32],
         face_numbers: &[u32],
         came: &mut [u32],
@@ -22,18 +22,16 @@ impl Joining {
         m: &[u32],
         values: &[f64],
         kinds: &[u8],
-    ) -> Stepped
-        ensures { (result.joining ≡ self) × StrainPromise (job_of self.job cx.now cy.now cz.now)
+    ) -> Result<(), Refusal>
+        ensures { StrainPromise (job_by self.job cuts.now)
             blocks.now face_numbers.now
             (total_tables came.old face_sums.old face_counts.old)
-            block m.now values.now kinds.now result.refusal
+            block m.now values.now kinds.now (number_of result)
             (total_tables came.new face_sums.new face_counts.new) }
     {
-        let refusal = strain(
+        strain(
             self.job,
-            cx,
-            cy,
-            cz,
+            cuts,
             blocks,
             face_numbers,
             came,
@@ -43,10 +41,6 @@ impl Joining {
             m,
             values,
             kinds,
-        );
-        Stepped {
-            refusal: refusal,
-            joining: self,
-        }
+        )
     }
 }

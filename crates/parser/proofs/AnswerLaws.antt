@@ -1,47 +1,23 @@
--- The ways of the functions that answer, over plain lists and numbers.
+-- What is told once the text has ended, over plain lists and numbers.
 -- Assumes nothing.
 use mathlib.Core.Path.{◌≡◌, refl, sym, ap, subst, ◌∙◌}
-use mathlib.Core.Logic.{◌≢◌}
 use mathlib.Core.Bool.{Bool, true, false, cond, not, ◌&&◌}
 use mathlib.Core.List.{List}
-use Prim.Native.Nat.{ℕ, ◌-◌, ◌≤◌, ◌<◌}
+use Prim.Native.Nat.{ℕ, ◌-◌}
 use native.Mathlib.Omega.{arith}
 use lib.Dec.{eqb, leb, ltb}
 use lib.ListN.{length, length-set}
-use borrow.Author.Tests.{lt-leb, le-leb, eq-eqb, ne_eqb, eqb-true, not-true}
+use borrow.Author.Tests.{eqb-true, not-true}
 use Rattle.lists.proofs.Cases.{by_test, and_first, and_second}
 use Rattle.refusals.specs.Refusals.{number}
-use Rattle.cells.specs.Box.{Triple, triple, volume}
+use Rattle.cells.specs.Box.{triple, volume}
+use Rattle.cells.specs.declared.Triple.{Triple}
 use Rattle.cells.specs.Extents.{Sized, off_size}
 use Rattle.extents.proofs.SizeLaws.{sized_of}
-use Rattle.parser.specs.declared.Scanned.{Scanned}
-use Rattle.parser.specs.declared.Task.{Task}
-use Rattle.parser.specs.Scanning.{State, state, counts, stored, closed}
-use Rattle.parser.specs.Asked.{Outcome, outcome, task_of, extents_seen, off_extents, whole_text, line_number, task_seen, finished}
+use Rattle.parser.specs.Scanning.{Scanned, State, state, counts, stored, closed}
+use Rattle.parser.specs.Asked.{Task, Outcome, outcome, task_of, extents_seen, off_extents, whole_text, line_number, task_seen, finished}
 
 -- ---- the form
-
-pub off_told : (s : Scanned) (t : Bool) → 3 ≤ s.count → t ≡ off_size 8 (extents_seen s) → t ≡ off_extents s
-unfolding off_extents
-off_told s t h e = rw (le-leb 3 s.count h) e
-
-pub whole_broken : (s : Scanned) → s.broken ≡ true → false ≡ whole_text s
-unfolding whole_text
-whole_broken s b = rw b
-
-module _ (s : Scanned) (b : s.broken ≡ false) where
-  pub whole_few : s.count < 3 → false ≡ whole_text s
-  unfolding whole_text
-  whole_few h = rw (b, lt-leb 3 s.count h)
-
-  module _ (h : 3 ≤ s.count) (t : Bool) (i : t ≡ off_size 8 (extents_seen s)) where
-    pub whole_off : t ≡ true → false ≡ whole_text s
-    unfolding whole_text
-    whole_off g = rw (b, le-leb 3 s.count h, sym i ∙ g)
-
-    pub whole_rest : (n v : ℕ) → t ≡ false → n ≡ s.count - 3 → v ≡ volume (extents_seen s) → eqb n v ≡ whole_text s
-    unfolding whole_text
-    whole_rest n v g p q = rw (b, le-leb 3 s.count h, sym i ∙ g, p, q)
 
 -- Extents of a text that has its form.
 pub whole_sized : (s : Scanned) → whole_text s ≡ true → Sized 8 (extents_seen s)
@@ -73,29 +49,9 @@ module _ (s : Scanned) where
   unfolding line_number number
   ladder = refl
 
-  module _ (o : Bool) (i : o ≡ off_extents s) where
-    pub number_size : o ≡ true → 1 ≡ line_number s
-    number_size t = sym (ladder ∙ rw (sym i ∙ t))
-
-    module _ (t : o ≡ false) (w : Bool) (j : w ≡ whole_text s) where
-      pub number_form : w ≡ false → 11 ≡ line_number s
-      number_form g = sym (ladder ∙ rw (sym i ∙ t, sym j ∙ g))
-
-      pub number_none : w ≡ true → 0 ≡ line_number s
-      number_none g = sym (ladder ∙ rw (sym i ∙ t, sym j ∙ g))
-
   -- Where no line is printed, the extents are small.
-  pub small_extents : line_number s ≡ 0 → Sized 8 (extents_seen s)
+  small_extents : line_number s ≡ 0 → Sized 8 (extents_seen s)
   small_extents z = whole_sized s (rungs_none (off_extents s) (whole_text s) (sym ladder ∙ z)).form
-
-  module _ (n : ℕ) (i : n ≡ line_number s) where
-    pub task_refused : n ≢ 0 → Task.PrintRefused n ≡ task_seen s
-    unfolding task_seen task_of
-    task_refused z = rw (← i, ne_eqb n 0 z)
-
-    pub task_listing : n ≡ 0 → Task.ListVolume s.nx s.ny s.nz ≡ task_seen s
-    unfolding task_seen task_of
-    task_listing z = rw (← i, eq-eqb n 0 z)
 
 pub finished_is : (s t : Scanned) (d e : List ℕ) (r : Task) → state t e ≡ closed s d → r ≡ task_seen t → outcome r e ≡ finished (state s d)
 unfolding finished

@@ -18,8 +18,7 @@ use Rattle.cells.proofs.ExtentLaws.{volume_high}
 use Rattle.extents.proofs.SizeLaws.{sized_of}
 use Rattle.text.specs.Words.{words_of, all_digits, is_number, spelled}
 use Rattle.text.specs.Request.{numbers, word, readable, extents_in, codes_in, formed, declines_text, text_refusal, asked_extents, asked_codes}
-use Rattle.parser.specs.declared.Scanned.{Scanned}
-use Rattle.parser.specs.Scanning.{State, state, scanned, begun, extent, lost, stored, after}
+use Rattle.parser.specs.Scanning.{Scanned, State, state, scanned, begun, extent, lost, stored, after}
 use Rattle.parser.specs.Asked.{Outcome, outcome, task_of, extents_seen, off_extents, whole_text, line_number, task_seen, finished}
 use Rattle.parser.proofs.WordLaws.{word_ends, after_words, walked}
 use Rattle.parser.proofs.AnswerLaws.{rungs, rungs_none, ladder}

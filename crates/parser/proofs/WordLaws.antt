@@ -12,8 +12,7 @@ use Rattle.lists.proofs.Cases.{by_test, and_second}
 use Rattle.text.proofs.SpelledLaws.{value_snoc, digits_snoc}
 use Rattle.decimals.specs.Decimals.{digit}
 use Rattle.text.specs.Words.{gap, ended, words_from, words_of, all_digits, value_from, spelled, is_number}
-use Rattle.parser.specs.declared.Scanned.{Scanned}
-use Rattle.parser.specs.Scanning.{State, state, scanned, begun, capped, spells, longer, counts, counted, lost, grown, stored, closed, step, after}
+use Rattle.parser.specs.Scanning.{Scanned, State, state, scanned, begun, capped, spells, longer, counts, counted, lost, grown, stored, closed, step, after}
 
 -- ---- chunks do not matter
 

@@ -1,12 +1,22 @@
--- What the program is to do once the scanner has read a text to its end (document 01, "Volumes to try").
+-- What the program is to do once the scanner has read a text to its end.
 -- Assumes nothing.
-use Rattle.std.specs.Prelude.{Bool, cond, not, ◌&&◌, List, ℕ, ◌-◌, eqb, leb}
-use Rattle.refusals.specs.Refusals.{unfit_size, bad_record, number}
-use Rattle.cells.specs.Box.{Triple, triple, volume}
+use Rattle.std.specs.Prelude.{Result, Ok, Err, Bool, cond, not, ◌&&◌, List, ℕ, ◌-◌, eqb, leb}
+use Rattle.refusals.specs.declared.Refusal.{Refusal}
+use Rattle.refusals.specs.Refusals.{number}
+use Rattle.cells.specs.Box.{triple, volume}
+use Rattle.cells.specs.declared.Triple.{Triple}
 use Rattle.cells.specs.Extents.{off_size}
-use Rattle.parser.specs.declared.Scanned.{Scanned}
-use Rattle.parser.specs.declared.Task.{Task}
-use Rattle.parser.specs.Scanning.{State, closed}
+use Rattle.parser.specs.Scanning.{Scanned, State, closed}
+
+-- What the program is to do once the text has ended: list the volume of these extents, or print the line `refused` with this number.
+pub data Task : Type 0 where
+  ListVolume : ℕ → ℕ → ℕ → Task
+  PrintRefused : ℕ → Task
+
+-- .. as an answer tells it.
+abbrev pub told : Result Triple Refusal → Task
+told (Ok e) = Task.ListVolume e.x e.y e.z
+told (Err r) = Task.PrintRefused (number r)
 
 -- What is to be done, and what the tray of codes holds.
 pub record Outcome : Type 0 where
@@ -34,7 +44,7 @@ whole_text s = not s.broken && (leb 3 s.count && (not (off_size 8 (extents_seen 
 
 -- The number that the line `refused` shows, 0 for no such line: `text_read` (proofs/TextLaws) says that it is that of the text.
 unfoldable pub line_number : Scanned → ℕ
-line_number s = cond (off_extents s) (number unfit_size) (cond (not (whole_text s)) (number bad_record) 0)
+line_number s = cond (off_extents s) (number Refusal.OffSize) (cond (not (whole_text s)) (number Refusal.BadRecord) 0)
 
 -- What is to be done.
 unfoldable pub task_seen : Scanned → Task

@@ -1,9 +1,20 @@
--- What the scanner keeps of the bytes that it has read, byte by byte (document 01, "Volumes to try").
+-- What the scanner keeps of the bytes that it has read, byte by byte.
 -- Assumes nothing.
-use Rattle.std.specs.Prelude.{Bool, true, false, cond, not, ◌&&◌, List, [], ◌∷◌, ℕ, ◌+◌, ◌-◌, ◌*◌, ◌^◌, eqb, ltb, set}
+use Rattle.std.specs.Prelude.{Option, Some, None, Bool, true, false, cond, not, ◌&&◌, List, [], ◌∷◌, ℕ, ◌+◌, ◌-◌, ◌*◌, ◌^◌, eqb, ltb, set}
 use Rattle.decimals.specs.Decimals.{digit}
 use Rattle.text.specs.Words.{gap}
-use Rattle.parser.specs.declared.Scanned.{Scanned}
+use Rattle.parser.specs.declared.Scanner.{Scanner}
+
+-- What has been read, but for the codes: how many words count, whether one has ended that does not, the word that has not ended, by its
+-- size, 10 at most, and by what it spells, and the extents.
+pub record Scanned : Type 0 where
+  pub count : ℕ
+  pub broken : Bool
+  pub size : ℕ
+  pub value : ℕ
+  pub nx : ℕ
+  pub ny : ℕ
+  pub nz : ℕ
 
 -- What has been read, and the tray of codes.
 pub record State : Type 0 where
@@ -16,6 +27,18 @@ state s d = record { seen = s; codes = d }
 -- Its fields, in order.
 abbrev pub scanned : ℕ → Bool → ℕ → ℕ → ℕ → ℕ → ℕ → Scanned
 scanned k b n v x y z = record { count = k; broken = b; size = n; value = v; nx = x; ny = y; nz = z }
+
+-- What a word spells: 2^32, above every number, where it is no number.
+abbrev pub told_value : Option ℕ → ℕ
+told_value None = 2 ^ 32
+told_value (Some v) = v
+
+-- What a scanner has read.
+abbrev pub seen : Scanner → Scanned
+seen s = scanned s.count s.broken s.size (told_value s.value) s.extents.x s.extents.y s.extents.z
+
+abbrev pub state_of : Scanner → State
+state_of s = state (seen s) s.codes.now
 
 -- Before the first byte.
 abbrev pub begun : Scanned
@@ -45,6 +68,11 @@ counts s = not s.broken && (ltb s.value (2 ^ 32) && ltb s.count 515)
 -- Extent i, where v counts after k others: the first three are the extents.
 unfoldable pub extent : ℕ → ℕ → ℕ → ℕ → ℕ
 extent i k v old = cond (eqb k i) v old
+
+-- The numbers that count are one more.
+abbrev pub kept_at : Scanned → ℕ → Scanned
+kept_at s v =
+    scanned (s.count + 1) s.broken s.size s.value (extent 0 s.count v s.nx) (extent 1 s.count v s.ny) (extent 2 s.count v s.nz)
 
 -- It counts.
 abbrev pub counted : Scanned → ℕ → Scanned

@@ -1,296 +1,186 @@
 // Turns the text that the listing program reads into what the program is to do. The text comes in chunks, of any length in all, and is
-// read to its end whatever is in it: what is kept of it is one `Scanned` and the tray of codes. None of the functions is an entry.
+// read to its end whatever is in it: what is kept of it is one `Scanner` with its tray of codes. None of the functions is an entry.
 #![tactic(auto)]
 
-ghost use Rattle.std.specs.Prelude.{◌≡◌, ◌-◌, ◌<◌};
-ghost use Rattle.cells.specs.Box.{triple, volume};
+ghost use Rattle.std.specs.Prelude.{◌≡◌, ◌<◌};
+ghost use Rattle.cells.specs.Box.{volume};
 ghost use Rattle.cells.specs.Extents.{Sized};
 ghost use Rattle.text.specs.Words.{gap};
-ghost use Rattle.parser.specs.Scanning.{state, begun, capped, spells, longer, grown, counts, extent, counted, lost, stored, closed, step, after};
-ghost use Rattle.parser.specs.Asked.{outcome, off_extents, whole_text, line_number, task_seen, finished};
+ghost use Rattle.parser.specs.Scanning.{seen, state_of, state, told_value, begun, spells, grown, kept_at, stored, closed, step, after};
+ghost use Rattle.parser.specs.Asked.{outcome, told, off_extents, whole_text, task_seen, finished};
 
+use cells::Triple;
 use extents::off_size;
-use refusals::{BAD_RECORD, OFF_SIZE};
-
-// What is spelled where no number is: 2^32, above every number.
-const NO_NUMBER: u64 = 4294967296;
+use refusals::Refusal;
 
 // What has been read. `count` words are numbers that count: those before the first word that is no number, 515 at most. `broken`: a word
-// has ended that does not count. The word that has not ended has `size` bytes, where 10 stands for more too, and spells `value`. The
-// first three numbers are the extents.
-#[derive(Clone, Copy)]
-pub struct Scanned {
+// has ended that does not count. The word that has not ended has `size` bytes, where 10 stands for more too, and spells `value`, if it is
+// a number so far. The first three numbers are the extents, and the others stand in front in the tray of codes.
+#[derive(Drop)]
+pub struct Scanner<'a> {
     count: u32,
     broken: bool,
     size: u32,
-    value: u64,
-    nx: u32,
-    ny: u32,
-    nz: u32,
-}
-
-// What the program is to do once the text has ended: list the volume of these extents, whose codes stand in front in the tray, or print
-// the line `refused` with this number.
-#[derive(Clone, Copy)]
-pub enum Task {
-    ListVolume(u16, u16, u16),
-    PrintRefused(u32),
+    value: Option<u32>,
+    extents: Triple,
+    codes: &'a mut [u32],
 }
 
 // Whether a byte parts words.
+#[tactic(auto, unfolding(text::specs::Words::gap))]
 fn is_gap(b: u8) -> bool
     ensures { result ≡ gap b }
 {
-    if b == 32 {
-        return true;
-    }
-    b == 10
-}
-
-fn capped(x: u64) -> u64
-    ensures { result ≡ capped x }
-{
-    if x < NO_NUMBER {
-        return x;
-    }
-    NO_NUMBER
+    b == b' ' || b == b'\n'
 }
 
 // What a word of `size` bytes that spells `value` spells with one byte more.
-fn spells(size: u32, value: u64, b: u8) -> u64
-    ensures { result ≡ spells size value b }
+#[tactic(auto, using(crate::proofs::ScanLaws::spells_low, crate::proofs::ScanLaws::spells_high, crate::proofs::ScanLaws::spells_long, crate::proofs::ScanLaws::spells_large, crate::proofs::ScanLaws::spells_over, crate::proofs::ScanLaws::spells_more))]
+fn spells(size: u32, value: Option<u32>, b: u8) -> Option<u32>
+    ensures { told_value result ≡ spells size (told_value value) b }
 {
-    if b < 48 {
-        return NO_NUMBER;
+    let value = value?;
+    if b.is_ascii_digit() && size < 10 {
+        value.checked_mul(10)?.checked_add(u32::from(b - b'0'))
+    } else {
+        None
     }
-    if b > 57 {
-        return NO_NUMBER;
-    }
-    if size >= 10 {
-        return NO_NUMBER;
-    }
-    if value >= NO_NUMBER {
-        return NO_NUMBER;
-    }
-    capped(10 * value + (b as u64 - 48))
-}
-
-fn longer(size: u32) -> u32
-    ensures { result ≡ longer size }
-{
-    if size < 10 {
-        return size + 1;
-    }
-    10
-}
-
-// The word that has not ended takes a byte.
-fn grown(s: Scanned, b: u8) -> Scanned
-    ensures { result ≡ grown s b }
-{
-    Scanned {
-        count: s.count,
-        broken: s.broken,
-        size: longer(s.size),
-        value: spells(s.size, s.value, b),
-        nx: s.nx,
-        ny: s.ny,
-        nz: s.nz,
-    }
-}
-
-// Whether a word that ends counts.
-fn counts(s: Scanned) -> bool
-    ensures { result ≡ counts s }
-{
-    if s.broken {
-        return false;
-    }
-    if s.value >= NO_NUMBER {
-        return false;
-    }
-    s.count < 515
-}
-
-// Extent i once a number counts.
-fn extent(i: u32, count: u32, value: u32, old: u32) -> u32
-    ensures { result ≡ extent i count value old }
-{
-    if count == i {
-        return value;
-    }
-    old
-}
-
-fn counted(s: Scanned, value: u32) -> Scanned
-    requires { s.count < 515 }
-    ensures { result ≡ counted s value }
-{
-    Scanned {
-        count: s.count + 1,
-        broken: false,
-        size: 0,
-        value: 0,
-        nx: extent(0, s.count, value, s.nx),
-        ny: extent(1, s.count, value, s.ny),
-        nz: extent(2, s.count, value, s.nz),
-    }
-}
-
-fn lost(s: Scanned) -> Scanned
-    ensures { result ≡ lost s }
-{
-    Scanned {
-        count: s.count,
-        broken: true,
-        size: 0,
-        value: 0,
-        nx: s.nx,
-        ny: s.ny,
-        nz: s.nz,
-    }
-}
-
-// Keeps a code that has its place in the tray.
-fn store(count: u32, value: u32, codes: &mut [u32])
-    ensures { codes.new ≡ stored count value codes.old }
-{
-    if count < 3 {
-        return;
-    }
-    let place = (count - 3) as usize;
-    if place < codes.len() {
-        codes[place] = value;
-    }
-}
-
-// The word, if there is one, ends.
-fn close(s: Scanned, codes: &mut [u32]) -> Scanned
-    ensures { state result codes.new ≡ closed s codes.old }
-{
-    if s.size == 0 {
-        return s;
-    }
-    if counts(s) {
-        let value = s.value as u32;
-        store(s.count, value, codes);
-        return counted(s, value);
-    }
-    lost(s)
-}
-
-fn step(s: Scanned, codes: &mut [u32], b: u8) -> Scanned
-    ensures { state result codes.new ≡ step s codes.old b }
-{
-    if is_gap(b) {
-        return close(s, codes);
-    }
-    grown(s, b)
-}
-
-// Before the first chunk. Not an entry.
-pub fn start() -> Scanned
-    ensures { result ≡ begun }
-{
-    Scanned {
-        count: 0,
-        broken: false,
-        size: 0,
-        value: 0,
-        nx: 0,
-        ny: 0,
-        nz: 0,
-    }
-}
-
-// Reads a chunk. The tray is the scanner's own from the first chunk to the last: it takes the codes as they are read.
-// Not an entry.
-pub fn scan(s: Scanned, codes: &mut [u32], chunk: &[u8]) -> Scanned
-    ensures { state result codes.new ≡ after (state s codes.old) chunk.now }
-{
-    let mut t = s;
-    let mut i: usize = 0;
-    while i < chunk.len() {
-        t = step(t, codes, chunk[i]);
-        i += 1;
-    }
-    t
-}
-
-// Whether the extents can be read and are off size.
-fn off_extents(s: Scanned) -> bool
-    ensures { result ≡ off_extents s }
-{
-    if s.count < 3 {
-        return false;
-    }
-    off_size(8, s.nx as usize, s.ny as usize, s.nz as usize)
-}
-
-// How many codes there are.
-fn code_count(s: Scanned) -> usize
-    ensures { result ≡ s.count - 3 }
-{
-    if s.count < 3 {
-        return 0;
-    }
-    (s.count - 3) as usize
 }
 
 // How many voxels there are.
-fn voxels(nx: usize, ny: usize, nz: usize) -> usize
-    requires { Sized 8 (triple nx ny nz) }
-    ensures { result ≡ volume (triple nx ny nz) }
+#[tactic(auto, unfolding(cells::specs::Box::volume))]
+fn voxels(e: Triple) -> usize
+    requires { Sized 8 e }
+    ensures { result ≡ volume e }
 {
-    nx * ny * nz
+    e.x * e.y * e.z
 }
 
-// Whether the text has its form.
-fn is_whole(s: Scanned) -> bool
-    ensures { result ≡ whole_text s }
-{
-    if s.broken {
-        return false;
+impl<'a> Scanner<'a> {
+    // Before the first chunk. The tray is the scanner's own from then on: it takes the codes as they are read. Not an entry.
+    pub fn start(codes: &'a mut [u32]) -> Scanner<'a>
+        ensures begun { state_of result ≡ state begun codes.old }
+        ensures same_tray { result.codes.ghost_name ≡ codes.entry.ghost_name }
+    {
+        Scanner {
+            count: 0,
+            broken: false,
+            size: 0,
+            value: Some(0),
+            extents: Triple { x: 0, y: 0, z: 0 },
+            codes,
+        }
     }
-    if s.count < 3 {
-        return false;
-    }
-    let nx = s.nx as usize;
-    let ny = s.ny as usize;
-    let nz = s.nz as usize;
-    if off_size(8, nx, ny, nz) {
-        return false;
-    }
-    code_count(s) == voxels(nx, ny, nz)
-}
 
-// The number that the line `refused` is to show, and 0 where there is to be none.
-fn line_number(s: Scanned) -> u32
-    ensures { result ≡ line_number s }
-{
-    if off_extents(s) {
-        return OFF_SIZE;
+    // The word that has not ended takes a byte.
+    #[tactic(auto, using(crate::proofs::ScanLaws::longer_is))]
+    fn grow(&mut self, b: u8)
+        ensures grown { state_of self.new ≡ state (grown (seen self.old) b) self.old.codes.now }
+        ensures same_tray { self.new.codes.ghost_name ≡ self.old.codes.ghost_name }
+    {
+        self.value = spells(self.size, self.value, b);
+        self.size = self.size.min(9) + 1;
     }
-    if is_whole(s) {
-        return 0;
-    }
-    BAD_RECORD
-}
 
-fn task_seen(s: Scanned) -> Task
-    ensures { result ≡ task_seen s }
-{
-    let number = line_number(s);
-    if number != 0 {
-        return Task::PrintRefused(number);
+    // A number counts: it is an extent, or a code, which is kept where it has its place in the tray.
+    fn keep(&mut self, value: u32)
+        requires { self.old.count < 515 }
+        ensures kept { state_of self.new ≡ state (kept_at (seen self.old) value) (stored self.old.count value self.old.codes.now) }
+        ensures same_tray { self.new.codes.ghost_name ≡ self.old.codes.ghost_name }
+    {
+        match self.count {
+            0 => self.extents.x = value as usize,
+            1 => self.extents.y = value as usize,
+            2 => self.extents.z = value as usize,
+            n => {
+                let place = n as usize - 3;
+                if place < self.codes.len() {
+                    self.codes[place] = value;
+                }
+            }
+        }
+        self.count += 1;
     }
-    Task::ListVolume(s.nx as u16, s.ny as u16, s.nz as u16)
-}
 
-// Tells after the last chunk what is to be done. The tray has a place for each code of the largest volume. Not an entry.
-pub fn finish(s: Scanned, codes: &mut [u32; 512]) -> Task
-    ensures { outcome result codes.new ≡ finished (state s codes.old) }
-{
-    let t = close(s, codes);
-    task_seen(t)
+    // The word, if there is one, ends.
+    fn close(&mut self)
+        ensures closed { state_of self.new ≡ closed (seen self.old) self.old.codes.now }
+        ensures same_tray { self.new.codes.ghost_name ≡ self.old.codes.ghost_name }
+    {
+        if self.size > 0 {
+            match self.value {
+                Some(value) if !self.broken && self.count < 515 => self.keep(value),
+                _ => self.broken = true,
+            }
+            self.size = 0;
+            self.value = Some(0);
+        }
+    }
+
+    // One byte.
+    #[tactic(auto, unfolding(crate::specs::Scanning::step))]
+    fn step(&mut self, b: u8)
+        ensures step { state_of self.new ≡ step (seen self.old) self.old.codes.now b }
+        ensures same_tray { self.new.codes.ghost_name ≡ self.old.codes.ghost_name }
+    {
+        if is_gap(b) {
+            self.close();
+        } else {
+            self.grow(b);
+        }
+    }
+
+    // Reads a chunk. Not an entry.
+    #[tactic(auto, using(crate::proofs::ScanLaws::after_more, crate::proofs::ScanLaws::after_all))]
+    pub fn scan(&mut self, chunk: &[u8])
+        ensures after { state_of self.new ≡ after (state_of self.old) chunk.now }
+        ensures same_tray { self.new.codes.ghost_name ≡ self.old.codes.ghost_name }
+    {
+        for b in chunk {
+            self.step(*b);
+        }
+    }
+
+    // Whether the extents can be read and are off size.
+    #[tactic(auto, unfolding(crate::specs::Asked::off_extents))]
+    fn off_extents(&self) -> bool
+        ensures { result ≡ off_extents (seen self.now) }
+    {
+        self.count >= 3 && off_size(8, self.extents)
+    }
+
+    // Whether the text has its form.
+    #[tactic(auto, unfolding(crate::specs::Asked::whole_text))]
+    fn is_whole(&self) -> bool
+        ensures { result ≡ whole_text (seen self.now) }
+    {
+        !self.broken
+            && self.count >= 3
+            && !off_size(8, self.extents)
+            && self.count as usize - 3 == voxels(self.extents)
+    }
+
+    // What the words that have been read ask for.
+    #[tactic(auto, unfolding(crate::specs::Asked::task_seen, crate::specs::Asked::task_of, crate::specs::Asked::line_number, refusals::specs::Refusals::number))]
+    fn asked(&self) -> Result<Triple, Refusal>
+        ensures { told result ≡ task_seen (seen self.now) }
+    {
+        if self.off_extents() {
+            Err(Refusal::OffSize)
+        } else if self.is_whole() {
+            Ok(self.extents)
+        } else {
+            Err(Refusal::BadRecord)
+        }
+    }
+
+    // Tells after the last chunk what is to be done: list the volume of these extents, whose codes stand in front in the tray, or print
+    // the line of the refusal. Not an entry.
+    pub fn finish(&mut self) -> Result<Triple, Refusal>
+        ensures finished { outcome (told result) self.new.codes.now ≡ finished (state_of self.old) }
+        ensures same_tray { self.new.codes.ghost_name ≡ self.old.codes.ghost_name }
+    {
+        self.close();
+        self.asked()
+    }
 }

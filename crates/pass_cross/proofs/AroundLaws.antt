@@ -1,8 +1,8 @@
 -- The upper neighbours of a cell by strides: their numbers have places, and their rows can be read.
 -- Assumes nothing.
-use mathlib.Core.Bool.{Bool, true, false, true≢false}
+use Rattle.std.proofs.Common.{Option, Some, None}
 use mathlib.Core.List.{List, [], ◌∷◌, ◌++◌, Memᴰ}
-use mathlib.Core.Path.{◌≡◌, refl, sym, ap, ◌∙◌}
+use mathlib.Core.Path.{◌≡◌, refl, ap, ◌∙◌}
 use Prim.Native.Nat.{ℕ, suc, ◌+◌, ◌-◌, ◌≤◌, ◌<◌}
 use native.Mathlib.Omega.{arith}
 use lib.Dec.{eqb}
@@ -10,7 +10,7 @@ use lib.ListN.{length, get_or}
 use borrow.Author.Tests.{eqb-true, eqb-false}
 use Rattle.lists.proofs.Cases.{by_test}
 use Rattle.union_find.specs.Links.{root}
-use Rattle.cells.specs.Box.{Triple}
+use Rattle.cells.specs.declared.Triple.{Triple}
 use Rattle.cells.specs.Grid.{cells, order, upper_neighbours}
 use Rattle.cells.specs.Row.{pad_to, numbers_at}
 use Rattle.cells.proofs.GridLaws.{upper_neighbour}
@@ -44,16 +44,16 @@ module _ (e : Triple) (m : List ℕ) (from size : ℕ) (whole : length m ≡ cel
         let f = flank_at e p h pre s post o in
         record { low = f.low; high = omega (arith, f.high); down = number_in e m p from size h R down_up.0; up = number_in e m p from size h R down_up.1 }
 
-  near_at : (p : ℕ) → p < cells e → (curve : Bool) (x y : ℕ) → odds e p ≡ strides_of curve x y → Room e m (suc (order e p)) from size → Near m p curve x y from size
+  near_at : (p : ℕ) → p < cells e → (x : ℕ) (y : Option ℕ) → odds e p ≡ strides_of x y → Room e m (suc (order e p)) from size → Near m p x y from size
   unfolding strides_of
-  near_at p h true x y o R =
-      record { here = omega arith; first = readable_at p h [] x (y ∷ []) o R; second = λ _. readable_at p h (x ∷ []) y [] o R; fits = R.fits }
-  near_at p h false x y o R =
-      record { here = omega arith; first = readable_at p h [] x [] o R; second = λ t. absurd (true≢false (sym t)); fits = R.fits }
+  near_at p h x (Some y) o R =
+      record { here = omega arith; first = readable_at p h [] x (y ∷ []) o R; second = λ s q. let i : y ≡ s = cc in rw (← i) (readable_at p h (x ∷ []) y [] o R); fits = R.fits }
+  near_at p h x None o R =
+      record { here = omega arith; first = readable_at p h [] x [] o R; second = λ s q. absurd (cc); fits = R.fits }
 
-  module _ (t : ℕ) (h : t < cells e) (pre : List ℕ) (s : ℕ) (post : List ℕ) (o : odds e t ≡ pre ++ s ∷ post) (curve : Bool) (x y : ℕ) (k : pre ++ post ≡ strides_of curve x y) where
+  module _ (t : ℕ) (h : t < cells e) (pre : List ℕ) (s : ℕ) (post : List ℕ) (o : odds e t ≡ pre ++ s ∷ post) (x : ℕ) (y : Option ℕ) (k : pre ++ post ≡ strides_of x y) where
     -- The rows one stride down and up from t can be read.
-    pub beside_at : Room e m (suc (suc (order e t))) from size → Beside m t s curve x y from size
+    pub beside_at : Room e m (suc (suc (order e t))) from size → Beside m t s x y from size
     beside_at R =
         let f = flank_at e t h pre s post o in
         let i = down_up t h pre s post o in
@@ -61,18 +61,18 @@ module _ (e : Triple) (m : List ℕ) (from size : ℕ) (whole : length m ≡ cel
         let v = upper_neighbour e t h i.1 in
         record {
           low = f.low;
-          down = near_at (t - s) u.within curve x y (f.below ∙ k) (rw u.higher R);
-          up = near_at (t + s) v.within curve x y (f.above ∙ k) (rw v.higher R);
+          down = near_at (t - s) u.within x y (f.below ∙ k) (rw u.higher R);
+          up = near_at (t + s) v.within x y (f.above ∙ k) (rw v.higher R);
         }
 
     -- They are those of the cells there.
-    pub rows_cells : (g : ℕ → ℕ) → rows_along m g from t s (strides_of curve x y) ≡ cell_row e m g from (t - s) ∷ cell_row e m g from (t + s) ∷ []
+    pub rows_cells : (g : ℕ → ℕ) → rows_along m g from t s (strides_of x y) ≡ cell_row e m g from (t - s) ∷ cell_row e m g from (t + s) ∷ []
     unfolding rows_along cell_row
     rows_cells g = let f = flank_at e t h pre s post o in rw (up_around e (t - s), up_around e (t + s), f.below, f.above, k)
 
-pub beside_kept : (m a b : List ℕ) (t s : ℕ) (curve : Bool) (x y from : ℕ) (u v : List (List ℕ)) → Beside m t s curve x y from (length a) → Read a b u v
-    → Beside m t s curve x y from (length b)
-beside_kept m a b t s curve x y from u v B K = rw K.kept.size B
+pub beside_kept : (m a b : List ℕ) (t s x : ℕ) (y : Option ℕ) (from : ℕ) (u v : List (List ℕ)) → Beside m t s x y from (length a) → Read a b u v
+    → Beside m t s x y from (length b)
+beside_kept m a b t s x y from u v B K = rw K.kept.size B
 
 -- ---- cells with two odd axes, and with three
 
@@ -109,51 +109,51 @@ module _ (e : Triple) (m : List ℕ) (n t a w b : ℕ) (M : Meeting e m n t a w 
 
   -- The rows along each axis can be read.
   module _ (from size : ℕ) (R : Room e m (suc (suc (order e t))) from size) where
-    pub two_first : n ≡ 2 → Beside m t a false b b from size
+    pub two_first : n ≡ 2 → Beside m t a b None from size
     unfolding strides_of
-    two_first k = beside_at e m from size M.whole t M.inside [] a (b ∷ []) (two_odd k) false b b refl R
+    two_first k = beside_at e m from size M.whole t M.inside [] a (b ∷ []) (two_odd k) b None refl R
 
-    pub two_last : n ≡ 2 → Beside m t b false a a from size
+    pub two_last : n ≡ 2 → Beside m t b a None from size
     unfolding strides_of
-    two_last k = beside_at e m from size M.whole t M.inside (a ∷ []) b [] (two_odd k) false a a refl R
+    two_last k = beside_at e m from size M.whole t M.inside (a ∷ []) b [] (two_odd k) a None refl R
 
-    pub three_first : ¬ (n ≡ 2) → Beside m t a true w b from size
+    pub three_first : ¬ (n ≡ 2) → Beside m t a w (Some b) from size
     unfolding strides_of
-    three_first k = beside_at e m from size M.whole t M.inside [] a (w ∷ b ∷ []) (three_odd k) true w b refl R
+    three_first k = beside_at e m from size M.whole t M.inside [] a (w ∷ b ∷ []) (three_odd k) w (Some b) refl R
 
-    pub three_middle : ¬ (n ≡ 2) → Beside m t w true a b from size
+    pub three_middle : ¬ (n ≡ 2) → Beside m t w a (Some b) from size
     unfolding strides_of
-    three_middle k = beside_at e m from size M.whole t M.inside (a ∷ []) w (b ∷ []) (three_odd k) true a b refl R
+    three_middle k = beside_at e m from size M.whole t M.inside (a ∷ []) w (b ∷ []) (three_odd k) a (Some b) refl R
 
-    pub three_last : ¬ (n ≡ 2) → Beside m t b true a w from size
+    pub three_last : ¬ (n ≡ 2) → Beside m t b a (Some w) from size
     unfolding strides_of
-    three_last k = beside_at e m from size M.whole t M.inside (a ∷ w ∷ []) b [] (three_odd k) true a w refl R
+    three_last k = beside_at e m from size M.whole t M.inside (a ∷ w ∷ []) b [] (three_odd k) a (Some w) refl R
 
     -- The rows in six places.
     module _ (c d f g : List ℕ) (us vs ws : List (List ℕ)) where
       -- what two readings along an axis give
-      along : (k l : List ℕ) (rs : List (List ℕ)) (pre : List ℕ) (s : ℕ) (post : List ℕ) → odds e t ≡ pre ++ s ∷ post → (curve : Bool) (x y : ℕ) → pre ++ post ≡ strides_of curve x y
-          → Read k l rs (rows_along m (root k) from t s (strides_of curve x y)) → rs ≡ cell_row e m (root k) from (t - s) ∷ cell_row e m (root k) from (t + s) ∷ []
-      along k l rs pre s post o curve x y q P = P.is ∙ rows_cells e m from size M.whole t M.inside pre s post o curve x y q (root k)
+      along : (k l : List ℕ) (rs : List (List ℕ)) (pre : List ℕ) (s : ℕ) (post : List ℕ) → odds e t ≡ pre ++ s ∷ post → (x : ℕ) (y : Option ℕ) → pre ++ post ≡ strides_of x y
+          → Read k l rs (rows_along m (root k) from t s (strides_of x y)) → rs ≡ cell_row e m (root k) from (t - s) ∷ cell_row e m (root k) from (t + s) ∷ []
+      along k l rs pre s post o x y q P = P.is ∙ rows_cells e m from size M.whole t M.inside pre s post o x y q (root k)
 
-      pub rows_around_two : n ≡ 2 → Read c d us (rows_along m (root c) from t a (strides_of false b b)) → Read d f vs (rows_along m (root d) from t b (strides_of false a a))
+      pub rows_around_two : n ≡ 2 → Read c d us (rows_along m (root c) from t a (strides_of b None)) → Read d f vs (rows_along m (root d) from t b (strides_of a None))
           → Read c f (get_or us 0 [] ∷ get_or us 1 [] ∷ get_or vs 0 [] ∷ get_or vs 1 [] ∷ pad_to 6 [] ∷ pad_to 6 [] ∷ []) (pad_rows 6 (cell_rows e m (root c) from (upper_neighbours e t)))
       unfolding cell_rows around strides_of
       rows_around_two k P Q =
           let o = two_odd k in
           record {
-            is = rw (up_around e t, o, along c d us [] a (b ∷ []) o false b b refl P, along d f vs (a ∷ []) b [] o false a a refl Q, kept_roots P.kept);
+            is = rw (up_around e t, o, along c d us [] a (b ∷ []) o b None refl P, along d f vs (a ∷ []) b [] o a None refl Q, kept_roots P.kept);
             kept = kept_then P.kept Q.kept;
           }
 
-      pub rows_around_three : ¬ (n ≡ 2) → Read c d us (rows_along m (root c) from t a (strides_of true w b)) → Read d f vs (rows_along m (root d) from t w (strides_of true a b))
-          → Read f g ws (rows_along m (root f) from t b (strides_of true a w))
+      pub rows_around_three : ¬ (n ≡ 2) → Read c d us (rows_along m (root c) from t a (strides_of w (Some b))) → Read d f vs (rows_along m (root d) from t w (strides_of a (Some b)))
+          → Read f g ws (rows_along m (root f) from t b (strides_of a (Some w)))
           → Read c g (get_or us 0 [] ∷ get_or us 1 [] ∷ get_or vs 0 [] ∷ get_or vs 1 [] ∷ get_or ws 0 [] ∷ get_or ws 1 [] ∷ []) (pad_rows 6 (cell_rows e m (root c) from (upper_neighbours e t)))
       unfolding cell_rows around strides_of
       rows_around_three k P Q S =
           let o = three_odd k in
           let K = kept_then P.kept Q.kept in
           record {
-            is = rw (up_around e t, o, along c d us [] a (w ∷ b ∷ []) o true w b refl P, along d f vs (a ∷ []) w (b ∷ []) o true a b refl Q, along f g ws (a ∷ w ∷ []) b [] o true a w refl S, kept_roots K, kept_roots P.kept);
+            is = rw (up_around e t, o, along c d us [] a (w ∷ b ∷ []) o w (Some b) refl P, along d f vs (a ∷ []) w (b ∷ []) o a (Some b) refl Q, along f g ws (a ∷ w ∷ []) b [] o a (Some w) refl S, kept_roots K, kept_roots P.kept);
             kept = kept_then K S.kept;
           }

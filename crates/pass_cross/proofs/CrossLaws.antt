@@ -2,19 +2,19 @@
 -- Assumes nothing.
 use mathlib.Core.List.{List, [], ◌∷◌, ◌++◌, Memᴰ}
 use mathlib.Core.Path.{◌≡◌, refl, sym, ap, ◌∙◌}
-use Prim.Native.Nat.{ℕ, zero, suc, ◌+◌, ◌-◌, ◌≤◌, ◌<◌}
+use Prim.Native.Nat.{ℕ, zero, suc, ◌+◌, ◌-◌, ◌*◌, ◌≤◌, ◌<◌}
 use native.Mathlib.Omega.{arith}
 use lib.ListN.{length, get_or}
 use Rattle.closure.specs.Joined.{Edge, joins}
 use Rattle.union_find.specs.Links.{root, Rooted}
 use Rattle.union_find.proofs.LinkLaws.{Left, left_all, left_fewer, left_none, rooted_refl}
-use Rattle.cells.specs.Box.{Triple}
+use Rattle.cells.specs.declared.Triple.{Triple}
 use Rattle.cells.specs.Grid.{cells, order, upper_neighbours}
 use Rattle.cells.specs.Row.{pad_to, numbers_at}
 use Rattle.cells.proofs.GridLaws.{length_up}
 use Rattle.lines.specs.Lines.{line_count, StridedAt}
 use Rattle.lines.specs.declared.StridedLine.{StridedLine}
-use Rattle.lines.proofs.WalkLaws.{Walking, walk_inside, walk_order, walk_strided}
+use Rattle.lines.proofs.WalkLaws.{cell_within, cell_walks, walk_inside, walk_order, walk_strided}
 use Rattle.pass_cross.specs.CrossEdges.{cross_at, Room, Trays, Crossed}
 use Rattle.pass_cross.specs.Inner.{Read, cell_rows, pad_rows, count_active, edges_among, CellTrays}
 use Rattle.pass_cross.proofs.ReadLaws.{kept_roots, kept_then}
@@ -83,14 +83,17 @@ trays_kept T R = record {
 
 -- ---- the cells of a line
 
--- The cell at x of line l, where components of order j meet.
-pub line_cross : {e : Triple} {m a links : List ℕ} {j start from l x : ℕ} {r : StridedLine} → Trays e m j a start links from → StridedAt e (4 - j) l r → l < line_count e → Walking e (4 - j) l x → x < r.line.width
-    → CellTrays e m (4 - j) (r.line.base + x) r.first r.line.width r.last (length a) start (length links) from
-line_cross {e} {j = j} {x = x} {r = r} T S h W k =
-    let o : order e (r.line.base + x) ≡ j - 1 = walk_order S.line x k W ∙ omega (arith, T.low) in
+-- The k-th cell of line l, where components of order j meet.
+pub line_cross : {e : Triple} {m a links : List ℕ} {j start from l k : ℕ} {r : StridedLine} → Trays e m j a start links from → StridedAt e (4 - j) l r → l < line_count e → k < r.line.count
+    → CellTrays e m (4 - j) (r.line.base + (r.line.start + 2 * k)) r.strides.first r.strides.middle r.strides.last (length a) start (length links) from
+line_cross {e} {j = j} {k = k} {r = r} T S h g =
+    let x = r.line.start + 2 * k in
+    let i : x < r.line.width = cell_within S.line g in
+    let W = cell_walks S.line k in
+    let o : order e (r.line.base + x) ≡ j - 1 = walk_order S.line x i W ∙ omega (arith, T.low) in
     let s : suc (j - 1) ≡ j = omega (arith, T.low) in
     record {
-      at = record { whole = T.whole; inside = walk_inside S.line _ k h; many = omega (arith, T.high); strided = walk_strided S W k (omega (arith, T.high)) };
+      at = record { whole = T.whole; inside = walk_inside S.line _ i h; many = omega (arith, T.high); strided = walk_strided S W i (omega (arith, T.high)) };
       upper = rw (o, s) T.upper;
       own = rw (o, s) T.own;
     }

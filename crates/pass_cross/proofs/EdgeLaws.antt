@@ -14,7 +14,7 @@ use Rattle.lists.proofs.Cases.{by_test}
 use Rattle.closure.specs.Joined.{Edge, edge, joins}
 use Rattle.union_find.specs.Links.{root, united, Rooted}
 use Rattle.union_find.proofs.LinkLaws.{Left, left_all, left_fewer, left_united, left_none}
-use Rattle.cells.specs.Box.{Triple}
+use Rattle.cells.specs.declared.Triple.{Triple}
 use Rattle.cells.specs.Row.{same_row, pad_to, numbers_at}
 use Rattle.labels.specs.Number.{pairs}
 use Rattle.pass_cross.specs.CrossEdges.{place_of, edge_if, cross_pair}

@@ -13,7 +13,7 @@ use Rattle.lists.proofs.Cases.{by_test, and_first, and_second}
 use Rattle.closure.specs.Joined.{Edge, edge, joins}
 use Rattle.closure.proofs.Classes.{joins_edge}
 use Rattle.union_find.specs.Links.{root, Rooted}
-use Rattle.cells.specs.Box.{Triple}
+use Rattle.cells.specs.declared.Triple.{Triple}
 use Rattle.cells.specs.Grid.{upper_neighbours}
 use Rattle.cells.specs.Row.{same_row}
 use Rattle.cells.proofs.RowLaws.{row_same, same_row_lem}

@@ -1,6 +1,6 @@
 -- Numbers and rows read through links: a reading keeps every root, so what is read after it is what was read before it.
 -- Assumes nothing.
-use mathlib.Core.Bool.{Bool, true, false}
+use Rattle.std.proofs.Common.{Option, Some, None}
 use mathlib.Core.List.{List, [], ◌∷◌}
 use mathlib.Core.Path.{◌≡◌, ap, ◌∙◌}
 use Prim.Native.Nat.{ℕ, suc, ◌+◌, ◌-◌, ◌≤◌}
@@ -45,13 +45,13 @@ module _ (m a : List ℕ) (p s from : ℕ) (ns : List ℕ) where
   pub up_in : (b : List ℕ) (u v : ℕ) → Readable m p s from (length a) → ns ≡ get_or m (p - s) 0 ∷ get_or m (p + s) 0 ∷ [] → Read a b u v → from + get_or ns 1 0 ≤ length b
   up_in b u v R e K = rw (e, K.kept.size) R.up
 
-pub second_kept : (m a b : List ℕ) (p : ℕ) (curve : Bool) (s t from : ℕ) (u v : List ℕ) → Near m p curve s t from (length a) → curve ≡ true → Read a b u v
+pub second_kept : (m a b : List ℕ) (p s : ℕ) (o : Option ℕ) (t from : ℕ) (u v : List ℕ) → Near m p s o from (length a) → o ≡ Some t → Read a b u v
     → Readable m p t from (length b)
-second_kept m a b p curve s t from u v N e K = rw K.kept.size (N.second e)
+second_kept m a b p s o t from u v N e K = rw K.kept.size (N.second t e)
 
-pub near_kept : (m a b : List ℕ) (p : ℕ) (curve : Bool) (s t from : ℕ) (u v : List ℕ) → Near m p curve s t from (length a) → Read a b u v
-    → Near m p curve s t from (length b)
-near_kept m a b p curve s t from u v N K = rw K.kept.size N
+pub near_kept : (m a b : List ℕ) (p s : ℕ) (o : Option ℕ) (from : ℕ) (u v : List ℕ) → Near m p s o from (length a) → Read a b u v
+    → Near m p s o from (length b)
+near_kept m a b p s o from u v N K = rw K.kept.size N
 
 -- ---- two numbers, and a row
 
@@ -62,22 +62,22 @@ unfolding numbers_through around
 read_two m a b c from p s ns u v e R S = record { is = rw (R.is, S.is, e, kept_roots R.kept); kept = kept_then R.kept S.kept }
 
 -- a cell that is not active, a face cell, a curve cell
-module _ (m a b c : List ℕ) (from p : ℕ) (curve : Bool) (s t : ℕ) where
-  pub row_idle : get_or m p 0 ≡ 0 → Read a a (pad_to 6 []) (active_row m (root a) from p (around p (strides_of curve s t)))
+module _ (m a b c : List ℕ) (from p s : ℕ) (o : Option ℕ) where
+  pub row_idle : get_or m p 0 ≡ 0 → Read a a (pad_to 6 []) (active_row m (root a) from p (around p (strides_of s o)))
   unfolding active_row
   row_idle e = record { is = rw e; kept = rooted_refl a }
 
   module _ (r us : List ℕ) where
-    pub row_face : ¬ (get_or m p 0 ≡ 0) → Read a b us (numbers_through m (root a) from (around p (s ∷ []))) → curve ≡ false
-        → r ≡ row_of (get_or us 0 0 ∷ get_or us 1 0 ∷ []) → Read a b r (active_row m (root a) from p (around p (strides_of curve s t)))
+    pub row_face : ¬ (get_or m p 0 ≡ 0) → Read a b us (numbers_through m (root a) from (around p (s ∷ []))) → o ≡ None
+        → r ≡ row_of (get_or us 0 0 ∷ get_or us 1 0 ∷ []) → Read a b r (active_row m (root a) from p (around p (strides_of s o)))
     unfolding active_row strides_of row_through numbers_through around
     row_face h R e q = record { is = q ∙ rw (ne_eqb (get_or m p 0) 0 h, e, R.is); kept = R.kept }
 
-    pub row_curve : (vs : List ℕ) → ¬ (get_or m p 0 ≡ 0) → Read a b us (numbers_through m (root a) from (around p (s ∷ []))) → curve ≡ true
+    pub row_curve : (t : ℕ) (vs : List ℕ) → ¬ (get_or m p 0 ≡ 0) → Read a b us (numbers_through m (root a) from (around p (s ∷ []))) → o ≡ Some t
         → Read b c vs (numbers_through m (root b) from (around p (t ∷ []))) → r ≡ row_of (get_or us 0 0 ∷ get_or us 1 0 ∷ get_or vs 0 0 ∷ get_or vs 1 0 ∷ [])
-        → Read a c r (active_row m (root a) from p (around p (strides_of curve s t)))
+        → Read a c r (active_row m (root a) from p (around p (strides_of s o)))
     unfolding active_row strides_of row_through numbers_through around
-    row_curve vs h R e S q = record { is = q ∙ rw (ne_eqb (get_or m p 0) 0 h, e, R.is, S.is, kept_roots R.kept); kept = kept_then R.kept S.kept }
+    row_curve t vs h R e S q = record { is = q ∙ rw (ne_eqb (get_or m p 0) 0 h, e, R.is, S.is, kept_roots R.kept); kept = kept_then R.kept S.kept }
 
 -- ---- the rows of two cells
 

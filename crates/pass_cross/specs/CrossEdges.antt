@@ -5,7 +5,7 @@ use Rattle.std.specs.Prelude.{not, cond, ◌&&◌, ◌≡◌, ℕ, suc, ◌+◌,
 use mathlib.Core.List.{List, [], ◌∷◌, map, flat_map}
 use Rattle.closure.specs.Joined.{Edge, edge, joins}
 use Rattle.union_find.specs.Links.{root, Rooted}
-use Rattle.cells.specs.Box.{Triple}
+use Rattle.cells.specs.declared.Triple.{Triple}
 use Rattle.cells.specs.Extents.{Sized}
 use Rattle.cells.specs.Grid.{cells, upper_neighbours}
 use Rattle.cells.specs.Row.{row_of, same_row}

@@ -1,11 +1,11 @@
 -- What the contracts of inner functions cite.
 -- Assumes nothing.
-use Rattle.std.specs.Prelude.{Bool, true, cond, ◌≡◌, ℕ, zero, suc, ◌+◌, ◌-◌, ◌*◌, ◌≤◌, ◌<◌, eqb, get_or, length}
+use Rattle.std.specs.Prelude.{cond, Option, Some, None, ◌≡◌, ℕ, zero, suc, ◌+◌, ◌-◌, ◌*◌, ◌≤◌, ◌<◌, eqb, get_or, length}
 use mathlib.Core.List.{List, [], ◌∷◌, ◌++◌, map, flat_map}
 use Rattle.lists.specs.Lists.{consecutive, keep}
 use Rattle.closure.specs.Joined.{Edge}
 use Rattle.union_find.specs.Links.{root, Rooted}
-use Rattle.cells.specs.Box.{Triple}
+use Rattle.cells.specs.declared.Triple.{Triple}
 use Rattle.cells.specs.Grid.{sides, cells, order, upper_neighbours}
 use Rattle.cells.specs.Row.{pad_to}
 use Rattle.lines.specs.Lines.{Strided, around}
@@ -16,9 +16,10 @@ pub record Read {A : Type 0} (above above' : List ℕ) (x v : A) : Type 0 where
   pub is : x ≡ v
   pub kept : Rooted above above' (root above)
 
--- The strides of the odd axes of a curve cell, or of a face cell.
-unfoldable pub strides_of : Bool → ℕ → ℕ → List ℕ
-strides_of curve a b = cond curve (a ∷ b ∷ []) (a ∷ [])
+-- The strides of the odd axes of a face cell, or of a curve cell.
+unfoldable pub strides_of : ℕ → Option ℕ → List ℕ
+strides_of a None = a ∷ []
+strides_of a (Some b) = a ∷ b ∷ []
 
 -- The row that the numbers at qs give cell p, read through links: zeros where p is not active.
 unfoldable pub active_row : List ℕ → (ℕ → ℕ) → ℕ → ℕ → List ℕ → List ℕ
@@ -71,17 +72,17 @@ pub record Readable (m : List ℕ) (p s from size : ℕ) : Type 0 where
   pub up : from + get_or m (p + s) 0 ≤ size
 
 -- The row of cell p can be read by its strides.
-pub record Near (m : List ℕ) (p : ℕ) (curve : Bool) (a b from size : ℕ) : Type 0 where
+pub record Near (m : List ℕ) (p a : ℕ) (b : Option ℕ) (from size : ℕ) : Type 0 where
   pub here : p < length m
   pub first : Readable m p a from size
-  pub second : curve ≡ true → Readable m p b from size
+  pub second : (s : ℕ) → b ≡ Some s → Readable m p s from size
   pub fits : size < 4294967296
 
 -- So can those of the cells one stride s down and up from t.
-pub record Beside (m : List ℕ) (t s : ℕ) (curve : Bool) (a b from size : ℕ) : Type 0 where
+pub record Beside (m : List ℕ) (t s a : ℕ) (b : Option ℕ) (from size : ℕ) : Type 0 where
   pub low : s ≤ t
-  pub down : Near m (t - s) curve a b from size
-  pub up : Near m (t + s) curve a b from size
+  pub down : Near m (t - s) a b from size
+  pub up : Near m (t + s) a b from size
 
 -- Cell t of the map has n odd axes, two or three, of these strides.
 pub record Meeting (e : Triple) (m : List ℕ) (n t a w b : ℕ) : Type 0 where

@@ -4,24 +4,25 @@ use mathlib.Core.Path.{◌≡◌, refl, sym, ap, ap₂, ◌∙◌}
 use mathlib.Core.Bool.{true, cond}
 use mathlib.Core.Logic.{◌≢◌}
 use mathlib.Core.List.{List, [], ◌∷◌, ◌++◌, Memᴰ}
-use Prim.Native.Nat.{ℕ, suc, ◌+◌, ◌-◌, ◌*◌, ◌%◌, ◌≤◌, ◌<◌}
+use Prim.Native.Nat.{ℕ, suc, ◌+◌, ◌-◌, ◌*◌, ◌/◌, ◌%◌, ◌≤◌, ◌<◌}
 use native.Mathlib.Omega.{arith}
 use lib.Dec.{eqb}
 use lib.ListN.{get_or, length, set}
 use borrow.Author.Tests.{eqb-true, eqb-false, eq-eqb, ne_eqb}
 use Rattle.lists.specs.Lists.{keep, overlay}
-use Rattle.lists.proofs.Cases.{by_test, picked}
+use Rattle.lists.proofs.Cases.{by_test}
 use Rattle.lists.proofs.Overlay.{overlay_same, overlay_at, overlay_again}
-use Rattle.cells.specs.Box.{Triple, coord, each, index, place}
+use Rattle.cells.specs.Box.{triple, coord, each, index, place}
+use Rattle.cells.specs.declared.Triple.{Triple}
 use Rattle.cells.specs.Extents.{Sized}
 use Rattle.cells.specs.Grid.{sides, cells, order}
 use Rattle.labels.specs.Components.{of_order, largest, component}
 use Rattle.labels.proofs.ComponentLaws.{of_order_out}
 use Rattle.labels.proofs.CountLaws.{largest_bound}
-use Rattle.lines.specs.Lines.{line_count, line_y, line_z, first_x}
+use Rattle.lines.specs.Lines.{line_count, line_y, line_z, LineAt}
 use Rattle.lines.specs.declared.Line.{Line}
 use Rattle.lines.proofs.LineLaws.{Tests, order_tests}
-use Rattle.lines.proofs.WalkLaws.{Walking, ahead, walk_inside, walk_ends, walk_order, cells_first, cells_next, cells_last}
+use Rattle.lines.proofs.WalkLaws.{rest_of, walk_inside, walk_order, cell_within, cell_walks, cell_first, cell_next, cell_last}
 use Rattle.cutting.specs.Cutting.{Cutting, blocks, good_cut, embed, most_blocks}
 use Rattle.joiner.specs.Job.{Kind, order_of, key_of, key_position}
 use Rattle.joiner.specs.Outcomes.{first_of, enrolled_key}
@@ -35,15 +36,6 @@ use Rattle.pass_enrol.specs.EnrolledRows.{Lies, Along, position_in, first_in, ke
 use Rattle.pass_enrol.proofs.PlaceLaws.{position_line, position_high}
 
 -- ---- the keys of a list of cells
-
--- k is the number n
-pub put_none : (from n k key : ℕ) (t : List ℕ) → k ≡ n → k ≡ 0 → t ≡ key_put from n key t
-unfolding key_put
-put_none from n k key t e z = rw (← e, eq-eqb k 0 z)
-
-pub put_some : (from n k key : ℕ) (t : List ℕ) → k ≡ n → k ≢ 0 → set t (from + (k - 1)) key ≡ key_put from n key t
-unfolding key_put
-put_some from n k key t e z = rw (← e, ne_eqb k 0 z)
 
 module _ (v : Triple) (r : Block) (b : ℕ) (m : List ℕ) (from : ℕ) where
   abbrev still_left : List ℕ → List ℕ → List ℕ
@@ -91,26 +83,19 @@ module _ (v : Triple) (r : Block) (b : ℕ) (m : List ℕ) (from : ℕ) where
     unfolding keyed
     lines_start l t h = rw (from_last e j l h)
 
-    pub lines_next : (l : ℕ) (t₀ t u : List ℕ) → 0 < l → l ≤ line_count e → t ≡ still_left (from_line e j l) t₀ → u ≡ still_left (on_line e j (l - 1)) t → u ≡ still_left (from_line e j (l - 1)) t₀
-    lines_next l t₀ t u h k i c =
-        let s : l - 1 + 1 ≡ l = omega arith in
-        c ∙ ap (still_left (on_line e j (l - 1))) (i ∙ ap (λ (x : ℕ). still_left (from_line e j x) t₀) (sym s))
-        ∙ sym (ap (λ (ps : List ℕ). still_left ps t₀) (from_next e j (l - 1) (omega arith)) ∙ keyed_append (on_line e j (l - 1)) (from_line e j (l - 1 + 1)) t₀)
+    pub lines_next : (l : ℕ) (t₀ t u : List ℕ) → l < line_count e → t ≡ still_left (from_line e j (l + 1)) t₀ → u ≡ still_left (on_line e j l) t → u ≡ still_left (from_line e j l) t₀
+    lines_next l t₀ t u k i c =
+        c ∙ ap (still_left (on_line e j l)) i ∙ sym (ap (λ (ps : List ℕ). still_left ps t₀) (from_next e j l k) ∙ keyed_append (on_line e j l) (from_line e j (l + 1)) t₀)
 
-    pub lines_end : (l count : ℕ) (xs t₀ t : List ℕ) → l ≤ 0 → count ≡ largest e m j → t₀ ≡ overlay xs from (λ i. b) count → t ≡ still_left (from_line e j l) t₀
+    pub lines_end : (count : ℕ) (xs t₀ t : List ℕ) → count ≡ largest e m j → t₀ ≡ overlay xs from (λ i. b) count → t ≡ still_left (from_line e j 0) t₀
         → t ≡ overlay xs from (λ i. key_in v r b m j (suc i)) count
     unfolding key_in component among_key
-    lines_end l count xs t₀ t h k i c =
-        let z : l ≡ 0 = omega arith in
+    lines_end count xs t₀ t k i c =
         let high : (p : ℕ) → Memᴰ p (of_order e j) → get_or m p 0 ≤ count =
         λ p d. let o = of_order_out e j d in rw (k, ← o.1) (largest_bound e m p o.0) in
-        c ∙ ap₂ still_left (ap (from_line e j) z ∙ from_first e j) i ∙ keyed_overlay xs count (of_order e j) high
+        c ∙ ap₂ still_left (from_first e j) i ∙ keyed_overlay xs count (of_order e j) high
 
 -- ---- the cells of order j on line l
-
-first_most : (n q w : ℕ) → 0 < w → first_x n q w ≤ w
-unfolding first_x
-first_most n q w h = picked (λ (x : ℕ). x ≤ w) (eqb n q) 0 (cond (eqb n (suc q)) 1 w) (λ _. omega arith) (λ _. picked (λ (x : ℕ). x ≤ w) (eqb n (suc q)) 1 w (λ _. omega arith) (λ _. omega arith))
 
 -- The cell at x, and where it stands in the volume.
 pub record Here (v : Triple) (r : Block) (j : ℕ) (line : Line) (x at : ℕ) : Type 0 where
@@ -119,12 +104,10 @@ pub record Here (v : Triple) (r : Block) (j : ℕ) (line : Line) (x at : ℕ) : 
   pub position : at + x ≡ position_in v r (line.base + x)
   pub high : at + x < 8589934592
 
--- Where the loop over x begins: past the end of the line, at an even distance from the first cell.
-pub record Ends (w start x : ℕ) : Type 0 where
-  pub low : start ≤ x
-  pub even : x % 2 ≡ start % 2
-  pub high : x ≤ w + 1
-  pub past : w ≤ x
+pub along_line : {v : Triple} {r : Block} {m : List ℕ} {j l : ℕ} {line : Line} {at : ℕ} → Lies v r → length m ≡ cells (size_of r) → j ≤ 2 → l < line_count (size_of r) → LineAt (size_of r) (3 - j) l line
+    → at ≡ embed_in v r (triple 0 (l % (2 * r.size.y - 1)) (l / (2 * r.size.y - 1))) → Along v r m j l line at
+unfolding sides
+along_line z n h i t e = record { lies = z; size = n; below = h; on = i; told = t; begins = e }
 
 module _ {v : Triple} {r : Block} {m : List ℕ} {j l : ℕ} {line : Line} {at : ℕ} (A : Along v r m j l line at) where
   abbrev extents_here : Triple
@@ -133,45 +116,38 @@ module _ {v : Triple} {r : Block} {m : List ℕ} {j l : ℕ} {line : Line} {at :
   along_tests : Tests (λ c. eqb (order extents_here c) j) (l * (sides extents_here).x) (sides extents_here).x (3 - j) (line_y extents_here l + line_z extents_here l)
   along_tests = order_tests extents_here j l (omega (arith, A.below))
 
-  -- where the line ends
-  pub along_fits : line.base + line.width ≤ 2048383
-  along_fits = walk_ends A.told A.lies.sized A.on
+  module _ {k : ℕ} (h : k < line.count) where
+    abbrev x : ℕ
+    x = line.start + 2 * k
 
-  pub along_ends : Ends line.width line.start (line.width + 1 - line.start % 2)
-  unfolding sides
-  along_ends =
-      let n : line.width ≡ 2 * extents_here.x - 1 = A.told.width in
-      let s : line.start ≤ line.width = rw (A.told.start, A.told.width) (first_most (3 - j) (line_y extents_here l + line_z extents_here l) (sides extents_here).x (omega (arith, A.lies.sized.x_low))) in
-      record { low = omega arith; even = omega (arith, A.lies.sized.x_low); high = omega arith; past = omega arith }
-
-  module _ (x : ℕ) (W : Walking extents_here (3 - j) l x) (h : x < line.width) where
     pub along_here : Here v r j line x at
     along_here =
         let L = A.told in
-        let i = walk_inside L x h A.on in
+        let g : x < line.width = cell_within L h in
+        let i = walk_inside L x g A.on in
         let s : at + x ≡ position_in v r (line.base + x) = rw L.base (ap (λ (n : ℕ). n + x) A.begins ∙ position_line v r l x (omega (arith, L.width))) in
-        record { within = i; level = walk_order L x h W ∙ omega (arith, A.below); position = s; high = omega (arith, position_high A.lies (line.base + x) i) }
+        record { within = i; level = walk_order L x g (cell_walks L k) ∙ omega (arith, A.below); position = s; high = omega (arith, position_high A.lies (line.base + x) i) }
 
     pub along_number : get_or m (line.base + x) 0 ≤ largest extents_here m j
     along_number = rw (← along_here.level) (largest_bound extents_here m (line.base + x) along_here.within)
 
   module _ (b from : ℕ) (t₀ : List ℕ) where
-    -- what the cells from x on leave
+    -- what the cells from the k-th on leave
     abbrev behind : ℕ → List ℕ
-    behind x = keyed v r b m from (ahead (λ c. eqb (order extents_here c) j) line x) t₀
+    behind k = keyed v r b m from (rest_of (λ c. eqb (order extents_here c) j) line k) t₀
 
-    pub keys_none : (x : ℕ) → line.width ≤ x → t₀ ≡ behind x
+    pub keys_none : (k : ℕ) → line.count ≤ k → t₀ ≡ behind k
     unfolding keyed
-    keys_none x h = rw (cells_last A.told along_tests h)
+    keys_none k h = rw (cell_last A.told along_tests h)
 
-    pub keys_next : (x : ℕ) (t u : List ℕ) → 2 ≤ x → Walking extents_here (3 - j) l (x - 2) → x - 2 < line.width → t ≡ behind x
-        → u ≡ key_put from (get_or m (line.base + (x - 2)) 0) (key_of (position_in v r (line.base + (x - 2))) b) t → u ≡ behind (x - 2)
+    pub keys_next : (k : ℕ) (t u : List ℕ) (key : ℕ) → k < line.count → t ≡ behind (k + 1) → key ≡ key_of (at + (line.start + 2 * k)) b
+        → u ≡ key_put from (get_or m (line.base + (line.start + 2 * k)) 0) key t → u ≡ behind k
     unfolding keyed
-    keys_next x t u g W h i c = let s : x - 2 + 2 ≡ x = omega arith in rw (cells_next A.told along_tests W h, s, ← i) c
+    keys_next k t u key h i q c = rw (cell_next A.told along_tests h, ← i, ← (along_here h).position, ← q) c
 
-    pub keys_all : (x : ℕ) (t : List ℕ) → line.start ≤ x → x ≤ line.start → t ≡ behind x → t ≡ keyed v r b m from (on_line extents_here j l) t₀
+    pub keys_all : (t : List ℕ) → t ≡ behind 0 → t ≡ keyed v r b m from (on_line extents_here j l) t₀
     unfolding on_line
-    keys_all x t low h i = let s : x ≡ line.start = omega arith in i ∙ ap behind s ∙ ap (λ (ps : List ℕ). keyed v r b m from ps t₀) (sym (cells_first A.told along_tests))
+    keys_all t i = i ∙ ap (λ (ps : List ℕ). keyed v r b m from ps t₀) (sym (cell_first A.told along_tests))
 
 -- ---- the joiner's keys
 

@@ -3,7 +3,9 @@
 use mathlib.Core.Path.{◌≡◌, subst}
 use Prim.Native.Nat.{ℕ, ◌+◌, ◌*◌, ◌/◌, ◌%◌, ◌<◌}
 use native.Mathlib.Omega.{arith}
-use Rattle.cells.specs.Box.{Triple, X, Y, Z, triple, coord, index, place}
+use Rattle.cells.specs.Box.{triple, coord, index, place}
+use Rattle.cells.specs.declared.Axis.TheVariants.{X, Y, Z}
+use Rattle.cells.specs.declared.Triple.{Triple}
 use Rattle.cells.specs.Grid.{sides, cells}
 use Rattle.cells.proofs.BoxLaws.{Inside, index_inside}
 use Rattle.cells.proofs.ExtentLaws.{cells_high}

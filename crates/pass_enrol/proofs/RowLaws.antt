@@ -3,17 +3,20 @@
 use mathlib.Core.Path.{◌≡◌, refl, sym, ap, ◌∙◌}
 use mathlib.Core.Bool.{true, ◌&&◌}
 use mathlib.Core.Logic.{◌≢◌, ◌⊎◌, inl, inr}
-use mathlib.Core.List.{List, [], ◌∷◌, map, Memᴰ}
+use mathlib.Core.List.{List, [], ◌∷◌, Memᴰ}
 use Prim.Native.Nat.{ℕ, suc, ◌+◌, ◌-◌, ◌*◌, ◌/◌, ◌%◌, ◌≤◌, ◌<◌}
 use native.Mathlib.Nat.{zero-mod, zero-div}
 use native.Mathlib.Omega.{arith}
 use lib.Dec.{eqb, leb, ltb}
-use lib.ListN.{get_or, get_or-map}
-use borrow.Author.Tests.{eqb-true, eq-eqb, ne_eqb, le-leb, lt-ltb}
+use lib.ListN.{get_or, get_or-eq_default, length}
+use borrow.Author.Tests.{eqb-true, eq-eqb, ne_eqb, le-leb, lt-ltb, ltb-true, ltb-false}
 use Rattle.lists.specs.Lists.{overlay}
 use Rattle.lists.proofs.Cases.{by_test, and_both}
 use Rattle.lists.proofs.Overlay.{overlay_same}
-use Rattle.cells.specs.Box.{Triple, Axis, X, Y, Z, coord, each, index, place}
+use Rattle.cells.specs.Box.{coord, each, index, place}
+use Rattle.cells.specs.declared.Axis.{Axis}
+use Rattle.cells.specs.declared.Axis.TheVariants.{X, Y, Z}
+use Rattle.cells.specs.declared.Triple.{Triple}
 use Rattle.cells.specs.Grid.{sides, cells, parity, order}
 use Rattle.cells.specs.Row.{row_of, row}
 use Rattle.cells.proofs.BoxLaws.{Inside, same_triple, index_place, place_index, index_inside}
@@ -32,13 +35,14 @@ use Rattle.pass_enrol.proofs.PlaceLaws.{shift_in_lem}
 
 -- ---- shifted entries
 
-pub shift_none : (s x : ℕ) → x ≡ 0 → 0 ≡ shift_by s x
+-- n entries of y are those of x shifted, and the others as they were
+pub all_shifted : (s n : ℕ) (x y : List ℕ) → length x ≤ n → ((i : ℕ) → i < n → get_or y i 0 ≡ shift_by s (get_or x i 0)) → ((i : ℕ) → n ≤ i → get_or y i 0 ≡ get_or x i 0)
+    → (i : ℕ) → get_or y i 0 ≡ shift_by s (get_or x i 0)
 unfolding shift_by
-shift_none s x z = rw (eq-eqb x 0 z)
-
-pub shift_some : (s x : ℕ) → x ≢ 0 → s + x ≡ shift_by s x
-unfolding shift_by
-shift_some s x z = rw (ne_eqb x 0 z)
+all_shifted s n x y l f g i =
+    by_test (ltb i n)
+    (λ t. f i (ltb-true i n t))
+    (λ t. let h = ltb-false i n t in let z : get_or x i 0 ≡ 0 = get_or-eq_default x 0 (omega arith) in rw z (g i h ∙ z))
 
 pub shift_fits : (s x : ℕ) → x < 4294967296 → (s ≡ 0) ⊎ (s + x < 4294967296) → s + x < 4294967296
 shift_fits s x h (inl e) = omega arith
@@ -157,9 +161,9 @@ module _ {v : Triple} {r : Block} (L : Lies v r) (m : List ℕ) (j n : ℕ) (bel
     row_fits shift o x e i = rw (number_row x e) (shift_less shift (get_or (component_row (size_of r) m j n) i 0) (largest (size_of r) m (suc j)) (component_row_most (size_of r) m j n i) o)
 
 -- place i of the row of number n + 1
-pub row_entry_lem : (e : Triple) (shift : ℕ) (m : List ℕ) (j n : ℕ) (x y : List ℕ) → x ≡ component_row e m j (suc n) → y ≡ map (shift_by shift) x → (i : ℕ) → get_or y i 0 ≡ row_in e shift m j (suc n) i
+pub row_entry_lem : (e : Triple) (shift : ℕ) (m : List ℕ) (j n : ℕ) (x y : List ℕ) → x ≡ component_row e m j (suc n) → ((i : ℕ) → get_or y i 0 ≡ shift_by shift (get_or x i 0)) → (i : ℕ) → get_or y i 0 ≡ row_in e shift m j (suc n) i
 unfolding row_in shift_by
-row_entry_lem e shift m j n x y q s i = ap (λ (l : List ℕ). get_or l i 0) s ∙ get_or-map (shift_by shift) x i 0 ∙ ap (λ (l : List ℕ). shift_by shift (get_or l i 0)) q
+row_entry_lem e shift m j n x y q s i = s i ∙ ap (λ (l : List ℕ). shift_by shift (get_or l i 0)) q
 
 -- ---- the joiner's rows
 

@@ -2,7 +2,9 @@
 -- the joiner's `enrolled_key` and `enrolled_row`.
 -- Assumes nothing.
 use Rattle.std.specs.Prelude.{◌≡◌, cond, List, [], ◌∷◌, ℕ, suc, ◌+◌, ◌-◌, ◌/◌, ◌%◌, ◌≤◌, ◌<◌, eqb, get_or, length, set}
-use Rattle.cells.specs.Box.{Triple, Axis, triple, coord, place}
+use Rattle.cells.specs.Box.{triple, coord, place}
+use Rattle.cells.specs.declared.Axis.{Axis}
+use Rattle.cells.specs.declared.Triple.{Triple}
 use Rattle.cells.specs.Extents.{Sized}
 use Rattle.cells.specs.Grid.{sides, cells}
 use Rattle.cells.specs.Row.{row_of, row}

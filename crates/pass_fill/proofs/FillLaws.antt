@@ -6,11 +6,15 @@ use mathlib.Core.List.{List, []}
 use Prim.Native.Nat.{ℕ, suc, ◌+◌, ◌-◌, ◌*◌, ◌/◌, ◌%◌, ◌≤◌, ◌<◌}
 use native.Mathlib.Omega.{arith}
 use lib.Dec.{eqb}
-use lib.ListN.{get_or, set}
+use lib.ListN.{length, get_or, set, take, drop}
 use borrow.Author.Tests.{eqb-true, eqb-false, eq-eqb, ne_eqb}
+use Rattle.std.proofs.lemmas.Grind.{elements}
 use Rattle.lists.specs.Lists.{overlay}
 use Rattle.lists.proofs.Cases.{by_test}
-use Rattle.cells.specs.Box.{Triple, X, Y, Z, volume, index}
+use Rattle.lists.proofs.Overlay.{overlay_same}
+use Rattle.cells.specs.Box.{volume, index}
+use Rattle.cells.specs.declared.Axis.TheVariants.{X, Y, Z}
+use Rattle.cells.specs.declared.Triple.{Triple}
 use Rattle.cells.specs.Extents.{Sized}
 use Rattle.cells.specs.Grid.{sides, cells, voxel}
 use Rattle.cells.proofs.GridLaws.{voxel_inside}
@@ -24,35 +28,52 @@ use Rattle.pass_fill.specs.CodeOn.{code_on}
 
 -- ---- a line of voxels
 
-module _ (codes m : List ℕ) (v base : ℕ) where
+module _ (codes m : List ℕ) (base : ℕ) where
   -- The map once the cells before the i-th code are laid.
   abbrev before : ℕ → List ℕ
-  before i = overlay m base (code_on codes v) (2 * i)
+  before i = overlay m base (code_on codes 0) (2 * i)
 
-  code_even : (i : ℕ) → code_on codes v (2 * i) ≡ get_or codes (v + i) 0
+  code_even : (i : ℕ) → code_on codes 0 (2 * i) ≡ get_or codes i 0
   unfolding code_on
   code_even i =
       let even : 2 * i % 2 ≡ 0 = omega arith in
-      let half : 2 * i / 2 ≡ i = omega arith in
+      let half : 0 + 2 * i / 2 ≡ i = omega arith in
       rw (even, half)
 
-  code_odd : (i : ℕ) → code_on codes v (suc (2 * i)) ≡ 0
+  code_odd : (i : ℕ) → code_on codes 0 (suc (2 * i)) ≡ 0
   unfolding code_on
   code_odd i = let odd : suc (2 * i) % 2 ≡ 1 = omega arith in rw odd
 
   -- The i-th code, and the 0 behind it.
-  pub code_laid : (i : ℕ) → set (before i) (base + 2 * i) (get_or codes (v + i) 0) ≡ overlay m base (code_on codes v) (2 * i + 1)
+  pub code_laid : (i : ℕ) → set (before i) (base + 2 * i) (get_or codes i 0) ≡ overlay m base (code_on codes 0) (2 * i + 1)
   unfolding overlay
   code_laid i =
       let s : 2 * i + 1 ≡ suc (2 * i) = omega arith in
       rw (s, code_even i)
 
-  pub gap_laid : (i : ℕ) → set (set (before i) (base + 2 * i) (get_or codes (v + i) 0)) (base + 2 * i + 1) 0 ≡ before (i + 1)
+  pub gap_laid : (i : ℕ) → set (set (before i) (base + 2 * i) (get_or codes i 0)) (base + 2 * i + 1) 0 ≡ before (i + 1)
   unfolding overlay
   gap_laid i =
       let s : 2 * (i + 1) ≡ suc (suc (2 * i)) = omega arith in
       let p : base + 2 * i + 1 ≡ base + suc (2 * i) = omega arith in
       rw (s, p, code_even i, code_odd i)
+
+-- n codes from place v on, as a slice of their own.
+module _ (codes : List ℕ) (v n : ℕ) (h : v + n ≤ length codes) where
+  abbrev run_of : List ℕ
+  run_of = take (v + n - v) (drop v codes)
+
+  pub length-run_of : length run_of ≡ n
+  length-run_of = grind (arith, elements)
+
+  slice_at : (x : ℕ) → x < 2 * n - 1 → code_on run_of 0 x ≡ code_on codes v x
+  unfolding code_on
+  slice_at x k =
+      let s : get_or run_of (0 + x / 2) 0 ≡ get_or codes (v + x / 2) 0 = grind (arith, elements) in
+      rw s
+
+  pub slice_laid : (m : List ℕ) (base : ℕ) → overlay m base (code_on run_of 0) (2 * length run_of - 1) ≡ overlay m base (code_on codes v) (2 * n - 1)
+  slice_laid m base = rw length-run_of (overlay_same m base (code_on run_of 0) (code_on codes v) (2 * n - 1) slice_at)
 
 -- ---- the codes of a line
 

@@ -1,4 +1,4 @@
--- Document 02, item 3: what `fill` leaves. The premise of the first two laws is the promise of `fill` itself; of what the map held it says nothing.
+-- What `fill` leaves: each code at its voxel, and 0 at every other cell. The premise of the first two laws is the promise of `fill` itself; of what the map held it says nothing.
 -- Assumes nothing.
 use mathlib.Core.Path.{◌≡◌, sym, ap, ◌∙◌}
 use mathlib.Core.List.{List}
@@ -11,7 +11,7 @@ use borrow.Author.Tests.{eqb-true, eqb-false, eq-eqb, ne_eqb}
 use Rattle.lists.specs.Lists.{tabulate}
 use Rattle.lists.proofs.Cases.{by_test}
 use Rattle.lists.proofs.Lists.{length-tabulate, get_or_tabulate}
-use Rattle.cells.specs.Box.{Triple}
+use Rattle.cells.specs.declared.Triple.{Triple}
 use Rattle.cells.specs.Grid.{cells, order, voxel, voxel_cell}
 use Rattle.cells.proofs.GridLaws.{voxel_inside, voxel_cell_lem, voxel_cell_inside, voxel_cell_order, cell_voxel}
 use Rattle.labels.specs.Number.{code_at}

@@ -1,7 +1,8 @@
--- What the codes of a block make of its map, in the words of document 02, item 3.
+-- What the codes of a block make of its map.
 -- Assumes nothing.
 use Rattle.std.specs.Prelude.{◌≡◌, ◌≢◌, List, ℕ, ◌<◌, get_or}
-use Rattle.cells.specs.Box.{Triple, volume}
+use Rattle.cells.specs.Box.{volume}
+use Rattle.cells.specs.declared.Triple.{Triple}
 use Rattle.cells.specs.Grid.{cells, order, voxel_cell}
 
 -- "Each code at its voxel."

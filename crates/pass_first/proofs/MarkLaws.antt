@@ -1,26 +1,29 @@
 -- The passes over the cells of an order from the last one down: the largest number, and the first cells.
 -- Assumes nothing.
 use mathlib.Core.Path.{◌≡◌, refl, sym, ap, ◌∙◌}
+use mathlib.Core.Bool.{Bool, true, false}
 use mathlib.Core.List.{List, [], ◌∷◌, map, foldr, Memᴰ}
 use Prim.Native.Nat.{ℕ, suc, ◌+◌, ◌-◌, ◌≤◌, ◌<◌, max}
-use native.Mathlib.Nat.{max-eq_left, max-eq_right, mul-pos, zero-mod, zero-div}
+use native.Mathlib.Nat.{mul-pos, zero-mod, zero-div}
 use native.Mathlib.Numerals.{add-one}
 use native.Mathlib.Omega.{arith}
 use lib.Dec.{eqb}
-use lib.ListN.{length, get_or, set, length-set, length-replicate, get_or-replicate}
+use Rattle.std.proofs.lemmas.List.{get_or-take}
+use lib.ListN.{length, get_or, take, length-take, set, length-set, length-replicate, get_or-replicate}
 use lib.Seq.{get_or-set_same, get_or-set_other}
 use borrow.Author.Tests.{eqb-true, eqb-false, eq-eqb, ne_eqb}
 use Rattle.lists.specs.Lists.{consecutive, zeros}
 use Rattle.lists.proofs.Cases.{by_test}
 use Rattle.lists.proofs.Lists.{keep_out, consecutive_left}
-use Rattle.cells.specs.Box.{Triple, place}
+use Rattle.cells.specs.Box.{place}
+use Rattle.cells.specs.declared.Triple.{Triple}
 use Rattle.cells.specs.Extents.{Sized}
 use Rattle.cells.specs.Grid.{cells, parity, order, along, upper_neighbours}
 use Rattle.cells.specs.Row.{row_of, row}
 use Rattle.cells.proofs.ExtentLaws.{cells_are, layer_low}
 use Rattle.labels.specs.Components.{of_order, largest, component, first_cell, row_at_first, component_row}
 use Rattle.labels.proofs.ComponentLaws.{of_order_out}
-use Rattle.pass_first.specs.Marks.{cells_from, larger, first_from, Marks}
+use Rattle.pass_first.specs.Marks.{cells_from, first_from, Marks}
 
 -- ---- the cells from p on
 
@@ -43,20 +46,6 @@ cells_all e j = let z : cells e - 0 ≡ cells e = omega arith in rw z
 
 -- ---- the largest number
 
--- o is the order of cell p
-module _ (e : Triple) (m : List ℕ) (j p n o : ℕ) (q : o ≡ order e p) where
-  pub larger_other : (o ≡ j → ⊥) → n ≡ larger e m j p n
-  unfolding larger
-  larger_other d = rw (← q, ne_eqb o j d)
-
-  pub larger_less : o ≡ j → get_or m p 0 < n → n ≡ larger e m j p n
-  unfolding larger
-  larger_less d h = let i : get_or m p 0 ≤ n = omega arith in rw (← q, eq-eqb o j d) (sym (max-eq_right i))
-
-  pub larger_more : o ≡ j → n ≤ get_or m p 0 → get_or m p 0 ≡ larger e m j p n
-  unfolding larger
-  larger_more d h = rw (← q, eq-eqb o j d) (sym (max-eq_left h))
-
 -- The largest number from p on.
 unfoldable pub largest_from : Triple → List ℕ → ℕ → ℕ → ℕ
 largest_from e m j p = foldr max 0 (map (λ q. get_or m q 0) (cells_from e j p))
@@ -65,14 +54,15 @@ pub largest_start : (e : Triple) (m : List ℕ) (j : ℕ) → length m ≡ cells
 unfolding largest_from
 largest_start e m j w = rw (w, cells_none e j)
 
-pub largest_next : (e : Triple) (m : List ℕ) (j p n r : ℕ) → length m ≡ cells e → 0 < p → p ≤ length m → n ≡ largest_from e m j p → r ≡ larger e m j (p - 1) n → r ≡ largest_from e m j (p - 1)
-unfolding largest_from larger
-largest_next e m j p n r w z h a b =
-    let s : p - 1 + 1 ≡ p = omega arith in
-    let i : p - 1 < cells e = omega arith in
-    b ∙ by_test (eqb (order e (p - 1)) j)
-    (λ t. rw (t, cells_here e j (p - 1) i (eqb-true _ _ t), s, a))
-    (λ t. rw (t, cells_past e j (p - 1) i (eqb-false _ _ t), s) a)
+-- One cell more, where p + 1 is reached: b tells whether cell p has order j.
+module _ (e : Triple) (m : List ℕ) (j p n : ℕ) (b : Bool) (h : p < cells e) (t : b ≡ eqb (order e p) j) (a : n ≡ largest_from e m j (p + 1)) where
+  pub largest_past : b ≡ false → n ≡ largest_from e m j p
+  unfolding largest_from
+  largest_past d = a ∙ rw (cells_past e j p h (eqb-false (order e p) j (sym t ∙ d)))
+
+  pub largest_here : b ≡ true → max (get_or m p 0) n ≡ largest_from e m j p
+  unfolding largest_from
+  largest_here d = rw (cells_here e j p h (eqb-true (order e p) j (sym t ∙ d)), a)
 
 pub largest_all : (e : Triple) (m : List ℕ) (j p n : ℕ) → p ≤ 0 → n ≡ largest_from e m j p → n ≡ largest e m j
 unfolding largest_from largest
@@ -100,18 +90,21 @@ marks_start e m j p t z q = record {
   has = λ k h. rw (z, q, cells_none e j) (get_or-replicate (cells e) k 0 0 h);
 }
 
--- o is the order of cell p, and v its number
-module _ (e : Triple) (m : List ℕ) (j p o : ℕ) (t : List ℕ) (h : p < cells e) (a : Marks e m j (p + 1) t) (q : o ≡ order e p) where
-  pub marks_past : (o ≡ j → ⊥) → Marks e m j p t
-  marks_past d = record { room = a.room; has = λ k i. a.has k i ∙ sym (first_past e m j p (suc k) h (λ r. d (q ∙ r))) }
+-- b tells whether cell p has order j, and v is its number
+module _ (e : Triple) (m : List ℕ) (j p : ℕ) (b : Bool) (t : List ℕ) (h : p < cells e) (a : Marks e m j (p + 1) t) (q : b ≡ eqb (order e p) j) where
+  pub marks_past : b ≡ false → Marks e m j p t
+  marks_past d = record { room = a.room; has = λ k i. a.has k i ∙ sym (first_past e m j p (suc k) h (eqb-false (order e p) j (sym q ∙ d))) }
 
-  module _ (d : o ≡ j) (v : ℕ) (g : v ≡ get_or m p 0) where
+  module _ (d : b ≡ true) (v : ℕ) (g : v ≡ get_or m p 0) where
+    here : order e p ≡ j
+    here = eqb-true (order e p) j (sym q ∙ d)
+
     -- a number that has no place
     pub marks_none : v ≡ 0 → Marks e m j p t
-    marks_none z = record { room = a.room; has = λ k i. a.has k i ∙ sym (first_other e m j p (suc k) h (sym q ∙ d) (λ r. omega arith)) }
+    marks_none z = record { room = a.room; has = λ k i. a.has k i ∙ sym (first_other e m j p (suc k) h here (λ r. omega arith)) }
 
     pub marks_beyond : length t < v → Marks e m j p t
-    marks_beyond z = record { room = a.room; has = λ k i. a.has k i ∙ sym (first_other e m j p (suc k) h (sym q ∙ d) (λ r. omega (arith, a.room))) }
+    marks_beyond z = record { room = a.room; has = λ k i. a.has k i ∙ sym (first_other e m j p (suc k) h here (λ r. omega (arith, a.room))) }
 
     pub marks_set : (v ≡ 0 → ⊥) → v ≤ length t → Marks e m j p (set t (v - 1) p)
     marks_set z r = record {
@@ -119,26 +112,20 @@ module _ (e : Triple) (m : List ℕ) (j p o : ℕ) (t : List ℕ) (h : p < cells
       has = λ k i. by_test (eqb v (suc k))
           (λ b. let f : v ≡ suc k = eqb-true v (suc k) b in
           let s : v - 1 ≡ k = omega arith in
-          rw s (get_or-set_same t k p 0 (omega (arith, a.room)) ∙ sym (first_here e m j p (suc k) h (sym q ∙ d) (sym g ∙ f))))
+          rw s (get_or-set_same t k p 0 (omega (arith, a.room)) ∙ sym (first_here e m j p (suc k) h here (sym g ∙ f))))
           (λ b. let f = eqb-false v (suc k) b in
-          get_or-set_other t (v - 1) k p 0 (λ r. f (omega arith)) ∙ a.has k i ∙ sym (first_other e m j p (suc k) h (sym q ∙ d) (λ r. f (g ∙ r))));
+          get_or-set_other t (v - 1) k p 0 (λ r. f (omega arith)) ∙ a.has k i ∙ sym (first_other e m j p (suc k) h here (λ r. f (g ∙ r))));
     }
-
--- one cell more, where a loop comes down to p - 1
-pub marks_down : (e : Triple) (m : List ℕ) (j p : ℕ) (t : List ℕ) → 0 < p → Marks e m j p t → Marks e m j (p - 1 + 1) t
-marks_down e m j p t h a = let s : p - 1 + 1 ≡ p = omega arith in rw s a
-
-pub marks_all : (e : Triple) (m : List ℕ) (j p : ℕ) (t : List ℕ) → p ≤ 0 → Marks e m j p t → Marks e m j 0 t
-marks_all e m j p t h a = let z : p ≡ 0 = omega arith in rw z at a
 
 -- what the marks from the first cell on are
 marked : (e : Triple) (m : List ℕ) (j i : ℕ) (t : List ℕ) → Marks e m j 0 t → i < cells e → get_or t i 0 ≡ first_cell e m j (i + 1)
 unfolding first_from first_cell component
 marked e m j i t a h = a.has i h ∙ rw (cells_all e j, add-one i)
 
--- cell p is read at place k, which is i
-pub mark_read : (e : Triple) (m : List ℕ) (j i n k p : ℕ) (t : List ℕ) → Marks e m j 0 t → n ≤ cells e → i < n → k ≡ i → p ≡ get_or t k 0 → p ≡ first_cell e m j (i + 1)
-mark_read e m j i n k p t a h l q r = r ∙ ap (λ (x : ℕ). get_or t x 0) q ∙ marked e m j i t a (omega arith)
+-- the first n marks are read at place i
+pub mark_read : (e : Triple) (m : List ℕ) (j i n : ℕ) (t : List ℕ) → Marks e m j 0 t → i < length (take n t) → get_or (take n t) i 0 ≡ first_cell e m j (i + 1)
+mark_read e m j i n t a h =
+    get_or-take n t i 0 (omega (arith, length-take n t)) ∙ marked e m j i t a (omega (arith, length-take n t, a.room))
 
 -- ---- the first cell and its row
 

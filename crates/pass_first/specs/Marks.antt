@@ -1,9 +1,16 @@
 -- The cells of one order from a position on: their largest number, and the first of each number. Assumes nothing.
-use Rattle.std.specs.Prelude.{◌≡◌, cond, List, ℕ, suc, ◌-◌, ◌≤◌, ◌<◌, max, eqb, length, get_or}
+use Rattle.std.specs.Prelude.{◌≡◌, List, ℕ, suc, ◌-◌, ◌≤◌, ◌<◌, eqb, length, get_or}
 use Rattle.lists.specs.Lists.{consecutive, keep}
-use Rattle.cells.specs.Box.{Triple}
+use Rattle.cells.specs.declared.Triple.{Triple}
 use Rattle.cells.specs.Extents.{Sized}
 use Rattle.cells.specs.Grid.{cells, order}
+use Rattle.pass_first.specs.declared.Kind.{Kind}
+
+-- The order of the cells of a kind.
+abbrev pub cell_order : Kind → ℕ
+cell_order Kind.Point = 0
+cell_order Kind.Curve = 1
+cell_order Kind.Face = 2
 
 -- A map of its block's length, and an order of components.
 pub record Sought (e : Triple) (m : List ℕ) (j : ℕ) : Type 0 where
@@ -14,10 +21,6 @@ pub record Sought (e : Triple) (m : List ℕ) (j : ℕ) : Type 0 where
 -- The cells of order j from position p on.
 unfoldable pub cells_from : Triple → ℕ → ℕ → List ℕ
 cells_from e j p = keep (λ q. eqb (order e q) j) (consecutive p (cells e - p))
-
--- The larger of n and the number of cell p, where it has order j.
-unfoldable pub larger : Triple → List ℕ → ℕ → ℕ → ℕ → ℕ
-larger e m j p n = cond (eqb (order e p) j) (max (get_or m p 0) n) n
 
 -- The first cell with number n of order j from position p on, 0 where there is none.
 unfoldable pub first_from : Triple → List ℕ → ℕ → ℕ → ℕ → ℕ

@@ -1,83 +1,85 @@
-// The passes over a map for its listing: the largest number of each order, and the first cells.
+// The passes over a map for its listing: the largest number of each kind, and the first cells.
 #![tactic(auto)]
 
-ghost use Rattle.std.specs.Prelude.{◌≡◌, ◌+◌, ◌<◌};
+ghost use Rattle.std.specs.Prelude.{◌≡◌, ◌+◌, ◌<◌, eqb};
 ghost use Rattle.lists.specs.Lists.{zeros};
-ghost use Rattle.cells.specs.Box.{triple};
 ghost use Rattle.cells.specs.Extents.{Sized};
 ghost use Rattle.cells.specs.Grid.{cells, order};
 ghost use Rattle.labels.specs.Components.{largest};
-ghost use Rattle.pass_first.specs.Marks.{Sought, larger, Marks};
+ghost use Rattle.pass_first.specs.Marks.{cell_order, Sought, Marks};
+
+use cells::Triple;
+
+// A kind of component, with the order of its cells.
+#[derive(Clone, Copy)]
+pub enum Kind {
+    Point = 0,
+    Curve = 1,
+    Face = 2,
+}
+
+impl Kind {
+    // The order of its cells.
+    pub fn order(self) -> usize
+        ensures { result ≡ cell_order self }
+    {
+        self as usize
+    }
+}
 
 // The order of cell p.
-fn order_of(nx: usize, ny: usize, nz: usize, p: usize) -> usize
-    requires { Sized 8 (triple nx ny nz) }
-    ensures { result ≡ order (triple nx ny nz) p }
+#[tactic(auto, using(cells::proofs::ExtentLaws::layer_low, cells::proofs::ExtentLaws::layer_high), unfolding(cells::specs::Grid::order, cells::specs::Grid::parity, cells::specs::Box::place, cells::specs::Grid::sides))]
+fn order_of(e: Triple, p: usize) -> usize
+    requires { Sized 8 e }
+    ensures { result ≡ order e p }
 {
-    let w = 2 * nx - 1;
-    let h = 2 * ny - 1;
+    let w = 2 * e.x - 1;
+    let h = 2 * e.y - 1;
     3 - (p % w % 2 + p / w % h % 2 + p / (w * h) % 2)
 }
 
-// The larger of m and the number of cell p, where it has order j.
-fn larger_at(map: &[u32], nx: usize, ny: usize, nz: usize, j: usize, p: usize, m: u32) -> u32
-    requires { Sought (triple nx ny nz) map.now j × (p < cells (triple nx ny nz)) }
-    ensures { result ≡ larger (triple nx ny nz) map.now j p m }
+// Whether cell p is of a kind.
+fn is_of(e: Triple, kind: Kind, p: usize) -> bool
+    requires { Sized 8 e }
+    ensures { result ≡ eqb (order e p) (cell_order kind) }
 {
-    if order_of(nx, ny, nz, p) != j {
-        return m;
-    }
-    let v = map[p];
-    if v < m { m } else { v }
+    order_of(e, p) == kind.order()
 }
 
-// How many components of order j there are. Not an entry.
-pub fn count_of(map: &[u32], nx: usize, ny: usize, nz: usize, j: usize) -> u32
-    requires { Sought (triple nx ny nz) map.now j }
-    ensures { result ≡ largest (triple nx ny nz) map.now j }
+// How many components of a kind there are. Not an entry.
+#[tactic(auto, using(crate::proofs::MarkLaws::largest_start, crate::proofs::MarkLaws::largest_past, crate::proofs::MarkLaws::largest_here))]
+pub fn count_of(map: &[u32], e: Triple, kind: Kind) -> u32
+    requires { Sought e map.now (cell_order kind) }
+    ensures { result ≡ largest e map.now (cell_order kind) }
 {
-    let mut m: u32 = 0;
-    let mut p = map.len();
-    while p > 0 {
-        p -= 1;
-        m = larger_at(map, nx, ny, nz, j, p, m);
+    let mut most = 0;
+    for p in (0..map.len()).rev() {
+        if is_of(e, kind, p) {
+            most = map[p].max(most);
+        }
     }
-    m
+    most
 }
 
-// A number as an index.
-pub fn wide(v: u32) -> usize
-    ensures { result ≡ v }
+// Marks cell p, where it is of the kind, as the first of its number.
+fn mark_cell(map: &[u32], e: Triple, kind: Kind, p: usize, marks: &mut [u32])
+    requires { Sought e map.now (cell_order kind) × (p < cells e) × Marks e map.now (cell_order kind) (p + 1) marks.old }
+    ensures { Marks e map.now (cell_order kind) p marks.new }
 {
-    v as usize
+    if is_of(e, kind, p) {
+        let n = map[p] as usize;
+        if 0 < n && n <= marks.len() {
+            marks[n - 1] = p as u32;
+        }
+    }
 }
 
-// Marks cell p, where it has order j, as the first of its number.
-fn mark_cell(map: &[u32], nx: usize, ny: usize, nz: usize, j: usize, p: usize, marks: &mut [u32])
-    requires { Sought (triple nx ny nz) map.now j × (p < cells (triple nx ny nz)) × Marks (triple nx ny nz) map.now j (p + 1) marks.old }
-    ensures { Marks (triple nx ny nz) map.now j p marks.new }
+// Marks the first cells of the components of a kind, from the last cell down. Not an entry.
+pub fn mark_order(map: &[u32], e: Triple, kind: Kind, marks: &mut [u32])
+    requires { Sought e map.now (cell_order kind) × (marks.old ≡ zeros (cells e)) }
+    ensures { Marks e map.now (cell_order kind) 0 marks.new }
 {
-    if order_of(nx, ny, nz, p) != j {
-        return;
-    }
-    let v = wide(map[p]);
-    if v == 0 {
-        return;
-    }
-    if v > marks.len() {
-        return;
-    }
-    marks[v - 1] = p as u32;
-}
-
-// Marks the first cells of the components of order j, from the last cell down. Not an entry.
-pub fn mark_order(map: &[u32], nx: usize, ny: usize, nz: usize, j: usize, marks: &mut [u32])
-    requires { Sought (triple nx ny nz) map.now j × (marks.old ≡ zeros (cells (triple nx ny nz))) }
-    ensures { Marks (triple nx ny nz) map.now j 0 marks.new }
-{
-    let mut p = map.len();
-    while p > 0 {
-        p -= 1;
-        mark_cell(map, nx, ny, nz, j, p, marks);
+    for p in (0..map.len()).rev() {
+        mark_cell(map, e, kind, p, marks);
     }
 }

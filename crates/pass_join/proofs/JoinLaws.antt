@@ -1,36 +1,56 @@
 -- What the joining pass has left to join, turn by turn: among six cells, along a line, and line by line.
 -- Assumes nothing.
-use mathlib.Core.Path.{◌≡◌, refl, sym, ap, ◌∙◌}
-use mathlib.Core.Bool.{Bool, true, false, cond, not, ◌&&◌, false≢true}
-use mathlib.Core.List.{List, [], ◌∷◌, ◌++◌, Memᴰ, map, append_assoc, append-nil}
+use mathlib.Core.Path.{◌≡◌, refl, sym, ◌∙◌}
+use mathlib.Core.Bool.{Bool, true, false, cond, not, ◌&&◌}
+use mathlib.Core.List.{List, [], ◌∷◌, ◌++◌, Memᴰ, map, append_assoc}
 use Prim.Native.Nat.{ℕ, zero, suc, ◌+◌, ◌-◌, ◌*◌, ◌%◌, ◌^◌, ◌≤◌, ◌<◌}
 use native.Mathlib.Numerals.{add-one}
 use native.Mathlib.Omega.{arith}
 use lib.Dec.{eqb-suc-zero, eqb-suc-suc}
-use lib.ListN.{length, get_or, drop}
+use lib.ListN.{length, get_or, drop, get_or-map, length-map}
 use lib.Seq.{drop-cons}
-use borrow.Author.Tests.{ne_eqb, not-true}
+use borrow.Author.Tests.{ne_eqb, not-true, not-false}
 use Rattle.lists.specs.Lists.{keep}
-use Rattle.lists.proofs.Cases.{by_test, and_first, and_second}
 use Rattle.lists.proofs.Lists.{keep_append}
 use Rattle.closure.specs.Joined.{Edge, edge, joins}
 use Rattle.union_find.specs.Links.{root, Rooted}
 use Rattle.union_find.proofs.LinkLaws.{Left, rooted_refl}
-use Rattle.cells.specs.Box.{Triple}
+use Rattle.cells.specs.declared.Triple.{Triple}
+use Rattle.cells.specs.Extents.{Sized}
 use Rattle.cells.specs.Grid.{sides, cells, order, upper_neighbours}
 use Rattle.cells.specs.Row.{row, active, occupied, same_row}
-use Rattle.cells.proofs.RowLaws.{same_row_lem}
 use Rattle.cells.proofs.ExtentLaws.{cells_high}
 use Rattle.labels.specs.Number.{pairs, alike, edges_at, order_below}
 use Rattle.lines.specs.Lines.{odds, around, line_y, line_z}
 use Rattle.lines.proofs.LineLaws.{up_around, flank_at, above_read, Tests, order_tests}
+use Rattle.pass_join.specs.declared.Neighbour.{Neighbour}
+use Rattle.pass_join.specs.Around.{positions, rows_of}
 use Rattle.pass_join.specs.JoinTrays.{Trays, alike_to, alike_pairs}
 
 -- Links that a loop has changed still fit the block.
 pub trays_kept : {e : Triple} {m ls ms : List ℕ} {es ds : List Edge} → Trays e m ls → Left ls ms es ds → Trays e m ms
 trays_kept t L = record { sized = t.sized; whole = t.whole; room = L.size ∙ t.room }
 
--- ---- six cells
+-- A position in the grid of a block fits.
+pub cell_fits : {e : Triple} {p : ℕ} → Sized 64 e → p < cells e → p < 2 ^ 32
+cell_fits s h = omega (arith, cells_high s)
+
+-- ---- the cells around another one
+
+abbrev pub nobody : Neighbour
+nobody = record { at = 0; row = [] }
+
+pub position_of : (ns : List Neighbour) (i : ℕ) → get_or (positions ns) i 0 ≡ (get_or ns i nobody).at
+position_of ns i = get_or-map (λ n. n.at) ns i nobody
+
+pub row_of_cell : (ns : List Neighbour) (i : ℕ) → get_or (rows_of ns) i [] ≡ (get_or ns i nobody).row
+row_of_cell ns i = get_or-map (λ n. n.row) ns i nobody
+
+pub length-positions : (ns : List Neighbour) → length (positions ns) ≡ length ns
+length-positions ns = simp length-map
+
+pub length-rows_of : (ns : List Neighbour) → length (rows_of ns) ≡ length ns
+length-rows_of ns = simp length-map
 
 -- A row without an entry joins nothing.
 pub to_none : (p : ℕ) (r : List ℕ) → occupied r ≡ false → (qs : List ℕ) (rs : List (List ℕ)) → alike_to p r qs rs ≡ []
@@ -51,23 +71,10 @@ pub pairs_next : (ps : List ℕ) (rs : List (List ℕ)) (i : ℕ) → i < length
 unfolding alike_pairs
 pairs_next ps rs i h k = rw (add-one, drop-cons ps i 0 h, drop-cons rs i [] k)
 
--- Rows without an entry. Cells that have them join nothing, and nothing joins them.
+-- Rows without an entry join nothing.
 abbrev pub Blank : List (List ℕ) → Type 0
 Blank [] = Unit {0}
 Blank (v ∷ vs) = (occupied v ≡ false) × Blank vs
-
--- What the test for a blank row tells.
-pub blank_row : {b : Bool} (r : List ℕ) → b ≡ not (occupied r) → b ≡ true → occupied r ≡ false
-blank_row r e t = not-true (occupied r) (sym e ∙ t)
-
-to_blank : (p : ℕ) (r us : List ℕ) (vs : List (List ℕ)) → Blank vs → alike_to p r us vs ≡ []
-unfolding alike_to
-to_blank p r [] vs b = refl
-to_blank p r (u ∷ us) [] b = refl
-to_blank p r (u ∷ us) (v ∷ vs) b =
-    by_test (occupied r && same_row r v)
-    (λ t. absurd (false≢true (sym b.0 ∙ ap occupied (sym (same_row_lem r v (and_second (occupied r) (same_row r v) t))) ∙ and_first (occupied r) (same_row r v) t)))
-    (λ t. rw t (to_blank p r us vs b.1))
 
 pairs_blank : (us : List ℕ) (vs : List (List ℕ)) → Blank vs → alike_pairs us vs ≡ []
 unfolding alike_pairs
@@ -75,42 +82,41 @@ pairs_blank [] vs b = refl
 pairs_blank (u ∷ us) [] b = refl
 pairs_blank (u ∷ us) (v ∷ vs) b = rw (to_none u v b.0 us vs) (pairs_blank us vs b.1)
 
--- Cells with their rows, and then cells us with blank rows vs.
-module _ (e : Triple) (m us : List ℕ) (vs : List (List ℕ)) (blank : Blank vs) where
-  to_alike : (p : ℕ) (qs : List ℕ) → alike_to p (row e m p) (qs ++ us) (map (row e m) qs ++ vs) ≡ keep (alike e m) (map (edge p) qs)
+-- What the test for a blank row tells.
+pub blank_row : {b : Bool} (r : List ℕ) → b ≡ not (occupied r) → b ≡ true → occupied r ≡ false
+blank_row r e t = not-true (occupied r) (sym e ∙ t)
+
+pub filled_row : {b : Bool} (r : List ℕ) → b ≡ not (occupied r) → b ≡ false → occupied r ≡ true
+filled_row r e t = not-false (occupied r) (sym e ∙ t)
+
+module _ (e : Triple) (m : List ℕ) where
+  to_alike : (p : ℕ) (qs : List ℕ) → alike_to p (row e m p) qs (map (row e m) qs) ≡ keep (alike e m) (map (edge p) qs)
   unfolding alike_to alike active
-  to_alike p [] = to_blank p (row e m p) us vs blank
+  to_alike p [] = refl
   to_alike p (q ∷ qs) = rw (to_alike p qs)
 
-  pairs_alike : (ps : List ℕ) → alike_pairs (ps ++ us) (map (row e m) ps ++ vs) ≡ keep (alike e m) (pairs ps)
+  pairs_alike : (ps : List ℕ) → alike_pairs ps (map (row e m) ps) ≡ keep (alike e m) (pairs ps)
   unfolding alike_pairs pairs
-  pairs_alike [] = pairs_blank us vs blank
+  pairs_alike [] = refl
   pairs_alike (p ∷ ps) = rw (to_alike p ps, pairs_alike ps) (sym (keep_append (alike e m) (map (edge p) ps) (pairs ps)))
 
   -- The cells around t, joined.
-  pub joined_around : {ls ms : List ℕ} {rs : List (List ℕ)} (t : ℕ) (ss : List ℕ) → odds e t ≡ ss → rs ≡ map (row e m) (around t ss) ++ vs
-      → Rooted ls ms (joins (root ls) (alike_pairs (around t ss ++ us) rs)) → Rooted ls ms (joins (root ls) (keep (alike e m) (pairs (upper_neighbours e t))))
-  joined_around t ss o q R = rw (up_around e t, o, ← pairs_alike (around t ss), ← q) R
+  pub joined_around : {ls ms ps : List ℕ} {rs : List (List ℕ)} (t : ℕ) (ss : List ℕ) → odds e t ≡ ss → ps ≡ around t ss → rs ≡ map (row e m) (around t ss)
+      → Rooted ls ms (joins (root ls) (alike_pairs ps rs)) → Rooted ls ms (joins (root ls) (keep (alike e m) (pairs (upper_neighbours e t))))
+  joined_around t ss o h q R = rw (up_around e t, o, ← pairs_alike (around t ss), ← q, ← h) R
 
--- Where no cell around t is active, nothing is joined.
-pub idle_around : (e : Triple) (m : List ℕ) {ls : List ℕ} (t : ℕ) (ss : List ℕ) → odds e t ≡ ss → (rs : List (List ℕ)) → rs ≡ map (row e m) (around t ss) → Blank rs
-    → Rooted ls ls (joins (root ls) (keep (alike e m) (pairs (upper_neighbours e t))))
-unfolding joins
-idle_around e m {ls} t ss o rs q b =
-    let none : keep (alike e m) (pairs (around t ss)) ≡ [] =
-    sym (pairs_alike e m [] [] tt (around t ss)) ∙ rw (append-nil (around t ss), append-nil (map (row e m) (around t ss)), ← q) (pairs_blank (around t ss) rs b) in
-    rw (up_around e t, o, none) (rooted_refl ls)
+  -- Where no cell around t is active, nothing is joined.
+  pub idle_around : {ls : List ℕ} {rs : List (List ℕ)} (t : ℕ) (ss : List ℕ) → odds e t ≡ ss → rs ≡ map (row e m) (around t ss) → Blank rs
+      → Rooted ls ls (joins (root ls) (keep (alike e m) (pairs (upper_neighbours e t))))
+  unfolding joins
+  idle_around {ls} {rs} t ss o q b =
+      let none : keep (alike e m) (pairs (around t ss)) ≡ [] = sym (pairs_alike (around t ss)) ∙ rw (← q) (pairs_blank (around t ss) rs b) in
+      rw (up_around e t, o, none) (rooted_refl ls)
 
--- The positions one stride s down and up from t fit, as the needs ask it.
+-- The position one stride s up from t fits.
 module _ {e : Triple} {m ls : List ℕ} {t s : ℕ} {ss : List ℕ} (trays : Trays e m ls) (h : t < cells e) (o : odds e t ≡ ss) (i : Memᴰ s ss) where
-  pub below_fits : t - s < 2 ^ 32
-  below_fits = omega (arith, cells_high trays.sized)
-
-  pub above_fits : t + s < 2 ^ 32
-  above_fits = omega (arith, above_read e h o i refl, cells_high trays.sized)
-
   pub above_sum : t + s < 2 ^ 64
-  above_sum = omega (arith, above_fits)
+  above_sum = omega (arith, above_read e h o i refl, cells_high trays.sized)
 
 -- The cells there have rows that are read by the strides ss.
 pub record Near (e : Triple) (m : List ℕ) (t s : ℕ) (ss : List ℕ) : Type 0 where
@@ -119,16 +125,6 @@ pub record Near (e : Triple) (m : List ℕ) (t s : ℕ) (ss : List ℕ) : Type 0
 
 pub near : {e : Triple} {m ls : List ℕ} {t : ℕ} → Trays e m ls → t < cells e → (pre : List ℕ) (s : ℕ) (post : List ℕ) → odds e t ≡ pre ++ s ∷ post → Near e m t s (pre ++ post)
 near {e} {m} {ls} {t} trays h pre s post o = let f = flank_at e t h pre s post o in record { down = (trays.whole, omega arith, f.below); up = (trays.whole, f.high, f.above) }
-
--- Every entry is below n, and so is the 0 that is read past the end.
-abbrev pub EntriesBelow : ℕ → List ℕ → Type 0
-EntriesBelow n [] = 0 < n
-EntriesBelow n (x ∷ xs) = (x < n) × EntriesBelow n xs
-
-pub get_or-below : (n : ℕ) (xs : List ℕ) → EntriesBelow n xs → (k : ℕ) → get_or xs k 0 < n
-get_or-below n [] b k = b
-get_or-below n (x ∷ xs) b zero = b.0
-get_or-below n (x ∷ xs) b (suc k) = get_or-below n xs b.1 k
 
 -- ---- the cells of a line
 

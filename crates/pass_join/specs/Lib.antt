@@ -1,2 +1,3 @@
 -- What the contracts of the joining pass cite.
 pub mod JoinTrays
+pub mod Around

@@ -21,7 +21,7 @@ use Rattle.closure.proofs.Numbers.{count_hit, count_miss, Leaders, label_off, la
 use Rattle.union_find.specs.Links.{parent}
 use Rattle.union_find.proofs.LinkLaws.{parent_low, root_own, own_root, root_up}
 use Rattle.union_find.proofs.SoundLaws.{root_linkless}
-use Rattle.cells.specs.Box.{Triple}
+use Rattle.cells.specs.declared.Triple.{Triple}
 use Rattle.cells.specs.Grid.{sides, cells, order}
 use Rattle.cells.specs.Row.{row, active, occupied}
 use Rattle.labels.specs.Number.{edges, active_of, number, numbered_at, numbered}

@@ -14,7 +14,7 @@ use Rattle.closure.proofs.Rooted.{joins_ext}
 use Rattle.union_find.specs.Links.{root, Rooted}
 use Rattle.union_find.proofs.LinkLaws.{zeros_alone}
 use Rattle.union_find.proofs.SoundLaws.{zeros_sound}
-use Rattle.cells.specs.Box.{Triple}
+use Rattle.cells.specs.declared.Triple.{Triple}
 use Rattle.cells.specs.Grid.{cells, order}
 use Rattle.labels.specs.Number.{edges, active_of}
 use Rattle.labels.proofs.NumberLaws.{rep_inactive, path_joined}

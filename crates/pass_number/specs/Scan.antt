@@ -1,7 +1,7 @@
 -- The cells of one order numbered one after the other, in the order of their positions.
 -- Assumes nothing.
 use Rattle.std.specs.Prelude.{cond, List, [], ◌∷◌, ℕ, ◌+◌, eqb, get_or, set}
-use Rattle.cells.specs.Box.{Triple}
+use Rattle.cells.specs.declared.Triple.{Triple}
 use Rattle.cells.specs.Row.{active}
 use Rattle.union_find.specs.Links.{parent}
 

@@ -6,7 +6,8 @@ use Prim.Native.Nat.{ℕ, ◌+◌, ◌*◌, ◌/◌, ◌%◌, ◌≤◌}
 use lib.ListN.{get_or, length}
 use Rattle.lists.specs.Lists.{overlay}
 use Rattle.lists.proofs.Overlay.{overlay_same}
-use Rattle.cells.specs.Box.{Triple, coord, each, index, place}
+use Rattle.cells.specs.Box.{coord, each, index, place}
+use Rattle.cells.specs.declared.Triple.{Triple}
 use Rattle.cells.specs.Grid.{sides}
 use Rattle.cutting.specs.Cutting.{Cutting, block_extents, embed}
 use Rattle.joiner.specs.Job.{Curve, Tables, from_of, node, key_of}

@@ -1,19 +1,26 @@
 -- Point cells, their rows over the final curves, and how many of them are points.
 -- Assumes nothing.
-use mathlib.Core.Path.{◌≡◌, refl, ap, ◌∙◌}
+use mathlib.Core.Bool.{Bool, true, not}
+use mathlib.Core.Path.{◌≡◌, refl, sym, ap, ◌∙◌}
 use mathlib.Core.Logic.{◌≢◌}
 use mathlib.Core.List.{List, [], ◌∷◌, ◌++◌, map-map}
 use Prim.Native.Nat.{ℕ, ◌+◌, ◌-◌, ◌*◌, ◌≤◌, ◌<◌}
 use native.Mathlib.Omega.{arith}
 use lib.Dec.{eqb}
+use Rattle.std.specs.Cmp.Lexicographic.{pointwise}
 use lib.ListN.{get_or, length, length-append}
-use borrow.Author.Tests.{eq-eqb, ne_eqb}
+use borrow.Author.Tests.{eq-eqb, eqb-true, eqb-false, ne_eqb}
+use Rattle.lists.proofs.Cases.{by_test}
 use Rattle.lists.specs.Lists.{consecutive, tabulate}
 use Rattle.lists.proofs.Lists.{keep_append, length-keep, length-consecutive}
-use Rattle.cells.specs.Box.{Triple, X, Y, Z, stride}
+use Rattle.cells.specs.Box.{stride}
+use Rattle.cells.specs.declared.Axis.TheVariants.{X, Y, Z}
+use Rattle.cells.specs.declared.Triple.{Triple}
 use Rattle.cells.specs.Extents.{Sized}
 use Rattle.cells.specs.Grid.{sides, cells, order, upper_neighbours}
 use Rattle.cells.specs.Row.{row_of, occupied, numbers_at}
+use Rattle.cells.proofs.RowLaws.{same_row_lem}
+use Rattle.rows.proofs.OrderLaws.{same_places}
 use Rattle.cells.proofs.ExtentLaws.{cells_high}
 use Rattle.cells.proofs.GridLaws.{odd_lt}
 use Rattle.labels.specs.Components.{of_order}
@@ -39,6 +46,11 @@ module _ (numbers : List ℕ) (from n : ℕ) where
 pub final_zeros : (numbers : List ℕ) (from : ℕ) → 0 ∷ 0 ∷ 0 ∷ 0 ∷ 0 ∷ 0 ∷ [] ≡ row_of (finals_in numbers from (0 ∷ 0 ∷ 0 ∷ 0 ∷ 0 ∷ 0 ∷ []))
 unfolding row_of finals_in final_in
 final_zeros numbers from = refl
+
+-- .. is the row where all six are 0
+pub final_idle : (numbers : List ℕ) (from : ℕ) (a : List ℕ) (b : Bool) → b ≡ pointwise eqb a (0 ∷ 0 ∷ 0 ∷ 0 ∷ 0 ∷ 0 ∷ []) → b ≡ true → 0 ∷ 0 ∷ 0 ∷ 0 ∷ 0 ∷ 0 ∷ [] ≡ row_of (finals_in numbers from a)
+final_idle numbers from a b e t =
+    final_zeros numbers from ∙ sym (ap (λ (l : List ℕ). row_of (finals_in numbers from l)) (same_row_lem a (0 ∷ 0 ∷ 0 ∷ 0 ∷ 0 ∷ 0 ∷ []) (sym (e ∙ same_places a _) ∙ t)))
 
 -- ---- the upper neighbours of a point cell
 
@@ -100,11 +112,11 @@ module _ (e : Triple) (numbers : List ℕ) (from : ℕ) (m : List ℕ) where
     unfolding found_among occupied
     cell_one z = rw (← is, ne_eqb (get_or row 0 0) 0 z)
 
-    pub count_none : get_or row 0 0 ≡ 0 → 0 ≡ length (found (p ∷ []))
-    count_none z = rw (cell_none z)
-
-    pub count_one : get_or row 0 0 ≢ 0 → 1 ≡ length (found (p ∷ []))
-    count_one z = rw (cell_one z)
+    pub count_one : (k : ℕ) → k ≡ mir.Val.bool_byte (not (eqb (get_or row 0 0) 0)) → k ≡ length (found (p ∷ []))
+    count_one k e =
+        e ∙ by_test (eqb (get_or row 0 0) 0)
+        (λ t. rw (t, cell_none (eqb-true (get_or row 0 0) 0 t)))
+        (λ t. rw (t, cell_one (eqb-false (get_or row 0 0) 0 t)))
 
   -- n points so far, and those ahead, make all
   pub counted_next : (ps qs rs : List ℕ) (n k t : ℕ) → rs ≡ ps ++ qs → k ≡ length (found ps) → n + length (found rs) ≡ t → n + k + length (found qs) ≡ t

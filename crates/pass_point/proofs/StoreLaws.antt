@@ -9,7 +9,7 @@ use native.Mathlib.Omega.{arith}
 use lib.ListN.{get_or, length, set}
 use Rattle.lists.specs.Lists.{overlay}
 use Rattle.lists.proofs.Overlay.{length-overlay, overlay_same, rows_none, rows_next}
-use Rattle.cells.specs.Box.{Triple}
+use Rattle.cells.specs.declared.Triple.{Triple}
 use Rattle.joiner.specs.Job.{key_of, key_base}
 use Rattle.blocks.specs.Blocks.{size_of}
 use Rattle.blocks.specs.declared.Block.{Block}

@@ -17,7 +17,10 @@ use Rattle.lists.proofs.Tests.{some_none, none_some}
 use Rattle.closure.specs.Joined.{Edge, edge, joins}
 use Rattle.closure.proofs.Classes.{joins_edge, joins_mono, joins_sound}
 use Rattle.union_find.specs.Links.{root, Rooted}
-use Rattle.cells.specs.Box.{Axis, Triple, X, Y, Z, coord, index}
+use Rattle.cells.specs.Box.{coord, index}
+use Rattle.cells.specs.declared.Axis.{Axis}
+use Rattle.cells.specs.declared.Axis.TheVariants.{X, Y, Z}
+use Rattle.cells.specs.declared.Triple.{Triple}
 use Rattle.cells.specs.Grid.{cells, order, sides}
 use Rattle.cells.proofs.BoxLaws.{Inside}
 use Rattle.cells.proofs.GridLaws.{odd_at, side_on}

@@ -3,7 +3,8 @@
 use Rattle.std.specs.Prelude.{Bool, false, not, cond, ◌&&◌, ◌||◌, List, [], ◌∷◌, ◌++◌, ◌≡◌, ℕ, zero, suc, ◌+◌, ◌-◌, ◌*◌, ◌%◌, eqb, ltb, get_or}
 use Rattle.lists.specs.Lists.{consecutive}
 use Rattle.closure.specs.Joined.{Edge, edge}
-use Rattle.cells.specs.Box.{Triple, Axis}
+use Rattle.cells.specs.declared.Axis.{Axis}
+use Rattle.cells.specs.declared.Triple.{Triple}
 use Rattle.layers.specs.Layers.{last_at, first_across}
 use Rattle.pass_seam.specs.declared.Layer.{Layer}
 

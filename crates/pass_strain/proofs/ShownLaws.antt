@@ -1,16 +1,18 @@
 -- The list of a line's cells that show a number, as it grows.
 -- Assumes nothing.
 use mathlib.Core.Path.{◌≡◌, refl, sym, ap, subst}
+use mathlib.Core.Bool.{not}
 use mathlib.Core.List.{List}
-use Prim.Native.Nat.{ℕ, zero, suc, ◌+◌, ◌*◌, ◌%◌, ◌≤◌, ◌<◌, min}
+use Prim.Native.Nat.{ℕ, zero, suc, ◌+◌, ◌*◌, ◌%◌, ◌≤◌, ◌<◌}
 use native.Mathlib.Omega.{arith}
 use lib.Dec.{eqb, ltb}
-use lib.ListN.{get_or, length, set}
+use lib.ListN.{get_or, length, set, take}
+use Rattle.std.proofs.lemmas.List.{get_or-take}
 use lib.Ieee.{Float}
 use lib.Seq.{get_or-set_same, get_or-set_other}
-use borrow.Author.Tests.{eqb-true, eqb-false, ltb-true, ltb-false}
+use borrow.Author.Tests.{eqb-true, ltb-true, ltb-false}
 use Rattle.lists.proofs.Cases.{by_test}
-use Rattle.cells.specs.Box.{Triple}
+use Rattle.cells.specs.declared.Triple.{Triple}
 use Rattle.lines.specs.Lines.{LineAt}
 use Rattle.lines.specs.declared.Line.{Line}
 use Rattle.pass_survey.specs.Survey.{on_line}
@@ -83,14 +85,34 @@ module _ (m : List ℕ) (base w start : ℕ) (list : List ℕ) (k at : ℕ) (G :
         rest = rw new (skips_none m base w (at + 2));
       }
 
-  pub grow : (b many : ℕ) → b ≡ min 1 (get_or m (base + at) 0) → many ≡ k + b → Growing m base w start next many (at + 2)
+  pub grow : (b many : ℕ) → b ≡ mir.Val.bool_byte (not (eqb (get_or m (base + at) 0) 0)) → many ≡ k + b → Growing m base w start next many (at + 2)
   grow b many e f =
       by_test (eqb (get_or m (base + at) 0) 0)
-      (λ t. let z = eqb-true (get_or m (base + at) 0) 0 t in subst (λ (i : ℕ). Growing m base w start next i (at + 2)) (omega (arith, e, f, z)) (grow_blank z))
-      (λ t. let z = eqb-false (get_or m (base + at) 0) 0 t in subst (λ (i : ℕ). Growing m base w start next i (at + 2)) (omega (arith, e, f, z)) grow_shown)
+      (λ t. let z = eqb-true (get_or m (base + at) 0) 0 t in let o : b ≡ 0 = rw t at e in subst (λ (i : ℕ). Growing m base w start next i (at + 2)) (omega (arith, o, f)) (grow_blank z))
+      (λ t. let o : b ≡ 1 = rw t at e in subst (λ (i : ℕ). Growing m base w start next i (at + 2)) (omega (arith, o, f)) grow_shown)
 
 pub grow_end : (m : List ℕ) (base w start : ℕ) (list : List ℕ) (k at : ℕ) → Growing m base w start list k at → w ≤ at → Listed m base w start list k
 grow_end m base w start list k at G h = record { few = G.few; each = G.each; past = at; rest = G.rest; ended = h }
+
+-- The entries before `many` are the list.
+module _ (m : List ℕ) (base w start : ℕ) (list : List ℕ) (many : ℕ) where
+  front : (j : ℕ) → j < many → get_or (take many list) j 0 ≡ get_or list j 0
+  front j h = get_or-take many list j 0 h
+
+  front_next : (j : ℕ) → j ≤ many → next_at start (take many list) j ≡ next_at start list j
+  unfolding next_at
+  front_next zero h = refl
+  front_next (suc j) h = ap (λ (n : ℕ). n + 2) (front j (omega (arith, h)))
+
+  pub listed_front : Listed m base w start list many → Listed m base w start (take many list) many
+  listed_front K =
+      record {
+        few = K.few;
+        each = λ j h. rw (front j h, front_next j (omega (arith, h))) (K.each j h);
+        past = K.past;
+        rest = rw (front_next many (omega arith)) K.rest;
+        ended = K.ended;
+      }
 
 -- ---- the listed cells of line l, taken in one after the other
 

@@ -1,47 +1,39 @@
 -- Where the lines of a block lie.
 -- Assumes nothing.
-use mathlib.Core.Path.{◌≡◌, sym, ap, ◌∙◌}
-use Prim.Native.Nat.{ℕ, suc, ◌+◌, ◌*◌, ◌/◌, ◌%◌, ◌≤◌, ◌<◌}
-use native.Mathlib.Nat.{suc-mod, mod-eq_of_lt, mod_self, mod-le, mod-lt, div-le_self, div-add-mod', div-eq_of_lt-le, div-eq_of_eq-mul_left, add-mul, one-mul}
+use mathlib.Core.Path.{◌≡◌, sym, ◌∙◌}
+use Prim.Native.Nat.{ℕ, ◌+◌, ◌-◌, ◌*◌, ◌/◌, ◌%◌, ◌≤◌, ◌<◌}
+use native.Mathlib.Nat.{mul-le-mul_right, mul_comm}
 use native.Mathlib.Omega.{arith}
-use Rattle.cells.specs.Box.{Triple}
+use lib.Arith.{digits_mod, digits_div}
+use Rattle.cells.specs.declared.Triple.{Triple}
 use Rattle.cells.specs.Extents.{Sized}
 use Rattle.cells.specs.Grid.{sides}
 use Rattle.lines.specs.Lines.{line_count, line_y, line_z, first_stride, LineAt}
-use Rattle.pass_strain.specs.BlockReadings.{Lies, Lying}
+use Rattle.pass_strain.specs.BlockReadings.{Lies}
 use Rattle.pass_strain.specs.declared.FaceLine.{FaceLine}
-use Rattle.pass_strain.specs.declared.Spot.{Spot}
 use Rattle.pass_strain.proofs.SumLaws.{bounds}
 
--- The line after line l, of h in a layer.
-module _ (h l y z : ℕ) (pos : 0 < h) (p : y ≡ l % h) (q : z ≡ l / h) (r : Spot) where
-  in_layers : z * h + y ≡ l
-  in_layers = rw (p, q) (div-add-mod' l h)
+-- Line y of layer z, where h lines are in a layer.
+module _ (h y z : ℕ) (i : y < h) where
+  pub line_below : y ≡ (z * h + y) % h
+  line_below = sym (digits_mod z i)
 
-  grown : (z + 1) * h ≡ z * h + h
-  grown = add-mul z 1 h ∙ ap (λ (n : ℕ). z * h + n) (one-mul h)
+  pub layer_below : z ≡ (z * h + y) / h
+  layer_below = sym (digits_div z i)
 
-  after_y : (l + 1) % h ≡ suc y % h
-  after_y = ap (λ (n : ℕ). n % h) (let e : l + 1 ≡ suc l = omega arith in e) ∙ suc-mod l h ∙ ap (λ (n : ℕ). suc n % h) (sym p)
+-- .. of so many layers.
+module _ (e : Triple) (z : ℕ) where
+  pub line_there : (y : ℕ) → z < 2 * e.z - 1 → y < 2 * e.y - 1 → z * (2 * e.y - 1) + y < line_count e
+  unfolding line_count sides
+  line_there y h i =
+      let m : (z + 1) * (2 * e.y - 1) ≤ (2 * e.z - 1) * (2 * e.y - 1) = mul-le-mul_right (2 * e.y - 1) (omega arith) in
+      omega (arith, m, mul_comm (2 * e.y - 1) (2 * e.z - 1))
 
-  pub next_same : r.y ≡ y + 1 → r.z ≡ z → y + 1 < h → Lying h (l + 1) r
-  next_same a b i =
-      record {
-        y = a ∙ (let e : y + 1 ≡ suc y = omega arith in e) ∙ sym (after_y ∙ mod-eq_of_lt {n = suc y} {m = h} (omega (arith, i)));
-        z = b ∙ sym (div-eq_of_lt-le {k = z} h {m = l + 1} (omega (arith, in_layers)) (omega (arith, in_layers, grown, i)));
-      }
-
-  pub next_layer : r.y ≡ 0 → r.z ≡ z + 1 → h ≤ y + 1 → Lying h (l + 1) r
-  next_layer a b i =
-      let e : suc y ≡ h = omega (arith, i, mod-lt l pos, p) in
-      record {
-        y = a ∙ sym (after_y ∙ ap (λ (n : ℕ). n % h) e ∙ mod_self h);
-        z = b ∙ sym (div-eq_of_eq-mul_left {n = h} {m = l + 1} {k = z + 1} pos (omega (arith, in_layers, grown, e)));
-      }
-
--- Places are no larger than the line's number.
-pub spot_small : (h l y z : ℕ) → y ≡ l % h → z ≡ l / h → (y ≤ l) × (z ≤ l)
-spot_small h l y z p q = (omega (arith, p, mod-le l h), omega (arith, q, div-le_self l h))
+  pub lines_there : 2 * e.z - 1 ≤ z → line_count e ≤ z * (2 * e.y - 1)
+  unfolding line_count sides
+  lines_there h =
+      let m : (2 * e.z - 1) * (2 * e.y - 1) ≤ z * (2 * e.y - 1) = mul-le-mul_right (2 * e.y - 1) h in
+      omega (arith, m, mul_comm (2 * e.y - 1) (2 * e.z - 1))
 
 -- What a line is told by, by where it lies.
 module _ (e : Triple) (l y z : ℕ) (p : y ≡ l % (sides e).y) (q : z ≡ l / (sides e).y) where

@@ -12,7 +12,9 @@ use lib.ListN.{get_or, length}
 use lib.Ieee.{Float}
 use borrow.Author.Tests.{eq-eqb, ne_eqb, ltb-true, ltb-false, not-true, not-false}
 use Rattle.lists.proofs.Cases.{by_test}
-use Rattle.cells.specs.Box.{Triple, Y, Z, triple, stride, volume, place}
+use Rattle.cells.specs.Box.{triple, stride, volume, place}
+use Rattle.cells.specs.declared.Axis.TheVariants.{Y, Z}
+use Rattle.cells.specs.declared.Triple.{Triple}
 use Rattle.cells.specs.Extents.{Sized}
 use Rattle.cells.specs.Grid.{sides, order, voxel}
 use Rattle.cells.specs.Row.{pad_to, row_of, row}
@@ -31,9 +33,11 @@ use Rattle.strains.specs.declared.Reading.{Reading}
 use Rattle.totals.specs.Totals.{Taken, slot_of, after, sums_with, counts_with, reading_at}
 use Rattle.lowest.specs.Lowest.{starts_by}
 use Rattle.strain_calls.specs.Adding.{gathered, voxel_taken, face_taken}
-use Rattle.pass_strain.specs.BlockReadings.{Brought, brought, face_at, own_face, cell_taken, block_taken, Whole, Lies, Beside, side_of, Sided, side_taken, OwnFace, Skips}
+use Rattle.pass_strain.specs.BlockReadings.{Brought, brought, face_at, own_face, cell_taken, block_taken, Whole, Lies, Beside, side_number, side_of, Sided, side_taken, OwnFace, Skips}
 use Rattle.pass_strain.specs.declared.FaceLine.{FaceLine}
-use Rattle.pass_strain.specs.declared.Sides.{Sides}
+use Rattle.pass_strain.specs.declared.FaceSide.{FaceSide}
+use Rattle.pass_strain.specs.declared.FaceSide.TheVariants.{Lower, Higher}
+use Rattle.std.proofs.Common.{Option, Some, None}
 use Rattle.pass_strain.proofs.TakenLaws.{after_append, after_next, after_none, after_lines, after_line, after_last}
 use Rattle.pass_strain.proofs.VoxelLaws.{voxels_beside}
 
@@ -52,12 +56,6 @@ module _ (low high u : ℕ) where
   unfolding side_of
   side_high z l e = rw (ne_eqb u 0 z, ne_eqb u low l, eq-eqb u high e) refl
 
-  side_most : side_of low high u ≤ 2
-  unfolding side_of
-  side_most =
-      by_test (eqb u 0) (λ z. rw z (omega arith))
-      (λ z. by_test (eqb u low) (λ t. rw (z, t) (omega arith)) (λ t. by_test (eqb u high) (λ w. rw (z, t, w) (omega arith)) (λ w. rw (z, t, w) (omega arith))))
-
 -- At a cell without a row it is on neither.
 side_blank : (u : ℕ) → side_of 0 0 u ≡ 2
 unfolding side_of
@@ -70,34 +68,40 @@ on_side_lem n low high u x =
     by_test (eqb u 0) (λ z. rw z refl)
     (λ z. by_test (eqb u low) (λ t. rw (z, t) refl) (λ t. by_test (eqb u high) (λ w. rw (z, t, w) refl) (λ w. rw (z, t, w) refl)))
 
-module _ {A : Type 0} (step : A → Taken → A) (n side : ℕ) (x : Reading) where
-  pub side_after : (xs now : A) (y : Reading) → side ≢ 2 → y ≡ x → now ≡ step xs (record { slot = 2 * (n - 1) + side; reading = y }) → now ≡ after step xs (side_taken n side x)
-  unfolding after side_taken slot_of
-  side_after xs now y h f g = rw (ne_eqb side 2 h, ← f) g
+module _ {A : Type 0} (step : A → Taken → A) (n : ℕ) (x : Reading) where
+  side_known : (s : FaceSide) → side_taken n (side_number (Some s)) x ≡ record { slot = 2 * (n - 1) + side_number (Some s); reading = x } ∷ []
+  unfolding side_taken slot_of
+  side_known Lower = refl
+  side_known Higher = refl
 
-  pub neither_after : (xs : A) → side ≡ 2 → xs ≡ after step xs (side_taken n side x)
+  pub side_after : (xs now : A) (y : Reading) (o : Option FaceSide) (s : FaceSide) (tag : ℕ) → o ≡ Some s → tag ≡ side_number (Some s) → y ≡ x
+      → now ≡ step xs (record { slot = 2 * (n - 1) + tag; reading = y }) → now ≡ after step xs (side_taken n (side_number o) x)
+  unfolding after
+  side_after xs now y o s tag e k f g = rw (e, side_known s, ← k, ← f) g
+
+  pub neither_after : (xs : A) (o : Option FaceSide) → o ≡ None → xs ≡ after step xs (side_taken n (side_number o) x)
   unfolding after side_taken
-  neither_after xs h = rw (eq-eqb side 2 h) refl
+  neither_after xs o e = rw e refl
 
 -- ---- the sides of the two voxels of a face cell, by the first two numbers of its row
 
-module _ (u w : ℕ) (r : Sides) where
-  by_row : (low high : ℕ) → low ≡ get_or (row_of (u ∷ w ∷ [])) 0 0 → high ≡ get_or (row_of (u ∷ w ∷ [])) 1 0 → r.below ≡ side_of low high u → r.above ≡ side_of low high w → Sided u w r
+module _ (u w : ℕ) (r : Option FaceSide × Option FaceSide) where
+  by_row : (low high : ℕ) → low ≡ get_or (row_of (u ∷ w ∷ [])) 0 0 → high ≡ get_or (row_of (u ∷ w ∷ [])) 1 0 → side_number r.0 ≡ side_of low high u → side_number r.1 ≡ side_of low high w → Sided u w r
   by_row low high a b i k = record { below = rw (← a, ← b) i; above = rw (← a, ← b) k }
 
-  pub sides_same : r.below ≡ 2 → r.above ≡ 2 → u ≡ w → Sided u w r
+  pub sides_same : side_number r.0 ≡ 2 → side_number r.1 ≡ 2 → u ≡ w → Sided u w r
   sides_same i k e =
       let q : row_of (u ∷ w ∷ []) ≡ pad_to 6 [] = rw (← e) (row_alike 2 u (omega arith)) in
       by_row 0 0 (rw q refl) (rw q refl) (i ∙ sym (side_blank u)) (k ∙ sym (side_blank w))
 
-  pub sides_above : r.below ≡ 2 → r.above ≡ 0 → u ≢ w → u ≡ 0 → Sided u w r
+  pub sides_above : side_number r.0 ≡ 2 → side_number r.1 ≡ 0 → u ≢ w → u ≡ 0 → Sided u w r
   unfolding row_of
   sides_above i k h z =
       let y : w ≢ 0 = λ e. h (z ∙ sym e) in
       by_row w 0 (rw (z, ne_eqb w 0 y, eq-eqb w w refl, ne_eqb 0 w (λ e. y (sym e))) refl) (rw (z, ne_eqb w 0 y, eq-eqb w w refl, ne_eqb 0 w (λ e. y (sym e))) refl)
       (i ∙ sym (side_none w 0 u z)) (k ∙ sym (side_low w 0 w y refl))
 
-  pub sides_below : r.below ≡ 0 → r.above ≡ 2 → u ≢ 0 → w ≡ 0 → Sided u w r
+  pub sides_below : side_number r.0 ≡ 0 → side_number r.1 ≡ 2 → u ≢ 0 → w ≡ 0 → Sided u w r
   unfolding row_of
   sides_below i k y z =
       by_row u 0 (rw (z, ne_eqb u 0 y, eq-eqb u u refl, ne_eqb 0 u (λ e. y (sym e))) refl) (rw (z, ne_eqb u 0 y, eq-eqb u u refl, ne_eqb 0 u (λ e. y (sym e))) refl)
@@ -112,17 +116,11 @@ module _ (u w : ℕ) (r : Sides) where
     unfolding row_of
     high_is = rw (ne_eqb u 0 hu, ne_eqb w 0 hw, eq-eqb u u refl, eq-eqb w w refl, ne_eqb u w h, ne_eqb w u (λ e. h (sym e))) refl
 
-    pub sides_up : r.below ≡ 0 → r.above ≡ 1 → u < w → Sided u w r
+    pub sides_up : side_number r.0 ≡ 0 → side_number r.1 ≡ 1 → u < w → Sided u w r
     sides_up i k l = by_row (min u w) (max u w) low_is high_is (i ∙ sym (side_low _ _ u hu (omega arith))) (k ∙ sym (side_high _ _ w hw (omega arith) (omega arith)))
 
-    pub sides_down : r.below ≡ 1 → r.above ≡ 0 → w ≤ u → Sided u w r
+    pub sides_down : side_number r.0 ≡ 1 → side_number r.1 ≡ 0 → w ≤ u → Sided u w r
     sides_down i k l = by_row (min u w) (max u w) low_is high_is (i ∙ sym (side_high _ _ u hu (omega arith) (omega arith))) (k ∙ sym (side_low _ _ w hw (omega arith)))
-
-  pub below_most : Sided u w r → r.below ≤ 2
-  below_most S = rw S.below (side_most _ _ u)
-
-  pub above_most : Sided u w r → r.above ≤ 2
-  above_most S = rw S.above (side_most _ _ w)
 
 -- ---- one face cell
 
@@ -160,7 +158,7 @@ module _ (e : Triple) (m : List ℕ) (values : List Float) (kinds : List ℕ) (n
   unfolding around
   row_is = row_odds e m p (a ∷ []) B.axis
 
-  module _ (r : Sides) (S : Sided (get_or m (p - a) 0) (get_or m (p + a) 0) r) where
+  module _ (r : Option FaceSide × Option FaceSide) (S : Sided (get_or m (p - a) 0) (get_or m (p + a) 0) r) where
     -- what is taken below and above
     abbrev part : ℕ → ℕ → List Taken
     part side w = side_taken n side (reading_at values kinds w)
@@ -169,14 +167,14 @@ module _ (e : Triple) (m : List ℕ) (values : List Float) (kinds : List ℕ) (n
         → voxel_taken n (get_or (row_of pair) 0 0) (get_or (row_of pair) 1 0) (get_or m q 0) (reading_at values kinds w) ≡ part side w
     part_is q side w h = on_side_lem n _ _ (get_or m q 0) (reading_at values kinds w) ∙ ap (λ (k : ℕ). part k w) (sym h)
 
-    taken_face : face_taken e m values kinds n p ≡ part r.below v ++ part r.above (v + d)
+    taken_face : face_taken e m values kinds n p ≡ part (side_number r.0) v ++ part (side_number r.1) (v + d)
     unfolding face_taken gathered around
     taken_face =
-        rw (row_is, up_around e p, B.axis, ← B.below, ← B.above, part_is (p - a) r.below v S.below, part_is (p + a) r.above (v + d) S.above)
-        (ap (λ (l : List Taken). part r.below v ++ l) (append-nil (part r.above (v + d))))
+        rw (row_is, up_around e p, B.axis, ← B.below, ← B.above, part_is (p - a) (side_number r.0) v S.below, part_is (p + a) (side_number r.1) (v + d) S.above)
+        (ap (λ (l : List Taken). part (side_number r.0) v ++ l) (append-nil (part (side_number r.1) (v + d))))
 
-    pub face_after : {A : Type 0} (step : A → Taken → A) (xs one two : A) → one ≡ after step xs (part r.below v) → two ≡ after step one (part r.above (v + d)) → two ≡ after step xs (face_taken e m values kinds n p)
-    face_after step xs one two g h = h ∙ rw (g, taken_face) (sym (after_append step xs (part r.below v) (part r.above (v + d))))
+    pub face_after : {A : Type 0} (step : A → Taken → A) (xs one two : A) → one ≡ after step xs (part (side_number r.0) v) → two ≡ after step one (part (side_number r.1) (v + d)) → two ≡ after step xs (face_taken e m values kinds n p)
+    face_after step xs one two g h = h ∙ rw (g, taken_face) (sym (after_append step xs (part (side_number r.0) v) (part (side_number r.1) (v + d))))
 
 -- ---- the face that a cell shows
 

@@ -5,7 +5,7 @@ use mathlib.Core.List.{List, [], ◌∷◌, ◌++◌, append_assoc}
 use Prim.Native.Nat.{ℕ, ◌+◌, ◌*◌, ◌≤◌, ◌<◌}
 use lib.ListN.{length, length-set}
 use lib.Ieee.{Float}
-use Rattle.cells.specs.Box.{Triple}
+use Rattle.cells.specs.declared.Triple.{Triple}
 use Rattle.labels.specs.Components.{of_order}
 use Rattle.lines.specs.Lines.{line_count}
 use Rattle.pass_survey.specs.Survey.{on_line}

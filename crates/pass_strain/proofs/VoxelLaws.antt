@@ -6,7 +6,10 @@ use native.Mathlib.Omega.{arith}
 use lib.Dec.{eqb}
 use borrow.Author.Tests.{eqb-true, eqb-false}
 use Rattle.lists.proofs.Cases.{by_test}
-use Rattle.cells.specs.Box.{Triple, Axis, X, Y, Z, coord, each, stride, index, place}
+use Rattle.cells.specs.Box.{coord, each, stride, index, place}
+use Rattle.cells.specs.declared.Axis.{Axis}
+use Rattle.cells.specs.declared.Axis.TheVariants.{X, Y, Z}
+use Rattle.cells.specs.declared.Triple.{Triple}
 use Rattle.cells.specs.Grid.{sides, cells, parity, voxel}
 use Rattle.cells.proofs.BoxLaws.{Inside, same_triple, index_place, place_index, raised, lowered, index_raised, index_lowered}
 use Rattle.cells.proofs.GridLaws.{inside, low_side, high_side, raised_inside, lowered_inside}

@@ -1,7 +1,8 @@
 -- The readings of a block's own face cells, in cell order, each for the side of its face (document 02, item 1).
 -- Assumes nothing.
-use Rattle.std.specs.Prelude.{◌≡◌, cond, List, [], ◌∷◌, ℕ, zero, suc, ◌+◌, ◌-◌, ◌*◌, ◌/◌, ◌%◌, ◌≤◌, ◌<◌, eqb, get_or, length, Float}
-use Rattle.cells.specs.Box.{Triple, volume, place}
+use Rattle.std.specs.Prelude.{◌≡◌, cond, List, [], ◌∷◌, ℕ, zero, suc, ◌+◌, ◌-◌, ◌*◌, ◌/◌, ◌%◌, ◌≤◌, ◌<◌, eqb, get_or, length, Float, Option, Some, None}
+use Rattle.cells.specs.Box.{volume, place}
+use Rattle.cells.specs.declared.Triple.{Triple}
 use Rattle.cells.specs.Grid.{sides, cells, voxel}
 use Rattle.cells.specs.Extents.{Sized}
 use Rattle.cells.specs.Row.{row_of}
@@ -13,8 +14,9 @@ use Rattle.totals.specs.Totals.{Taken, taken, slot_of}
 use Rattle.strain_calls.specs.Adding.{gathered, face_taken}
 use Rattle.lowest.specs.Lowest.{starts_by}
 use Rattle.pass_strain.specs.declared.FaceLine.{FaceLine}
-use Rattle.pass_strain.specs.declared.Spot.{Spot}
-use Rattle.pass_strain.specs.declared.Sides.{Sides}
+use Rattle.pass_strain.specs.declared.FaceSide.{FaceSide}
+use Rattle.pass_strain.specs.declared.FaceSide.TheVariants.{Lower, Higher}
+use Rattle.pass_strain.specs.declared.BlockInput.{BlockInput}
 
 -- What a block brings: its map, the final numbers of faces and the place of its first face among them, and its readings by voxel.
 pub record Brought : Type 0 where
@@ -27,6 +29,10 @@ pub record Brought : Type 0 where
 -- What a block brings, by its parts.
 abbrev pub brought : List ℕ → List ℕ → ℕ → List Float → List ℕ → Brought
 brought m ns f vs ks = record { numbered = m; numbers = ns; from = f; values = vs; kinds = ks }
+
+-- .. as the code has them.
+abbrev pub input_of : BlockInput → Brought
+input_of g = brought g.map.now g.numbers.now g.from g.values.now g.kinds.now
 
 -- The final number of the face that cell p shows, 0 for none.
 unfoldable pub face_at : Brought → ℕ → ℕ
@@ -77,10 +83,16 @@ pub record Beside (e : Triple) (m : List ℕ) (values : List Float) (kinds : Lis
 unfoldable pub side_of : ℕ → ℕ → ℕ → ℕ
 side_of low high u = cond (eqb u 0) 2 (cond (eqb u low) 0 (cond (eqb u high) 1 2))
 
+-- A side by its number.
+abbrev pub side_number : Option FaceSide → ℕ
+side_number None = 2
+side_number (Some Lower) = 0
+side_number (Some Higher) = 1
+
 -- The sides of the voxels of numbers u and w below and above a face cell, by its row.
-pub record Sided (u w : ℕ) (r : Sides) : Type 0 where
-  pub below : r.below ≡ side_of (get_or (row_of (u ∷ w ∷ [])) 0 0) (get_or (row_of (u ∷ w ∷ [])) 1 0) u
-  pub above : r.above ≡ side_of (get_or (row_of (u ∷ w ∷ [])) 0 0) (get_or (row_of (u ∷ w ∷ [])) 1 0) w
+pub record Sided (u w : ℕ) (r : Option FaceSide × Option FaceSide) : Type 0 where
+  pub below : side_number r.0 ≡ side_of (get_or (row_of (u ∷ w ∷ [])) 0 0) (get_or (row_of (u ∷ w ∷ [])) 1 0) u
+  pub above : side_number r.1 ≡ side_of (get_or (row_of (u ∷ w ∷ [])) 0 0) (get_or (row_of (u ∷ w ∷ [])) 1 0) w
 
 -- The reading x on a side of face n.
 unfoldable pub side_taken : ℕ → ℕ → Reading → List Taken
@@ -89,11 +101,6 @@ side_taken n side x = cond (eqb side 2) [] (taken (slot_of n side) x ∷ [])
 -- The answer for a cell of a map at a place.
 pub record OwnFace (s : Triple) (m numbers : List ℕ) (from p : ℕ) (c : Triple) (r : ℕ) : Type 0 where
   pub is : r ≡ cond (starts_by s c) (final_in numbers from (get_or m p 0)) 0
-
--- Line l, of h in a layer, lies at y and z.
-pub record Lying (h l : ℕ) (r : Spot) : Type 0 where
-  pub y : r.y ≡ l % h
-  pub z : r.z ≡ l / h
 
 -- From x on, two apart, so many cells of a line of w show 0 in a map; the line begins at `base`, and r is the cell after them.
 pub record Skips (m : List ℕ) (base w x r : ℕ) : Type 0 where

@@ -6,13 +6,13 @@ use Prim.Native.Nat.{ℕ, ◌+◌, ◌≤◌, ◌<◌, max}
 use native.Mathlib.Omega.{arith}
 use lib.Dec.{eqb}
 use lib.ListN.{get_or}
-use Rattle.cells.specs.Box.{Triple}
+use Rattle.cells.specs.declared.Triple.{Triple}
 use Rattle.cells.specs.Grid.{order}
 use Rattle.labels.specs.Components.{of_order, largest}
 use Rattle.lines.specs.Lines.{line_count}
 use Rattle.lines.proofs.WalkLaws.{onwards, lines_first, lines_next, lines_last}
 use Rattle.pass_survey.specs.Survey.{on_line, most, line_added}
-use Rattle.pass_survey.specs.declared.Survey.{Survey}
+use Rattle.counts.specs.declared.Counts.{Counts}
 
 -- ---- lists
 
@@ -52,7 +52,7 @@ pub from_last : (e : Triple) (j l : ℕ) → line_count e ≤ l → from_line e 
 from_last e j l h = lines_last (λ p. eqb (order e p) j) e h
 
 -- The survey s of the lines before l, and what is ahead, give that of the map.
-pub record Looked (e : Triple) (m : List ℕ) (l : ℕ) (s : Survey) : Type 0 where
+pub record Looked (e : Triple) (m : List ℕ) (l : ℕ) (s : Counts) : Type 0 where
   pub faces : max s.faces (most m (from_line e 2 l)) ≡ largest e m 2
   pub curves : max s.curves (most m (from_line e 1 l)) ≡ largest e m 1
   pub points : max s.points (most m (from_line e 0 l)) ≡ largest e m 0
@@ -69,7 +69,7 @@ module _ (e : Triple) (m : List ℕ) where
     most_line : (j k : ℕ) → max (max k (most m (on_line e j l))) (most m (from_line e j (l + 1))) ≡ max k (most m (from_line e j l))
     most_line j k = sym (ap (λ (ps : List ℕ). max k (most m ps)) (from_next e j l h) ∙ most_append m (on_line e j l) (from_line e j (l + 1)) k)
 
-    pub looked_next : (s r : Survey) → Looked e m l s → r ≡ line_added e m l s → Looked e m (l + 1) r
+    pub looked_next : (s r : Counts) → Looked e m l s → r ≡ line_added e m l s → Looked e m (l + 1) r
     unfolding line_added
     looked_next s r L i =
         rw i
@@ -79,7 +79,7 @@ module _ (e : Triple) (m : List ℕ) where
           points = most_line 0 s.points ∙ L.points;
         })
 
-  module _ (l : ℕ) (h : line_count e ≤ l) (s : Survey) (L : Looked e m l s) where
+  module _ (l : ℕ) (h : line_count e ≤ l) (s : Counts) (L : Looked e m l s) where
     most_last : (j k : ℕ) → k ≡ max k (most m (from_line e j l))
     unfolding most
     most_last j k = rw (from_last e j l h) (omega arith)

@@ -8,7 +8,7 @@ use native.Mathlib.Omega.{arith}
 use lib.ListN.{length}
 use borrow.Author.Tests.{le-ltb}
 use Rattle.lists.proofs.Lists.{length-tabulate}
-use Rattle.cells.specs.Box.{Triple}
+use Rattle.cells.specs.declared.Triple.{Triple}
 use Rattle.cells.specs.Extents.{Sized, off_size}
 use Rattle.cells.specs.Grid.{cells}
 use Rattle.extents.proofs.SizeLaws.{sized_of}
@@ -43,4 +43,4 @@ module _ (e : Triple) (codes : List ℕ) where
 
   pub labels_printed : (f : List ℕ) (from : ℕ) (t : List ℕ) → off_size 8 e ≡ false → length f ≡ cells e → printing e (labels e codes) f from t ≡ listed e (labels e codes) f from t
   unfolding printing
-  labels_printed f from t s r = rw (← by_numbers e (labels e codes) (length f) false (sym s) refl length-labels false r (sym (few_labels (sized_of 8 e s))))
+  labels_printed f from t s r = rw (← by_numbers e (labels e codes) (length f) s length-labels r false (sym (few_labels (sized_of 8 e s))))

@@ -7,39 +7,25 @@ use Prim.Native.Nat.{ℕ, zero, suc, ◌+◌, ◌-◌, ◌*◌, ◌≤◌, ◌<�
 use native.Mathlib.Nat.{min-le_left}
 use native.Mathlib.Omega.{arith}
 use lib.Dec.{eqb, ltb}
-use lib.ListN.{length, get_or, take, drop, take-append-drop}
+use lib.ListN.{length, take, drop, take-append-drop}
 use lib.Seq.{drop-drop}
-use borrow.Author.Tests.{eqb-true, eq-eqb, ne_eqb, ltb-false, lt-ltb, le-ltb, not-true}
+use borrow.Author.Tests.{eqb-true, eq-eqb, ltb-false, not-true}
 use Rattle.lists.specs.Lists.{consecutive, zeros}
 use Rattle.lists.proofs.Cases.{picked, neither, and_first, and_second}
-use Rattle.cells.specs.Box.{Triple}
+use Rattle.cells.specs.declared.Triple.{Triple}
 use Rattle.cells.specs.Extents.{off_size}
 use Rattle.cells.specs.Grid.{cells}
 use Rattle.cells.specs.Row.{row}
 use Rattle.extents.proofs.SizeLaws.{sized_of}
 use Rattle.labels.specs.Components.{largest, first_cell, component_row}
 use Rattle.text.specs.Listing.{spaced, letter, width, coordinates, line, lines_for, lines_of, heading, listing, refused_line}
-use Rattle.text_tray.specs.Sunk.{State, sunk, fitting, part}
+use Rattle.text_tray.specs.Sunk.{State, begun, sunk, fitting, part}
 use Rattle.printer.specs.Printing.{too_many, has_listing, Outcome, outcome, listed, printing, Ready}
-use Rattle.text_tray.proofs.SinkLaws.{sunk_then, sunk_more, sunk_whole}
-use Rattle.printer.proofs.TextLaws.{spaced_three, row_more, lines_more}
+use Rattle.text_tray.proofs.SinkLaws.{sunk_none, sunk_then, sunk_more, sunk_whole}
+use Rattle.printer.proofs.TextLaws.{lines_more}
 use Rattle.pass_first.proofs.MarkLaws.{row_first}
 
 -- ---- numbers above the cells
-
-module _ (e : Triple) (m : List ℕ) (w : length m ≡ cells e) (a : ℕ) (p : a ≡ largest e m 2) where
-  pub many_faces : length m < a → true ≡ too_many e m
-  unfolding too_many
-  many_faces h = rw (← p, ← w, lt-ltb _ _ h)
-
-  module _ (h : a ≤ length m) (b : ℕ) (q : b ≡ largest e m 1) where
-    pub many_curves : length m < b → true ≡ too_many e m
-    unfolding too_many
-    many_curves i = rw (← p, ← q, ← w, le-ltb _ _ h, lt-ltb _ _ i)
-
-    pub many_points : (c : ℕ) → b ≤ length m → c ≡ largest e m 0 → ltb (length m) c ≡ too_many e m
-    unfolding too_many
-    many_points c i r = rw (← p, ← q, ← r, ← w, le-ltb _ _ h, le-ltb _ _ i)
 
 each_order : (e : Triple) (m : List ℕ) (j : ℕ) → j ≤ 2 → largest e m 2 ≤ cells e → largest e m 1 ≤ cells e → largest e m 0 ≤ cells e → largest e m j ≤ cells e
 each_order e m zero h f c p = p
@@ -50,24 +36,9 @@ each_order e m (suc (suc (suc j))) h f c p = absurd (omega arith)
 -- ---- whether there is a listing
 
 module _ (e : Triple) (m : List ℕ) (f : ℕ) where
-  module _ (o : Bool) (i : o ≡ off_size 8 e) where
-    pub none_size : o ≡ true → false ≡ has_listing e m f
-    unfolding has_listing
-    none_size p = rw (sym i ∙ p)
-
-    module _ (p : o ≡ false) where
-      pub none_map : (length m ≡ cells e → ⊥) → false ≡ has_listing e m f
-      unfolding has_listing
-      none_map d = rw (sym i ∙ p, ne_eqb _ _ d)
-
-      module _ (k : length m ≡ cells e) where
-        pub none_tray : (f ≡ cells e → ⊥) → false ≡ has_listing e m f
-        unfolding has_listing
-        none_tray d = rw (sym i ∙ p, eq-eqb _ _ k, ne_eqb _ _ d)
-
-        pub by_numbers : (t : Bool) → f ≡ cells e → t ≡ too_many e m → not t ≡ has_listing e m f
-        unfolding has_listing
-        by_numbers t j q = rw (sym i ∙ p, eq-eqb _ _ k, eq-eqb _ _ j, q)
+  pub by_numbers : off_size 8 e ≡ false → length m ≡ cells e → f ≡ cells e → (t : Bool) → t ≡ too_many e m → not t ≡ has_listing e m f
+  unfolding has_listing
+  by_numbers o k j t q = rw (o, eq-eqb _ _ k, eq-eqb _ _ j, q)
 
   -- What holds where there is one.
   pub ready_of : has_listing e m f ≡ true → Ready e m f
@@ -108,17 +79,6 @@ refused_word = 114 ∷ 101 ∷ 102 ∷ 117 ∷ 115 ∷ 101 ∷ 100 ∷ []
 by_twos : (a b c d f g h : List ℕ) → a ++ b ++ c ++ d ++ f ++ g ++ h ≡ (a ++ b) ++ (c ++ d) ++ (f ++ g) ++ h
 by_twos a b c d f g h = simp append_assoc
 
-pub place_put : (x y z : ℕ) (s t u v : State) → t ≡ sunk s (spaced (x ∷ [])) → u ≡ sunk t (spaced (y ∷ [])) → v ≡ sunk u (spaced (z ∷ [])) → v ≡ sunk s (spaced (x ∷ y ∷ z ∷ []))
-place_put x y z s t u v p q r = sunk_more s u v _ _ (sunk_then s t u _ _ p q) r _ (spaced_three x y z)
-
--- the numbers of a row up to place i
-module _ (s t : State) (r : List ℕ) (i : ℕ) (p : t ≡ sunk s (spaced (take i r))) where
-  pub row_next : (u : State) → u ≡ sunk t (spaced (get_or r i 0 ∷ [])) → i < length r → u ≡ sunk s (spaced (take (i + 1) r))
-  row_next u q h = sunk_more s t u _ _ p q _ (row_more r i h)
-
-  pub row_all : (k : ℕ) → i ≤ k → k ≤ i → t ≡ sunk s (spaced (take k r))
-  row_all k h g = let e : i ≡ k = omega arith in rw e at p
-
 module _ (e : Triple) (m : List ℕ) where
   pub line_put : (j n p l : ℕ) (r : List ℕ) (s a b c d u : State) → p ≡ first_cell e m j n → r ≡ row e m p → l ≡ letter j
       → a ≡ sunk s (l ∷ []) → b ≡ sunk a (spaced (n ∷ [])) → c ≡ sunk b (spaced (coordinates e p)) → d ≡ sunk c (spaced (take (6 - 2 * j) r)) → u ≡ sunk d (10 ∷ []) → u ≡ sunk s (line e m j n)
@@ -128,6 +88,10 @@ module _ (e : Triple) (m : List ℕ) where
       rw (← h, ← f, ← w) (sunk_then s d u _ _ (sunk_then s c d _ _ (sunk_then s b c _ _ (sunk_then s a b _ _ q₁ q₂) q₃) q₄) q₅)
 
   -- the lines up to number i
+  pub lines_none : (j : ℕ) (s : State) → s ≡ sunk s (lines_for e m j (consecutive 1 0))
+  unfolding lines_for consecutive
+  lines_none j s = sunk_none s
+
   pub lines_next : (j i : ℕ) (s t u : State) → t ≡ sunk s (lines_for e m j (consecutive 1 i)) → u ≡ sunk t (line e m j (i + 1)) → u ≡ sunk s (lines_for e m j (consecutive 1 (i + 1)))
   lines_next j i s t u p q = sunk_more s t u _ _ p q _ (lines_more e m j i)
 
@@ -150,10 +114,11 @@ module _ (e : Triple) (m : List ℕ) where
   unfolding listing
   listing_put s t a b u q₁ q₂ q₃ q₄ = sunk_then s b u _ _ (sunk_then s a b _ _ (sunk_then s t a _ _ q₁ q₂) q₃) q₄
 
-pub refusal_put : (n k : ℕ) (o : List ℕ) (t u : State) → t ≡ sunk (record { skip = k; at = 0; tray = o }) (refused_word ++ spaced (n ∷ [])) → u ≡ sunk t (10 ∷ [])
-    → (u.at ≡ fitting k (refused_line n) (length o)) × (u.tray ≡ part k (refused_line n) o)
+-- x is what the caller's tray holds in the end
+pub refusal_put : (n k : ℕ) (o x : List ℕ) (t u : State) → x ≡ u.tray → t ≡ sunk (record { skip = k; at = 0; tray = o }) (refused_word ++ spaced (n ∷ [])) → u ≡ sunk t (10 ∷ [])
+    → (u.at ≡ fitting k (refused_line n) (length o)) × (x ≡ part k (refused_line n) o)
 unfolding refused_line
-refusal_put n k o t u p q = sunk_whole (refused_line n) o k u (sunk_then _ t u _ _ p q)
+refusal_put n k o x t u e p q = let w = sunk_whole (refused_line n) o k u (sunk_then _ t u _ _ p q) in (w.0, e ∙ w.1)
 
 -- ---- the ways of `print_listing`
 
@@ -162,12 +127,14 @@ module _ (e : Triple) (m f : List ℕ) (from : ℕ) (t : List ℕ) (b : Bool) (h
   unfolding printing
   print_none z = rw (sym h ∙ z)
 
-  pub print_listed : (at : ℕ) (g u : List ℕ) → b ≡ true → g ≡ zeros (cells e)
-      → (at ≡ fitting from (listing e m) (length t)) × (u ≡ part from (listing e m) t) → outcome at g u ≡ printing e m f from t
+  -- x is what the caller's tray holds in the end
+  pub print_listed : (g x : List ℕ) (u : State) → b ≡ true → g ≡ zeros (cells e) → x ≡ u.tray
+      → u ≡ sunk (begun from t) (listing e m) → outcome u.at g x ≡ printing e m f from t
   unfolding printing listed
-  print_listed at g u z c d =
+  print_listed g x u z c i d =
       let r = (ready_of e m (length f) (sym h ∙ z)).room in
-      rw (sym h ∙ z, d.0, d.1, c, r)
+      let w = sunk_whole (listing e m) t from u d in
+      rw (sym h ∙ z, i, w.0, w.1, c, r)
 
 -- A caller has no more bytes than its tray holds.
 pub fitting_within : (from : ℕ) (text : List ℕ) (tray : ℕ) → fitting from text tray ≤ tray

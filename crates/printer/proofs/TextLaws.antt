@@ -2,29 +2,12 @@
 -- Assumes nothing.
 use mathlib.Core.Path.{◌≡◌, refl, sym, ap, ◌∙◌}
 use mathlib.Core.List.{List, [], ◌∷◌, ◌++◌, append_assoc, append-nil}
-use Prim.Native.Nat.{ℕ, ◌+◌, ◌<◌}
-use native.Mathlib.Numerals.{add-one}
+use Prim.Native.Nat.{ℕ, ◌+◌}
 use native.Mathlib.Omega.{arith}
-use lib.ListN.{length, get_or, take}
-use lib.Seq.{take-suc}
 use Rattle.lists.specs.Lists.{consecutive}
 use Rattle.lists.proofs.Lists.{consecutive_split}
-use Rattle.cells.specs.Box.{Triple}
-use Rattle.decimals.specs.Decimals.{decimal_digits}
-use Rattle.text.specs.Listing.{spaced, line, lines_for}
-
--- ---- numbers
-
-spaced_append : (a b : List ℕ) → spaced (a ++ b) ≡ spaced a ++ spaced b
-unfolding spaced
-spaced_append [] b = refl
-spaced_append (n ∷ a) b = rw (spaced_append a b) (ap (λ (l : List ℕ). 32 ∷ l) (sym (append_assoc (decimal_digits n) (spaced a) (spaced b))))
-
-pub spaced_three : (x y z : ℕ) → spaced (x ∷ y ∷ z ∷ []) ≡ spaced (x ∷ []) ++ spaced (y ∷ []) ++ spaced (z ∷ [])
-spaced_three x y z = spaced_append (x ∷ y ∷ []) (z ∷ []) ∙ ap (λ (l : List ℕ). l ++ spaced (z ∷ [])) (spaced_append (x ∷ []) (y ∷ []))
-
-pub row_more : (r : List ℕ) (i : ℕ) → i < length r → spaced (take (i + 1) r) ≡ spaced (take i r) ++ spaced (get_or r i 0 ∷ [])
-row_more r i h = rw (add-one i, take-suc r i 0 h) (spaced_append (take i r) (get_or r i 0 ∷ []))
+use Rattle.cells.specs.declared.Triple.{Triple}
+use Rattle.text.specs.Listing.{line, lines_for}
 
 -- ---- lines
 

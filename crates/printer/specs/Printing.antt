@@ -1,8 +1,8 @@
--- What `print_listing` answers and leaves in its trays, for every input (document 01, "Volumes to try").
+-- What `print_listing` answers and leaves in its trays, for every input.
 -- Assumes nothing.
 use Rattle.std.specs.Prelude.{◌≡◌, Bool, cond, not, ◌&&◌, ◌||◌, List, ℕ, ◌≤◌, eqb, ltb, length}
 use Rattle.lists.specs.Lists.{zeros}
-use Rattle.cells.specs.Box.{Triple}
+use Rattle.cells.specs.declared.Triple.{Triple}
 use Rattle.cells.specs.Extents.{Sized, off_size}
 use Rattle.cells.specs.Grid.{cells}
 use Rattle.labels.specs.Components.{largest}

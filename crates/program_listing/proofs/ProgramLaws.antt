@@ -8,16 +8,16 @@ use native.Mathlib.Omega.{arith}
 use lib.ListN.{length, take}
 use borrow.Author.Tests.{eq-eqb, ne_eqb}
 use Rattle.lists.specs.Lists.{zeros}
-use Rattle.cells.specs.Box.{Triple, volume}
+use Rattle.cells.specs.Box.{volume}
+use Rattle.cells.specs.declared.Triple.{Triple}
 use Rattle.cells.specs.Extents.{Sized}
 use Rattle.cells.specs.Grid.{cells}
 use Rattle.extents.proofs.SizeLaws.{sized_of, sized_within}
 use Rattle.labels.specs.Number.{labels}
 use Rattle.text.specs.Request.{text_refusal, asked_extents, asked_codes}
 use Rattle.text.specs.Listing.{refused_line, printed}
-use Rattle.parser.specs.declared.Task.{Task}
 use Rattle.parser.specs.Scanning.{state, begun, after}
-use Rattle.parser.specs.Asked.{Outcome, task_of, finished}
+use Rattle.parser.specs.Asked.{Task, Outcome, task_of, finished}
 use Rattle.parser.proofs.TextLaws.{accepted_of, text_read}
 use Rattle.labeller.specs.Labelling as labeller
 use Rattle.labeller.proofs.LabellingLaws.{ready_accepted}

@@ -1,38 +1,43 @@
-// The volumes to try of document 01 that are not starred, and five more, as far as they can be tried without the joiner's steps: the counts
-// of each on one line, its map on another; then the cuts of an axis of 65, with the refusal of an opening and the ticks that it leaves.
+// Volumes to try, as far as they can be tried without the joiner's steps: the counts of each on one line, its map on another; then the cuts
+// of an axis of 65, with the refusal of an opening and the ticks that it leaves.
 #![tactic(auto)]
 
-use labeller::{Labelled, label};
+ghost use Rattle.std.specs.Prelude.{◌<◌};
+
+use blocks::Cuts;
+use cells::Triple;
+use counts::Counts;
+use labeller::label;
+use refusals::{Refusal, number_of};
 use std::io;
 use step_open::open;
 
-// Writes " WHAT NUMBER".
-fn tell(rt: &impl Print, what: &str, number: u32) -> io::Result<()> {
-    print!(rt; " {what} {number}")
+const NO_COUNTS: Counts = Counts {
+    faces: 0,
+    curves: 0,
+    points: 0,
+};
+
+fn triple(x: usize, y: usize, z: usize) -> Triple {
+    Triple { x, y, z }
 }
 
 // Writes the line "NAME refusal R faces F curves C points P".
-fn say(rt: &impl Print, name: &str, r: Labelled) -> io::Result<()> {
-    print!(rt; "{name}")?;
-    tell(rt, "refusal", r.refusal)?;
-    tell(rt, "faces", r.faces)?;
-    tell(rt, "curves", r.curves)?;
-    tell(rt, "points", r.points)?;
-    println!(rt; "")
-}
-
-fn wide(v: u32) -> u64 {
-    v as u64
+fn say(rt: &impl Print, name: &str, answer: Result<Counts, Refusal>) -> io::Result<()> {
+    let refusal = number_of(&answer);
+    let Counts {
+        faces,
+        curves,
+        points,
+    } = answer.unwrap_or(NO_COUNTS);
+    println!(rt; "{name} refusal {refusal} faces {faces} curves {curves} points {points}")
 }
 
 // Writes the numbers of a tray on a line.
 fn show(rt: &impl Print, name: &str, tray: &[u32]) -> io::Result<()> {
     print!(rt; "{name}")?;
-    let mut i: usize = 0;
-    while i < tray.len() {
-        let number = wide(tray[i]);
+    for number in tray {
         print!(rt; " {number}")?;
-        i += 1;
     }
     println!(rt; "")
 }
@@ -42,14 +47,26 @@ fn count(
     rt: &impl Print,
     name: &str,
     codes: &[u32],
-    nx: u16,
-    ny: u16,
-    nz: u16,
+    e: Triple,
     map: &mut [u32],
     work: &mut [u32],
 ) -> io::Result<()> {
-    let r = label(codes, nx, ny, nz, map, work);
-    say(rt, name, r)
+    say(rt, name, label(codes, e, map, work))
+}
+
+// Labels a volume, and writes its counts and its map.
+fn volume<const VOXELS: usize, const CELLS: usize>(
+    rt: &impl Print,
+    name: &str,
+    codes: [u32; VOXELS],
+    e: Triple,
+) -> io::Result<()>
+    requires { (VOXELS < 65536) × (CELLS < 65536) }
+{
+    let mut map = [5u32; CELLS];
+    let mut work = [5u32; CELLS];
+    count(rt, name, &codes, e, &mut map, &mut work)?;
+    show(rt, name, &map)
 }
 
 // A block that is 64 long on an axis: all code 1, but for the last voxel. Then with that axis 0.
@@ -58,11 +75,11 @@ fn longest(rt: &impl Print) -> io::Result<()> {
     codes[63] = 2;
     let mut map = [5u32; 127];
     let mut work = [5u32; 127];
-    count(rt, "64x1x1", &codes, 64, 1, 1, &mut map, &mut work)?;
-    count(rt, "1x64x1", &codes, 1, 64, 1, &mut map, &mut work)?;
-    count(rt, "1x1x64", &codes, 1, 1, 64, &mut map, &mut work)?;
+    count(rt, "64x1x1", &codes, triple(64, 1, 1), &mut map, &mut work)?;
+    count(rt, "1x64x1", &codes, triple(1, 64, 1), &mut map, &mut work)?;
+    count(rt, "1x1x64", &codes, triple(1, 1, 64), &mut map, &mut work)?;
     show(rt, "1x1x64", &map)?;
-    count(rt, "0x1x1", &codes, 0, 1, 1, &mut map, &mut work)
+    count(rt, "0x1x1", &codes, triple(0, 1, 1), &mut map, &mut work)
 }
 
 // A block that is 65 long on an axis: refused, and the trays stay.
@@ -70,20 +87,17 @@ fn too_long(rt: &impl Print) -> io::Result<()> {
     let codes = [1u32; 65];
     let mut map = [5u32; 129];
     let mut work = [5u32; 129];
-    count(rt, "65x1x1", &codes, 65, 1, 1, &mut map, &mut work)?;
-    count(rt, "1x65x1", &codes, 1, 65, 1, &mut map, &mut work)?;
-    count(rt, "1x1x65", &codes, 1, 1, 65, &mut map, &mut work)?;
+    count(rt, "65x1x1", &codes, triple(65, 1, 1), &mut map, &mut work)?;
+    count(rt, "1x65x1", &codes, triple(1, 65, 1), &mut map, &mut work)?;
+    count(rt, "1x1x65", &codes, triple(1, 1, 65), &mut map, &mut work)?;
     show(rt, "1x1x65", &map)?;
     show(rt, "1x1x65", &work)
 }
 
-// Figure 5 of document 003, uncut.
+// A small block with six segments, uncut.
 fn figure(rt: &impl Print) -> io::Result<()> {
     let codes: [u32; 18] = [1, 1, 1, 1, 2, 1, 1, 1, 3, 4, 4, 4, 4, 5, 4, 4, 4, 6];
-    let mut map = [5u32; 75];
-    let mut work = [5u32; 75];
-    count(rt, "figure", &codes, 3, 3, 2, &mut map, &mut work)?;
-    show(rt, "figure", &map)
+    volume::<18, 75>(rt, "figure", codes, triple(3, 3, 2))
 }
 
 // Two curves that look apart in the upper half are one.
@@ -92,10 +106,7 @@ fn handle(rt: &impl Print) -> io::Result<()> {
         3, 3, 3, 3, 3, 3, 3, 3, 3, 3, 3, 3, 3, 3, 3, 1, 1, 1, 1, 3, 1, 3, 1, 1, 3, 1, 1, 1, 1, 3,
         2, 2, 2, 2, 3, 2, 3, 3, 2, 3, 2, 2, 2, 3, 3,
     ];
-    let mut map = [5u32; 225];
-    let mut work = [5u32; 225];
-    count(rt, "handle", &codes, 5, 3, 3, &mut map, &mut work)?;
-    show(rt, "handle", &map)
+    volume::<45, 225>(rt, "handle", codes, triple(5, 3, 3))
 }
 
 // A point that its block of 2×2×2 calls active is inactive.
@@ -104,29 +115,20 @@ fn rings(rt: &impl Print) -> io::Result<()> {
         1, 1, 1, 1, 1, 1, 1, 1, 1, 1, 1, 1, 1, 1, 1, 1, 2, 2, 2, 2, 2, 3, 2, 2, 2, 2, 3, 2, 2, 2,
         2, 2,
     ];
-    let mut map = [5u32; 147];
-    let mut work = [5u32; 147];
-    count(rt, "rings", &codes, 4, 4, 2, &mut map, &mut work)?;
-    show(rt, "rings", &map)
+    volume::<32, 147>(rt, "rings", codes, triple(4, 4, 2))
 }
 
-// Zeros only (document 02, item 4).
+// Zeros only.
 fn space(rt: &impl Print) -> io::Result<()> {
     let codes = [0u32; 18];
-    let mut map = [5u32; 75];
-    let mut work = [5u32; 75];
-    count(rt, "space", &codes, 3, 3, 2, &mut map, &mut work)?;
-    show(rt, "space", &map)
+    volume::<18, 75>(rt, "space", codes, triple(3, 3, 2))
 }
 
 // One code with a hole in the middle.
 fn hole(rt: &impl Print) -> io::Result<()> {
     let mut codes = [1u32; 27];
     codes[13] = 0;
-    let mut map = [5u32; 125];
-    let mut work = [5u32; 125];
-    count(rt, "hole", &codes, 3, 3, 3, &mut map, &mut work)?;
-    show(rt, "hole", &map)
+    volume::<27, 125>(rt, "hole", codes, triple(3, 3, 3))
 }
 
 // Two voxels, codes 5 and 7, with space on all six sides.
@@ -134,10 +136,7 @@ fn core(rt: &impl Print) -> io::Result<()> {
     let mut codes = [0u32; 36];
     codes[17] = 5;
     codes[18] = 7;
-    let mut map = [5u32; 175];
-    let mut work = [5u32; 175];
-    count(rt, "core", &codes, 4, 3, 3, &mut map, &mut work)?;
-    show(rt, "core", &map)
+    volume::<36, 175>(rt, "core", codes, triple(4, 3, 3))
 }
 
 // Opens a job for 65×1×1 voxels in tables without entries, whose two blocks have old ticks.
@@ -154,16 +153,17 @@ fn open_cut(
     let mut came = [7u32; 2];
     let mut sums = [7.0f64; 1];
     let mut counts = [7u64; 1];
-    let r = open(
+    let cuts = Cuts {
+        x: cx,
+        y: one,
+        z: one,
+    };
+    let answer = open(
         65,
         1,
         1,
-        cx,
-        one,
-        one,
-        0,
-        0,
-        0,
+        &cuts,
+        NO_COUNTS,
         &mut ticks,
         &numbers,
         none,
@@ -187,9 +187,8 @@ fn open_cut(
         &mut sums[..0],
         &mut counts[..0],
     );
-    print!(rt; "{name}")?;
-    tell(rt, "refusal", r.refusal)?;
-    println!(rt; "")?;
+    let refusal = number_of(&answer);
+    println!(rt; "{name} refusal {refusal}")?;
     show(rt, name, &ticks)
 }
 

@@ -9,7 +9,7 @@ use native.Mathlib.Nat.{le_refl}
 use native.Mathlib.Numerals.{add-one}
 use native.Mathlib.Omega.{arith}
 use lib.Dec.{eqb, ltb}
-use lib.ListN.{get_or, length, set, length-set}
+use lib.ListN.{get_or, length, set}
 use lib.Seq.{get_or-set_same, get_or-set_other}
 use borrow.Author.Tests.{eq-eqb, ne_eqb, eqb-true, eqb-false, lt-ltb, le-ltb}
 use Rattle.lists.specs.Lists.{overlay}
@@ -84,12 +84,6 @@ module _ (keys fs : List ℕ) (c x : ℕ) where
   pub enter_later : c ≢ x → get_or keys (get_or fs c 0) 0 ≤ get_or keys x 0 → fs ≡ entered keys c x fs
   unfolding entered
   enter_later d l = rw (ne_eqb c x d, le-ltb (get_or keys x 0) (get_or keys (get_or fs c 0) 0) l)
-
-  pub length-entered : (gs : List ℕ) → gs ≡ entered keys c x fs → length gs ≡ length fs
-  unfolding entered
-  length-entered gs q =
-      ap length q ∙ picked (λ (l : List ℕ). length l ≡ length fs) (eqb c x) (set fs x x) _ (λ _. length-set fs x x)
-      (λ _. picked (λ (l : List ℕ). length l ≡ length fs) (ltb (get_or keys x 0) (get_or keys (get_or fs c 0) 0)) (set fs c x) fs (λ _. length-set fs c x) (λ _. refl))
 
 read_picked : (b : Bool) (fs : List ℕ) (c x : ℕ) → c < length fs → get_or (cond b (set fs c x) fs) c 0 ≡ cond b x (get_or fs c 0)
 read_picked true fs c x h = get_or-set_same fs c x 0 h

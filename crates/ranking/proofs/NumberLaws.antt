@@ -55,6 +55,3 @@ module _ {cs spare spare' : List ℕ} {n i h : ℕ} (C : Classes cs n) (D : Diff
           get_or-set_other spare' c (get_or cs (get_or spare (n + j) 0) 0) (i + 1) 0
           (λ u. q (D.apart j i (omega arith) l (u ∙ ap (λ (x : ℕ). get_or cs x 0) listed_same)))
           ∙ P.done.at j (omega arith))
-
-pub placed_end : {cs spare spare' : List ℕ} {n i h : ℕ} → i ≤ h → h ≤ i → Placing cs spare spare' n i → Placed cs spare spare' n h
-placed_end {i = i} {h = h} a b P = let e : h ≡ i = omega arith in rw e P.done

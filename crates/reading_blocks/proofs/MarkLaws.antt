@@ -1,7 +1,7 @@
 -- Marked blocks are needed ones, and the list of them grows block by block.
 -- Assumes nothing.
 use mathlib.Core.Path.{◌≡◌, refl, sym, ap, ◌∙◌}
-use mathlib.Core.Bool.{true, false, true≢false}
+use mathlib.Core.Bool.{Bool, true, false, true≢false}
 use mathlib.Core.Logic.{◌≢◌}
 use mathlib.Core.List.{List, [], ◌∷◌, ◌++◌, append-nil}
 use Prim.Native.Nat.{ℕ, zero, suc, ◌+◌, ◌-◌, ◌≤◌, ◌<◌}
@@ -10,7 +10,7 @@ use native.Mathlib.Omega.{arith}
 use lib.Dec.{eqb}
 use lib.ListN.{get_or, length, set, length-set, length-append}
 use lib.Seq.{get_or-set_same, get_or-set_other}
-use borrow.Author.Tests.{eqb-true, eqb-false, eq-eqb, ne_eqb}
+use borrow.Author.Tests.{eqb-true, eqb-false}
 use Rattle.lists.specs.Lists.{consecutive, keep, laid}
 use Rattle.lists.proofs.Cases.{by_test}
 use Rattle.lists.proofs.Lists.{consecutive_out, consecutive_split, keep_append}
@@ -20,26 +20,26 @@ use Rattle.cutting.specs.Cutting.{Cutting, blocks}
 use Rattle.joiner.specs.Stages.{lowest_block}
 use Rattle.cell_calls.specs.Cells.{CellLists, cell_count, cell_at, is_needed, needed_blocks}
 use Rattle.cell_calls.proofs.NeededLaws.{needed_where, where_needed}
-use Rattle.reading_blocks.specs.Marks.{marked_by, is_marked, marked_blocks, Puts}
+use Rattle.reading_blocks.specs.Marks.{marked_by, is_marked, marked_blocks}
 
 -- ---- the marks
 
-module _ (k : Cutting) (l : CellLists) (marks : List ℕ) where
+module _ (k : Cutting) (l : CellLists) (marks : List Bool) where
   pub marked_long : (n : ℕ) → length (marked_by k l n marks) ≡ length marks
   unfolding marked_by
   marked_long zero = refl
-  marked_long (suc n) = length-set (marked_by k l n marks) (lowest_block k (cell_at l n)) 1 ∙ marked_long n
+  marked_long (suc n) = length-set (marked_by k l n marks) (lowest_block k (cell_at l n)) true ∙ marked_long n
 
-  module _ (clear : (b : ℕ) → get_or marks b 0 ≡ 0) (b : ℕ) where
+  module _ (clear : (b : ℕ) → get_or marks b false ≡ false) (b : ℕ) where
     -- a block is marked where it is the lowest-numbered one of a cell, and nowhere else
     mark_where : (n : ℕ) → is_marked (marked_by k l n marks) b ≡ true → (i : ℕ) × (i < n) × (lowest_block k (cell_at l i) ≡ b)
     unfolding marked_by is_marked
-    mark_where zero t = absurd (true≢false (sym t ∙ rw (clear b)))
+    mark_where zero t = absurd (true≢false (sym t ∙ clear b))
     mark_where (suc n) t =
         by_test (eqb (lowest_block k (cell_at l n)) b) (λ e. (n, omega arith, eqb-true _ _ e))
         (λ e.
         let o : b ≢ lowest_block k (cell_at l n) = λ q. eqb-false _ _ e (sym q) in
-        let w = mark_where n (rw (get_or-set_other (marked_by k l n marks) (lowest_block k (cell_at l n)) b 1 0 o) at t) in
+        let w = mark_where n (rw (get_or-set_other (marked_by k l n marks) (lowest_block k (cell_at l n)) b true false o) at t) in
         (w.0, omega (arith, w.1), w.2))
 
     where_mark : b < length marks → (n i : ℕ) → i < n → lowest_block k (cell_at l i) ≡ b → is_marked (marked_by k l n marks) b ≡ true
@@ -49,11 +49,11 @@ module _ (k : Cutting) (l : CellLists) (marks : List ℕ) where
         by_test (eqb (lowest_block k (cell_at l n)) b)
         (λ q.
         let p : lowest_block k (cell_at l n) ≡ b = eqb-true _ _ q in
-        rw (p, get_or-set_same (marked_by k l n marks) b 1 0 (omega (arith, marked_long n))) refl)
+        rw (p, get_or-set_same (marked_by k l n marks) b true false (omega (arith, marked_long n))) refl)
         (λ q.
         let o : b ≢ lowest_block k (cell_at l n) = λ p. eqb-false _ _ q (sym p) in
         let d : i ≢ n = λ p. o (sym e ∙ ap (λ (x : ℕ). lowest_block k (cell_at l x)) p) in
-        rw (get_or-set_other (marked_by k l n marks) (lowest_block k (cell_at l n)) b 1 0 o) (where_mark h n i (omega arith) e))
+        rw (get_or-set_other (marked_by k l n marks) (lowest_block k (cell_at l n)) b true false o) (where_mark h n i (omega arith) e))
 
     marked_is : b < length marks → is_marked (marked_by k l (cell_count l) marks) b ≡ is_needed k l b
     marked_is h =
@@ -63,13 +63,13 @@ module _ (k : Cutting) (l : CellLists) (marks : List ℕ) where
         by_test (is_needed k l b) (λ t. let w = needed_where k l b t in absurd (true≢false (sym (where_mark h (cell_count l) w.0 w.1 w.2) ∙ f))) (λ g. f ∙ sym g))
 
   -- The marked blocks are the needed ones.
-  pub marked_needed : ((b : ℕ) → get_or marks b 0 ≡ 0) → blocks k ≤ length marks → marked_blocks (marked_by k l (cell_count l) marks) (blocks k) ≡ needed_blocks k l
+  pub marked_needed : ((b : ℕ) → get_or marks b false ≡ false) → blocks k ≤ length marks → marked_blocks (marked_by k l (cell_count l) marks) (blocks k) ≡ needed_blocks k l
   unfolding marked_blocks needed_blocks
   marked_needed clear h = keep_same _ _ (consecutive 0 (blocks k)) (λ b m. marked_is clear b (omega (arith, consecutive_out 0 (blocks k) m)))
 
 -- ---- the list of marked blocks
 
-module _ (marks : List ℕ) where
+module _ (marks : List Bool) where
   marked_split : (a b : ℕ) → marked_blocks marks (a + b) ≡ marked_blocks marks a ++ keep (is_marked marks) (consecutive a b)
   unfolding marked_blocks
   marked_split a b =
@@ -104,28 +104,25 @@ module _ (marks : List ℕ) where
   unfolding marked_blocks consecutive
   listed_none t = record { many = refl; is = laid_none 0 t (omega arith); long = refl }
 
-  pub listed_more : (t u v : List ℕ) (b place r : ℕ) → Listed t b place u → (is_marked marks b ≡ true → place < length u) → Puts (is_marked marks b) b place r u v → Listed t (b + 1) r v
-  listed_more t u v b place r L room P = by_test (is_marked marks b) yes no
-    where
-      yes : is_marked marks b ≡ true → Listed t (b + 1) r v
-      yes m =
-          let p = P.put m in
-          let g : place < length t = omega (arith, room m, L.long) in
-          let laid_next : set (laid 0 (marked_blocks marks b) t) place b ≡ laid 0 (marked_blocks marks b ++ (b ∷ [])) t =
-          rw (zero-add place) at (laid_more 0 place b (marked_blocks marks b) t (sym L.many) (omega (arith, g))) in
-          record {
-            many = p.0 ∙ omega (arith, L.many, ap length (marked_more b m), length-append (marked_blocks marks b) (b ∷ []));
-            is = p.1 ∙ ap (λ (x : List ℕ). set x place b) L.is ∙ laid_next ∙ ap (λ (x : List ℕ). laid 0 x t) (sym (marked_more b m));
-            long = ap length p.1 ∙ length-set u place b ∙ L.long;
-          }
+  module _ (t u : List ℕ) (b place : ℕ) (L : Listed t b place u) where
+    pub listed_more : get_or marks b false ≡ true → place < length u → Listed t (b + 1) (place + 1) (set u place b)
+    unfolding is_marked
+    listed_more m g =
+        let laid_next : set (laid 0 (marked_blocks marks b) t) place b ≡ laid 0 (marked_blocks marks b ++ (b ∷ [])) t =
+        rw (zero-add place) at (laid_more 0 place b (marked_blocks marks b) t (sym L.many) (omega (arith, g, L.long))) in
+        record {
+          many = omega (arith, L.many, ap length (marked_more b m), length-append (marked_blocks marks b) (b ∷ []));
+          is = ap (λ (x : List ℕ). set x place b) L.is ∙ laid_next ∙ ap (λ (x : List ℕ). laid 0 x t) (sym (marked_more b m));
+          long = length-set u place b ∙ L.long;
+        }
 
-      no : is_marked marks b ≡ false → Listed t (b + 1) r v
-      no m =
-          let p = P.left m in
-          record { many = p.0 ∙ L.many ∙ ap length (sym (marked_same b m)); is = p.1 ∙ L.is ∙ ap (λ (x : List ℕ). laid 0 x t) (sym (marked_same b m)); long = ap length p.1 ∙ L.long }
+    pub listed_same : get_or marks b false ≡ false → Listed t (b + 1) place u
+    unfolding is_marked
+    listed_same m = record { many = L.many ∙ ap length (sym (marked_same b m)); is = L.is ∙ ap (λ (x : List ℕ). laid 0 x t) (sym (marked_same b m)); long = L.long }
 
   module _ (t u : List ℕ) (b count place : ℕ) (L : Listed t b place u) (h : length (marked_blocks marks count) ≤ length t) where
-    pub listed_room : b < count → is_marked marks b ≡ true → place < length u
+    pub listed_room : b < count → get_or marks b false ≡ true → place < length u
+    unfolding is_marked
     listed_room g m = omega (arith, L.many, L.long, marked_room b count (length t) g h m)
 
     pub listed_all : b ≡ count → (place ≡ length (marked_blocks marks count)) × (u ≡ laid 0 (marked_blocks marks count) t)
@@ -133,17 +130,3 @@ module _ (marks : List ℕ) where
 
     pub listed_few : b ≡ count → place ≤ length t
     listed_few e = omega (arith, (listed_all e).0)
-
--- ---- the ways of `put_marked`
-
-pub is_marked_lem : (marks : List ℕ) (b : ℕ) → get_or marks b 0 ≢ 0 → is_marked marks b ≡ true
-unfolding is_marked
-is_marked_lem marks b n = rw (ne_eqb (get_or marks b 0) 0 n)
-
-module _ (marks : List ℕ) (b place : ℕ) (t : List ℕ) where
-  pub put_none : get_or marks b 0 ≡ 0 → Puts (is_marked marks b) b place place t t
-  unfolding is_marked
-  put_none e = rw (eq-eqb (get_or marks b 0) 0 e) (record { put = λ q. absurd (true≢false (sym q)); left = λ q. (refl, refl) })
-
-  pub put_one : get_or marks b 0 ≢ 0 → Puts (is_marked marks b) b place (place + 1) t (set t place b)
-  put_one n = rw (is_marked_lem marks b n) (record { put = λ q. (refl, refl); left = λ q. absurd (true≢false q) })

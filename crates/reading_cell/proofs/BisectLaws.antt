@@ -7,9 +7,9 @@ use Prim.Native.Nat.{ℕ, zero, suc, ◌+◌, ◌-◌, ◌/◌, ◌≤◌, ◌<�
 use native.Mathlib.Omega.{arith}
 use lib.Dec.{eqb, ltb}
 use lib.ListN.{get_or}
-use borrow.Author.Tests.{eqb-false, eq-eqb, ne_eqb, lt-ltb, le-ltb}
+use borrow.Author.Tests.{eqb-false, eq-eqb, ne_eqb}
 use Rattle.lists.proofs.Cases.{by_test}
-use Rattle.joiner.specs.Outcomes.{bisect, point_number}
+use Rattle.joiner.specs.Outcomes.{bisect}
 use Rattle.reading_cell.specs.declared.Span.{Span}
 use Rattle.reading_cell.specs.Inner.{halved_of}
 
@@ -55,17 +55,6 @@ module _ (xs : List ℕ) (v : ℕ) where
   pub halved_less : (s r : Span) → r ≡ halved_of xs s v → (s.size ≡ 0 → ⊥) → r.size < s.size
   halved_less s r e o = (halved_both s r e o).0
 
-  -- ---- the ways of `halved`
-
-  module _ (s : Span) (x : ℕ) (e : x ≡ get_or xs (s.from + s.size / 2) 0) where
-    pub halved_upper : x < v → ◌≡◌ {A = Span} (record { from = s.from + s.size / 2 + 1; size = s.size - s.size / 2 - 1 }) (halved_of xs s v)
-    unfolding halved_of
-    halved_upper h = rw (← e, lt-ltb x v h)
-
-    pub halved_lower : v ≤ x → ◌≡◌ {A = Span} (record { from = s.from; size = s.size / 2 }) (halved_of xs s v)
-    unfolding halved_of
-    halved_lower h = rw (← e, le-ltb x v h)
-
   -- ---- the loop
 
   module _ (count : ℕ) where
@@ -79,19 +68,3 @@ module _ (xs : List ℕ) (v : ℕ) where
     pub left_none : (s : Span) → Left s → s.size ≡ 0 → s.from ≡ bisect count xs 0 count v
     unfolding bisect
     left_none s l z = sym (l.1 ∙ rw z)
-
-    -- ---- the ways of `point_number`
-
-    module _ (i : ℕ) (e : i ≡ bisect count xs 0 count v) where
-      pub point_past : count ≤ i → 0 ≡ point_number xs count v
-      unfolding point_number
-      point_past h = rw (← e, le-ltb i count h)
-
-      module _ (h : i < count) (x : ℕ) (q : x ≡ get_or xs i 0) where
-        pub point_other : (x ≡ v → ⊥) → 0 ≡ point_number xs count v
-        unfolding point_number
-        point_other o = rw (← e, ← q, lt-ltb i count h, ne_eqb x v o)
-
-        pub point_here : x ≡ v → i + 1 ≡ point_number xs count v
-        unfolding point_number
-        point_here o = rw (← e, ← q, lt-ltb i count h, eq-eqb x v o) (omega arith)

@@ -1,17 +1,22 @@
 -- The tests are the joiner's, and an accepted lookup answers what the joiner asks for.
 -- Assumes nothing.
 use mathlib.Core.Path.{◌≡◌, refl, sym, ap, ◌∙◌}
-use mathlib.Core.Bool.{Bool, true, false, not, cond, ◌&&◌}
+use mathlib.Core.Bool.{Bool, true, false, not, cond, ◌&&◌, true≢false}
 use mathlib.Core.List.{List, []}
-use Prim.Native.Nat.{ℕ, ◌<◌}
+use Prim.Native.Nat.{ℕ, ◌≤◌, ◌<◌}
 use native.Mathlib.Omega.{arith}
 use lib.Dec.{ltb}
 use lib.ListN.{length}
-use borrow.Author.Tests.{ltb-true, not-true, not-false}
+use borrow.Author.Tests.{ltb-true}
 use Rattle.lists.proofs.Cases.{and_first, and_second}
-use Rattle.cells.specs.Box.{Triple}
+use Rattle.std.specs.Prelude.{Result, Ok, Err, IsErr, IsErrAnd}
+use Rattle.refusals.specs.declared.Refusal.{Refusal}
+use Rattle.refusals.specs.Refusals.{number, number_of}
+use Rattle.refusals.proofs.RefusalLaws.{number_positive}
+use Rattle.cells.specs.Box.{triple}
+use Rattle.cells.specs.declared.Triple.{Triple}
 use Rattle.cells.specs.Extents.{Sized}
-use Rattle.cutting.specs.Cutting.{Cutting, blocks, block_extents, good_cut}
+use Rattle.cutting.specs.Cutting.{Cutting, blocks, block_extents, good_cut, most_blocks, FewBlocks}
 use Rattle.joiner.specs.Job.{Kind, Closed, State}
 use Rattle.joiner.specs.Stages.{has_cell, local}
 use Rattle.joiner.specs.Calls.{Call, look, answer, full}
@@ -19,15 +24,16 @@ use Rattle.joiner.specs.Declines.{adds, look_stands, refusal, stands_for, stray,
 use Rattle.joiner.specs.Outcomes.{CallStep, looked_up}
 use Rattle.blocks.specs.Blocks.{AnyExtents, size_of, Tells, has_in}
 use Rattle.blocks.specs.declared.Block.{Block}
+use Rattle.blocks.specs.declared.Cuts.{Cuts}
 use Rattle.blocks.proofs.BlockLaws.{has_told}
 use Rattle.job.specs.declared.Job.{Job}
-use Rattle.job.specs.JobState.{AnyCuts, job_of, told_of, state_of}
+use Rattle.job.specs.JobState.{AnyCuts, job_of, job_by, state_by}
 use Rattle.judge.specs.declared.CallName.{CallName}
 use Rattle.judge.specs.declared.Entry.{Entry}
 use Rattle.judge.specs.declared.Lengths.{Lengths}
 use Rattle.judge.specs.Judge.{first_refusal, entries_of, lengths_of, opened_of, placed_of, entry_of, fits_lengths, block_fits, map_judged, map_stands_in}
-use Rattle.judge.proofs.JudgeLaws.{FirstTests, opened_passed, or_first, or_then, or_none, or_else_assoc, refusal_opened, late_judged, late_none, block_sized, stands_is, step_refused, step_accepted}
-use Rattle.reading_cell.specs.Inner.{lent, look_judged, HasPlace}
+use Rattle.judge.proofs.JudgeLaws.{FirstTests, few_of, count_few, opened_passed, passed_first, refused_first, or_then, or_none, or_else_assoc, refusal_opened, late_judged, late_none, block_sized, stands_is, step_refused, step_accepted}
+use Rattle.reading_cell.specs.Inner.{lent, look_judged, HasPlace, number_read}
 use Rattle.reading_cell.proofs.NumberLaws.{place_there}
 
 -- 4, or else what follows
@@ -47,31 +53,39 @@ eight_none false b h = absurd (omega arith)
 
 -- ---- the ways of `has_place`
 
-module _ (cx cy cz : List ℕ) (b : ℕ) (c : Triple) (t : Bool) (h : AnyExtents cx cy cz (λ k. t ≡ ltb b (blocks k))) where
-  pub place_none : not t ≡ true → AnyExtents cx cy cz (λ k. false ≡ (ltb b (blocks k) && has_cell k b c))
-  place_none p nx ny nz = rw (sym (h nx ny nz) ∙ not-true t p)
+module _ (cuts : Cuts) (b : ℕ) (c : Triple) (t : Bool) (h : AnyExtents cuts (λ k. t ≡ ltb b (blocks k))) where
+  pub place_none : t ≡ false → AnyExtents cuts (λ k. false ≡ (ltb b (blocks k) && has_cell k b c))
+  place_none p e = rw (sym (h e) ∙ p)
 
-  pub place_some : not t ≡ false → (r : Block) → AnyExtents cx cy cz (λ k. Tells k b r) → (u : Bool) → u ≡ has_in r c
-      → AnyExtents cx cy cz (λ k. u ≡ (ltb b (blocks k) && has_cell k b c))
-  place_some p r T u e nx ny nz = rw (sym (h nx ny nz) ∙ not-false t p) (e ∙ has_told _ b r (T nx ny nz) c)
+  pub place_some : t ≡ true → (r : Block) → AnyExtents cuts (λ k. Tells k b r) → (u : Bool) → u ≡ has_in r c
+      → AnyExtents cuts (λ k. u ≡ (ltb b (blocks k) && has_cell k b c))
+  place_some p r T u q e = rw (sym (h e) ∙ p) (q ∙ has_told _ b r (T e) c)
 
--- ---- the ways of `refusal`
+-- ---- the ways of `refuse`
 
--- r is what the first tests tell, t whether the block has the cell
-pub look_passed : (j : Job) (cx cy cz : List ℕ) (b : ℕ) (c : Triple) (r : ℕ) → r ≡ opened_of (job_of j cx cy cz) Closed → r ≡ 0 → (t : Bool)
-    → AnyExtents cx cy cz (λ k. t ≡ (ltb b (blocks k) && has_cell k b c)) → not t ≡ false
-    → (good_cut (told_of j cx cy cz).cutting ≡ true) × (b < blocks (told_of j cx cy cz).cutting)
-look_passed j cx cy cz b c r e q t h p = (
-  (opened_passed (job_of j cx cy cz) Closed (sym e ∙ q)).good,
-  ltb-true _ _ (and_first (ltb b (blocks (told_of j cx cy cz).cutting)) _ (sym (h j.nx j.ny j.nz) ∙ not-false t p)),
-)
+module _ (j : Job) (cuts : Cuts) (b : ℕ) (c : Triple) (e : 0 ≡ opened_of (job_by j cuts) Closed) (t : Bool)
+    (h : AnyExtents cuts (λ k. t ≡ (ltb b (blocks k) && has_cell k b c))) (p : t ≡ true) where
+  begun : (good_cut (job_by j cuts).told.cutting ≡ true) × (b < blocks (job_by j cuts).told.cutting)
+  begun = (
+    (opened_passed (job_by j cuts) Closed (sym e)).good,
+    ltb-true _ _ (and_first (ltb b (blocks (job_by j cuts).told.cutting)) _ (sym (h (triple j.nx j.ny j.nz)) ∙ p)),
+  )
 
-module _ (j : Job) (cx cy cz ticks table faces curves points : List ℕ) (b : ℕ) (m : List ℕ) (c : Triple) where
+  -- what `block_count` requires
+  pub begun_few : FewBlocks cuts.x.now cuts.y.now cuts.z.now
+  begun_few = few_of (job_by j cuts).told.cutting begun.0
+
+  -- what `fits` and `judge_map` require
+  pub begun_sized : (r : Block) → AnyExtents cuts (λ k. Tells k b r) → (i : ℕ) → AnyExtents cuts (λ k. i ≡ blocks k) → (i ≤ most_blocks) × Sized 64 (size_of r)
+  begun_sized r T i many =
+      (count_few (job_by j cuts).told.cutting begun.0 i (many (triple j.nx j.ny j.nz)), block_sized (job_by j cuts).told.cutting begun.0 b begun.1 r (T (triple j.nx j.ny j.nz)))
+
+module _ (j : Job) (cuts : Cuts) (ticks table faces curves points : List ℕ) (b : ℕ) (m : List ℕ) (c : Triple) where
   abbrev k : Cutting
-  k = (told_of j cx cy cz).cutting
+  k = (job_by j cuts).told.cutting
 
   abbrev before : State
-  before = state_of j cx cy cz (lent ticks table faces curves points)
+  before = state_by j cuts (lent ticks table faces curves points)
 
   abbrev call : Call
   call = look b m c
@@ -79,23 +93,18 @@ module _ (j : Job) (cx cy cz ticks table faces curves points : List ℕ) (b : �
   abbrev is_placed : Bool
   is_placed = ltb b (blocks k) && has_cell k b c
 
-  module _ (r : ℕ) (e : r ≡ opened_of (job_of j cx cy cz) Closed) where
-    pub look_first : (r ≡ 0 → ⊥) → r ≡ look_judged before b m c
+  module _ (e : 0 ≡ opened_of (job_by j cuts) Closed) (t : Bool) (h : AnyExtents cuts (λ k. t ≡ (ltb b (blocks k) && has_cell k b c))) where
+    pub look_4 : t ≡ false → 4 ≡ look_judged before b m c
     unfolding look_judged
-    look_first q = rw (← e) (or_first r _ q)
+    look_4 p = passed_first _ _ _ e (rw (sym (h (triple j.nx j.ny j.nz)) ∙ p))
 
-    module _ (q : r ≡ 0) (t : Bool) (h : AnyExtents cx cy cz (λ k. t ≡ (ltb b (blocks k) && has_cell k b c))) where
-      pub look_4 : not t ≡ true → 4 ≡ look_judged before b m c
-      unfolding look_judged
-      look_4 p = rw (← e, sym (h j.nx j.ny j.nz) ∙ not-true t p) (or_then r _ 4 q refl)
-
-      pub look_judged_lem : not t ≡ false → (r' : Block) → AnyExtents cx cy cz (λ k. Tells k b r') → (i : ℕ) → AnyExtents cx cy cz (λ k. i ≡ blocks k)
-          → (z : Lengths) → z ≡ lengths_of before.tables → (u : Bool) → u ≡ fits_lengths CallName.Lookup i (size_of r') (entries_of j) z (length m) → (d : Entry) → d ≡ entry_of table b
-          → (x : ℕ) → AnyCuts (λ cx cy cz. x ≡ map_judged (job_of j cx cy cz) (size_of r') d u m) → x ≡ look_judged before b m c
-      unfolding look_judged block_fits
-      look_judged_lem p r' T i many z Z u f d g x l =
-          rw (← e, sym (h j.nx j.ny j.nz) ∙ not-false t p, ← many j.nx j.ny j.nz, ← (T j.nx j.ny j.nz).size, ← Z, ← f, ← g)
-          (or_then r _ x q (l cx cy cz))
+    pub look_judged_lem : t ≡ true → (r : Block) → AnyExtents cuts (λ k. Tells k b r) → (i : ℕ) → AnyExtents cuts (λ k. i ≡ blocks k)
+        → (z : Lengths) → z ≡ lengths_of before.tables → (u : Bool) → u ≡ fits_lengths CallName.Lookup i (size_of r) (entries_of j) z (length m) → (d : Entry) → d ≡ entry_of table b
+        → (x : ℕ) → AnyCuts (λ cx cy cz. x ≡ map_judged (job_of j cx cy cz) (size_of r) d u m) → x ≡ look_judged before b m c
+    unfolding look_judged block_fits
+    look_judged_lem p r T i many z Z u f d g x l =
+        rw (sym (h (triple j.nx j.ny j.nz)) ∙ p, ← many (triple j.nx j.ny j.nz), ← (T (triple j.nx j.ny j.nz)).size, ← Z, ← f, ← g)
+        (passed_first _ _ _ e (l cuts.x.now cuts.y.now cuts.z.now))
 
   -- ---- the refusal is the joiner's
 
@@ -103,28 +112,28 @@ module _ (j : Job) (cx cy cz ticks table faces curves points : List ℕ) (b : �
   handed = look_stands before b m (local k b c)
 
   abbrev all_fit : Bool
-  all_fit = block_fits (job_of j cx cy cz) CallName.Lookup (lengths_of before.tables) b (length m)
+  all_fit = block_fits (job_by j cuts) CallName.Lookup (lengths_of before.tables) b (length m)
 
   abbrev late : ℕ
-  late = map_judged (job_of j cx cy cz) (block_extents k b) (entry_of table b) all_fit m
+  late = map_judged (job_by j cuts) (block_extents k b) (entry_of table b) all_fit m
 
   -- the final number that is handed out is tested last
   refusal_is : refusal before call ≡ first_refusal (look_judged before b m c) (cond (not handed) 8 (cond (full before.job.told.entries before.job.sofar (adds before call)) 10 0))
   unfolding look_judged placed_of
   refusal_is =
-      refusal_opened before call refl ∙ ap (first_refusal (opened_of (job_of j cx cy cz) Closed)) (rw (late_judged before call refl b m refl handed refl) (four_then is_placed late _)) ∙
-      or_else_assoc (opened_of (job_of j cx cy cz) Closed) (cond (not is_placed) 4 late) _
+      refusal_opened before call refl ∙ ap (first_refusal (opened_of (job_by j cuts) Closed)) (rw (late_judged before call refl b m refl handed refl) (four_then is_placed late _)) ∙
+      or_else_assoc (opened_of (job_by j cuts) Closed) (cond (not is_placed) 4 late) _
 
   -- ---- a lookup that is not refused before
 
   module _ (acc : look_judged before b m c ≡ 0) where
-    passed : FirstTests (job_of j cx cy cz) Closed
+    passed : FirstTests (job_by j cuts) Closed
     unfolding look_judged
-    passed = opened_passed (job_of j cx cy cz) Closed (or_none (opened_of (job_of j cx cy cz) Closed) (cond (not is_placed) 4 late) acc).0
+    passed = opened_passed (job_by j cuts) Closed (or_none (opened_of (job_by j cuts) Closed) (cond (not is_placed) 4 late) acc).0
 
     later : (is_placed ≡ true) × (late ≡ 0)
     unfolding look_judged
-    later = four_none is_placed late (or_none (opened_of (job_of j cx cy cz) Closed) (cond (not is_placed) 4 late) acc).1
+    later = four_none is_placed late (or_none (opened_of (job_by j cuts) Closed) (cond (not is_placed) 4 late) acc).1
 
     block_there : b < blocks k
     block_there = ltb-true b (blocks k) (and_first (ltb b (blocks k)) (has_cell k b c) later.0)
@@ -136,7 +145,7 @@ module _ (j : Job) (cx cy cz ticks table faces curves points : List ℕ) (b : �
     cell_local r T = (cell_there r T, block_sized k passed.good b block_there r T)
 
     pub cell_placed : (r : Block) → Tells k b r → HasPlace k.extents r c
-    cell_placed r T = place_there j cx cy cz ticks table faces curves points b m c r T passed.sized passed.good block_there (cell_there r T)
+    cell_placed r T = place_there j cuts ticks table faces curves points b m c r T passed.sized passed.good block_there (cell_there r T)
 
     none_added : (κ : Kind) → adds before call κ ≡ 0
     unfolding adds
@@ -146,7 +155,7 @@ module _ (j : Job) (cx cy cz ticks table faces curves points : List ℕ) (b : �
     all_stands : handed ≡ true → (tallies_fit before.job && stands_for before call) ≡ true
     unfolding map_judged
     all_stands v =
-        let map-in = map_stands_in (block_extents k b) (entry_of table b) j.face_entries j.curve_entries m in
+        let map-in = map_stands_in (block_extents k b) (entry_of table b) j.entries.faces j.entries.curves m in
         let a = eight_none all_fit (tallies_fit before.job && map-in) later.1 in
         rw (stands_is before (block_extents k b) b m, and_first (tallies_fit before.job) map-in a, and_second (tallies_fit before.job) map-in a, v)
 
@@ -156,13 +165,16 @@ module _ (j : Job) (cx cy cz ticks table faces curves points : List ℕ) (b : �
 
     -- t is whether the final number is one of the closed table's
     module _ (t : Bool) (h : t ≡ handed) where
-      pub look_stray : not t ≡ true → CallStep before call (answer 8 0 []) before
-      look_stray p = step_refused before call 8 (rw (refusal_is, acc, sym h ∙ not-true t p) (or_then 0 _ 8 refl refl)) (λ h. omega (arith, h))
+      pub look_stray : t ≡ false → CallStep before call (answer 8 0 []) before
+      look_stray p = step_refused before call 8 (rw (refusal_is, acc, sym h ∙ p) (or_then 0 _ 8 refl refl)) (λ h. omega (arith, h))
 
-      pub look_accepted : not t ≡ false → (number : ℕ) → number ≡ looked_up before b m c → CallStep before call (answer 0 number []) before
+      pub look_accepted : t ≡ true → (number : ℕ) → number ≡ looked_up before b m c → CallStep before call (answer 0 number []) before
       look_accepted p number e =
-          let v : handed ≡ true = sym h ∙ not-false t p in
+          let v : handed ≡ true = sym h ∙ p in
           step_accepted before call 0 (rw (refusal_is, acc, v, has_room v) (or_then 0 _ 0 refl refl)) refl (answer 0 number []) before refl (ap (λ (x : ℕ). answer 0 x []) e, refl)
 
-  pub look_refused : (number : ℕ) → number ≡ look_judged before b m c → (number ≡ 0 → ⊥) → CallStep before call (answer number 0 []) before
-  look_refused number e n = step_refused before call number (rw (refusal_is, ← e) (or_first number _ n)) n
+  pub look_refused : (r : Refusal) → number r ≡ look_judged before b m c → (x : Result ℕ Refusal) → IsErr x × IsErrAnd x (λ q. q ≡ r)
+      → CallStep before call (answer (number_of x) (number_read x) []) before
+  look_refused r e (Ok y) h = absurd (true≢false (sym h.0))
+  look_refused r e (Err q) h =
+      step_refused before call (number q) (ap number h.1 ∙ rw refusal_is (refused_first r _ _ e)) (λ z. absurd (omega (arith, number_positive q, z)))

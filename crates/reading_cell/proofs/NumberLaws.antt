@@ -6,8 +6,10 @@ use mathlib.Core.List.{List}
 use Prim.Native.Nat.{ℕ, ◌+◌, ◌-◌, ◌*◌, ◌%◌, ◌≤◌, ◌<◌}
 use native.Mathlib.Omega.{arith}
 use lib.ListN.{get_or}
-use borrow.Author.Tests.{eq-eqb, ne_eqb}
-use Rattle.cells.specs.Box.{Triple, Axis, X, Y, Z, triple, coord, each, index}
+use Rattle.cells.specs.Box.{coord, each, index}
+use Rattle.cells.specs.declared.Axis.{Axis}
+use Rattle.cells.specs.declared.Axis.TheVariants.{X, Y, Z}
+use Rattle.cells.specs.declared.Triple.{Triple}
 use Rattle.cells.specs.Extents.{Sized}
 use Rattle.cells.specs.Grid.{sides, order}
 use Rattle.cells.proofs.BoxLaws.{Inside}
@@ -16,12 +18,13 @@ use Rattle.cutting.specs.Cutting.{Cutting, blocks, block_extents, good_cut}
 use Rattle.joiner.specs.Job.{from_of, node}
 use Rattle.joiner.specs.Stages.{local}
 use Rattle.joiner.specs.Declines.{final_of, handed_stands, look_stands, number_stands}
-use Rattle.joiner.specs.Outcomes.{point_number, cell_number, looked_up}
+use Rattle.joiner.specs.Outcomes.{cell_number, looked_up}
 use Rattle.blocks.specs.Blocks.{origin_of, size_of, Tells, has_in, local_in, shift_in, embed_in}
 use Rattle.blocks.specs.declared.Block.{Block}
+use Rattle.blocks.specs.declared.Cuts.{Cuts}
 use Rattle.blocks.proofs.BlockLaws.{in_low, in_high, local_told, shift_inside_told}
 use Rattle.job.specs.declared.Job.{Job}
-use Rattle.job.specs.JobState.{told_of, state_of}
+use Rattle.job.specs.JobState.{job_by, state_by}
 use Rattle.pass_point.specs.FoundPoints.{final_in}
 use Rattle.judge.specs.declared.Entry.{Entry}
 use Rattle.judge.specs.Judge.{entry_of, number_stands_in}
@@ -50,107 +53,55 @@ module _ (r : Block) (c : Triple) (t : has_in r c ≡ true) where
         odd_at (size_of r) place_back back_inside X,
         odd_at (size_of r) place_back back_inside Y,
         odd_at (size_of r) place_back back_inside Z,
-        even c.x r.ox (in_low r c t X),
-        even c.y r.oy (in_low r c t Y),
-        even c.z r.oz (in_low r c t Z),
+        even c.x r.origin.x (in_low r c t X),
+        even c.y r.origin.y (in_low r c t Y),
+        even c.z r.origin.z (in_low r c t Z),
       )
 
   -- The place in the volume of its place in the block is its own.
   pub shift_back : shift_in r place_back ≡ c
   unfolding shift_in
   shift_back =
-      let x : 2 * r.ox + (c.x - 2 * r.ox) ≡ c.x = omega (arith, in_low r c t X) in
-      let y : 2 * r.oy + (c.y - 2 * r.oy) ≡ c.y = omega (arith, in_low r c t Y) in
-      let z : 2 * r.oz + (c.z - 2 * r.oz) ≡ c.z = omega (arith, in_low r c t Z) in
+      let x : 2 * r.origin.x + (c.x - 2 * r.origin.x) ≡ c.x = omega (arith, in_low r c t X) in
+      let y : 2 * r.origin.y + (c.y - 2 * r.origin.y) ≡ c.y = omega (arith, in_low r c t Y) in
+      let z : 2 * r.origin.z + (c.z - 2 * r.origin.z) ≡ c.z = omega (arith, in_low r c t Z) in
       rw (x, y, z)
 
--- ---- the ways of `position`
+-- ---- the position in the volume
 
-module _ (e : Triple) (r : Block) (x y z : ℕ) (h : HasPlace e r (triple x y z)) where
-  pub embeds : Sized 1024 e × ((a : Axis) → coord (shift_in r (triple (x - 2 * r.ox) (y - 2 * r.oy) (z - 2 * r.oz))) a < coord (sides e) a)
-  embeds = (h.sized, λ a. rw (shift_back r (triple x y z) h.has) (h.inside a))
+module _ (e : Triple) (r : Block) (c : Triple) (h : HasPlace e r c) where
+  pub embeds : Sized 1024 e × ((a : Axis) → coord (shift_in r (place_back r c h.has)) a < coord (sides e) a)
+  embeds = (h.sized, λ a. rw (shift_back r c h.has) (h.inside a))
 
-  pub position_is : (v : ℕ) → v ≡ embed_in e r (triple (x - 2 * r.ox) (y - 2 * r.oy) (z - 2 * r.oz)) → v ≡ index (sides e) (triple x y z)
+  pub position_is : (v : ℕ) → v ≡ embed_in e r (place_back r c h.has) → v ≡ index (sides e) c
   unfolding embed_in
-  position_is v q = q ∙ ap (index (sides e)) (shift_back r (triple x y z) h.has)
-
--- ---- the ways of `number_of`
-
-module _ (j : Job) (d : Entry) (faces curves points : List ℕ) (n : ℕ) (c : Triple) (o : ℕ) (e : o ≡ order_at c) where
-  abbrev Is : ℕ → Type 0
-  Is r = r ≡ number_in j d faces curves points n c
-
-  pub number_voxel : o ≡ 3 → Is n
-  unfolding number_in
-  number_voxel h = rw (← e, eq-eqb o 3 h)
-
-  module _ (a : o ≡ 3 → ⊥) (r : ℕ) where
-    pub number_face : o ≡ 2 → r ≡ final_in faces d.face_from n → Is r
-    unfolding number_in
-    number_face h q = rw (← e, ne_eqb o 3 a, eq-eqb o 2 h) q
-
-    module _ (b : o ≡ 2 → ⊥) where
-      pub number_curve : o ≡ 1 → r ≡ final_in curves d.curve_from n → Is r
-      unfolding number_in
-      number_curve h q = rw (← e, ne_eqb o 3 a, ne_eqb o 2 b, eq-eqb o 1 h) q
-
-      pub number_point : (o ≡ 1 → ⊥) → (v : ℕ) → v ≡ index (sides (triple j.nx j.ny j.nz)) c → r ≡ point_number points j.numbered_points v → Is r
-      unfolding number_in
-      number_point h v p q = rw (← e, ne_eqb o 3 a, ne_eqb o 2 b, ne_eqb o 1 h, ← p) q
-
--- ---- the ways of `handed_stands` and `number_handed`
-
-module _ (numbers : List ℕ) (most from n : ℕ) where
-  pub handed_none : n ≡ 0 → true ≡ handed_in numbers most from n
-  unfolding handed_in
-  handed_none e = rw (eq-eqb n 0 e)
-
-  pub handed_some : (n ≡ 0 → ⊥) → (r : Bool) → r ≡ number_stands_in numbers most (from + (n - 1)) → r ≡ handed_in numbers most from n
-  unfolding handed_in
-  handed_some o r e = rw (ne_eqb n 0 o) e
-
-module _ (j : Job) (d : Entry) (faces curves : List ℕ) (n : ℕ) (c : Triple) (o : ℕ) (e : o ≡ order_at c) where
-  abbrev Hands : Bool → Type 0
-  Hands r = r ≡ look_in j d faces curves n c
-
-  pub hands_face : o ≡ 2 → (r : Bool) → r ≡ handed_in faces j.numbered_faces d.face_from n → Hands r
-  unfolding look_in
-  hands_face h r q = rw (← e, eq-eqb o 2 h) q
-
-  module _ (b : o ≡ 2 → ⊥) where
-    pub hands_curve : o ≡ 1 → (r : Bool) → r ≡ handed_in curves j.numbered_curves d.curve_from n → Hands r
-    unfolding look_in
-    hands_curve h r q = rw (← e, ne_eqb o 2 b, eq-eqb o 1 h) q
-
-    pub hands_none : (o ≡ 1 → ⊥) → Hands true
-    unfolding look_in
-    hands_none h = rw (← e, ne_eqb o 2 b, ne_eqb o 1 h)
+  position_is v q = q ∙ ap (index (sides e)) (shift_back r c h.has)
 
 -- ---- the joiner's number
 
-module _ (j : Job) (cx cy cz ticks table faces curves points : List ℕ) (b : ℕ) (m : List ℕ) (c : Triple) where
+module _ (j : Job) (cuts : Cuts) (ticks table faces curves points : List ℕ) (b : ℕ) (m : List ℕ) (c : Triple) where
   abbrev k : Cutting
-  k = (told_of j cx cy cz).cutting
+  k = (job_by j cuts).told.cutting
 
   module _ (r : Block) (T : Tells k b r) (t : has_in r c ≡ true) where
     order_told : order (block_extents k b) (local k b c) ≡ order_at c
     order_told = rw (← local_told k b r T c, ← T.size) (order_is r c t)
 
-    number_is : looked_up (state_of j cx cy cz (lent ticks table faces curves points)) b m c ≡ number_in j (entry_of table b) faces curves points (get_or m (local k b c) 0) c
+    number_is : looked_up (state_by j cuts (lent ticks table faces curves points)) b m c ≡ number_in j (entry_of table b) faces curves points (get_or m (local k b c) 0) c
     unfolding looked_up cell_number number_in final_of node from_of final_in entry_of
     number_is = rw order_told
 
-    hands_is : look_stands (state_of j cx cy cz (lent ticks table faces curves points)) b m (local k b c) ≡ look_in j (entry_of table b) faces curves (get_or m (local k b c) 0) c
+    hands_is : look_stands (state_by j cuts (lent ticks table faces curves points)) b m (local k b c) ≡ look_in j (entry_of table b) faces curves (get_or m (local k b c) 0) c
     unfolding look_stands handed_stands number_stands node from_of look_in handed_in number_stands_in entry_of
     hands_is = rw order_told
 
     pub looked_stands : (p n : ℕ) (d : Entry) (v : Bool) → p ≡ local_in r c → d ≡ entry_of table b → n ≡ get_or m p 0 → v ≡ look_in j d faces curves n c
-        → v ≡ look_stands (state_of j cx cy cz (lent ticks table faces curves points)) b m (local k b c)
+        → v ≡ look_stands (state_by j cuts (lent ticks table faces curves points)) b m (local k b c)
     looked_stands p n d v e f g h = h ∙ rw (f, g, e, local_told k b r T c) (sym hands_is)
 
     -- What `look_up` puts together.
     pub looked_up_lem : (p n : ℕ) (d : Entry) (v : ℕ) → p ≡ local_in r c → d ≡ entry_of table b → n ≡ get_or m p 0 → v ≡ number_in j d faces curves points n c
-        → v ≡ looked_up (state_of j cx cy cz (lent ticks table faces curves points)) b m c
+        → v ≡ looked_up (state_by j cuts (lent ticks table faces curves points)) b m c
     looked_up_lem p n d v e f g h = h ∙ rw (f, g, e, local_told k b r T c) (sym number_is)
 
   -- A cell of the block is one of the volume.

@@ -1,7 +1,10 @@
 -- The tests of a lookup by lengths and by the entries of the block table, and the number by what they tell.
 -- Assumes nothing.
-use Rattle.std.specs.Prelude.{◌≡◌, Bool, true, not, cond, ◌&&◌, ◌||◌, List, ℕ, ◌+◌, ◌-◌, ◌/◌, ◌%◌, ◌<◌, eqb, ltb, get_or, length}
-use Rattle.cells.specs.Box.{Triple, Axis, triple, coord, index}
+use Rattle.std.specs.Prelude.{◌≡◌, Bool, true, not, cond, ◌&&◌, ◌||◌, List, ℕ, ◌+◌, ◌-◌, ◌/◌, ◌%◌, ◌<◌, eqb, ltb, get_or, length, Result, Ok, Err}
+use Rattle.refusals.specs.declared.Refusal.{Refusal}
+use Rattle.cells.specs.Box.{triple, coord, index}
+use Rattle.cells.specs.declared.Axis.{Axis}
+use Rattle.cells.specs.declared.Triple.{Triple}
 use Rattle.cells.specs.Extents.{Sized}
 use Rattle.cells.specs.Grid.{sides}
 use Rattle.cutting.specs.Cutting.{Cutting, blocks, block_extents}
@@ -16,11 +19,16 @@ use Rattle.pass_point.specs.FoundPoints.{final_in}
 use Rattle.judge.specs.declared.CallName.{CallName}
 use Rattle.judge.specs.declared.Entry.{Entry}
 use Rattle.judge.specs.Judge.{first_refusal, opened_of, lengths_of, block_fits, entry_of, map_judged, number_stands_in}
+use Rattle.reading_cell.specs.declared.LookupTables.{LookupTables}
 use Rattle.reading_cell.specs.declared.Span.{Span}
 
 -- The tables that a lookup is lent. The others go unread.
 abbrev pub lent : List ℕ → List ℕ → List ℕ → List ℕ → List ℕ → Tables
 lent ticks blocks faces curves points = look_lent no_tables ticks blocks faces curves points
+
+-- .. as the code is lent them.
+abbrev pub lent_in : LookupTables → Tables
+lent_in w = lent w.ticks.now w.blocks.now w.faces.now w.curves.now w.points.now
 
 -- The refusals of a lookup, 0 for none, but for the final number that is handed out: off size, bad cut, wrong stage, no such place, wrong tray, stray label.
 unfoldable pub look_judged : State → ℕ → List ℕ → Triple → ℕ
@@ -54,7 +62,7 @@ number_in j d faces curves points n c =
     cond (eqb (order_at c) 3) n
     (cond (eqb (order_at c) 2) (final_in faces d.face_from n)
     (cond (eqb (order_at c) 1) (final_in curves d.curve_from n)
-    (point_number points j.numbered_points (index (sides (triple j.nx j.ny j.nz)) c))))
+    (point_number points j.numbered.points (index (sides (triple j.nx j.ny j.nz)) c))))
 
 -- The joiner's `handed_stands`, by the place of the block's first component.
 unfoldable pub handed_in : List ℕ → ℕ → ℕ → ℕ → Bool
@@ -63,5 +71,10 @@ handed_in numbers most from n = eqb n 0 || number_stands_in numbers most (from +
 -- The joiner's `look_stands`, of a cell that has number n in the map.
 unfoldable pub look_in : Job → Entry → List ℕ → List ℕ → ℕ → Triple → Bool
 look_in j d faces curves n c =
-    cond (eqb (order_at c) 2) (handed_in faces j.numbered_faces d.face_from n)
-    (cond (eqb (order_at c) 1) (handed_in curves j.numbered_curves d.curve_from n) true)
+    cond (eqb (order_at c) 2) (handed_in faces j.numbered.faces d.face_from n)
+    (cond (eqb (order_at c) 1) (handed_in curves j.numbered.curves d.curve_from n) true)
+
+-- What an answer reads: 0 where the lookup is refused.
+abbrev pub number_read : Result ℕ Refusal → ℕ
+number_read (Ok n) = n
+number_read (Err r) = 0

@@ -9,100 +9,83 @@ ghost use Rattle.joiner.specs.Stages.{has_cell};
 ghost use Rattle.joiner.specs.Calls.{look, answer};
 ghost use Rattle.joiner.specs.Outcomes.{CallStep, bisect, point_number};
 ghost use Rattle.blocks.specs.Blocks.{AnyExtents};
-ghost use Rattle.job.specs.JobState.{state_of};
+ghost use Rattle.job.specs.JobState.{state_by};
+ghost use Rattle.refusals.specs.Refusals.{number_of};
 ghost use Rattle.judge.specs.Judge.{lengths_of};
-ghost use Rattle.reading_cell.specs.Inner.{lent, look_judged, halved_of, order_at, HasPlace, number_in, handed_in, look_in};
+ghost use Rattle.reading_cell.specs.Inner.{lent_in, look_judged, halved_of, order_at, HasPlace, number_in, handed_in, look_in, number_read};
 
-use blocks::{Block, block_at, block_count, embed, has_block, has_cell, local};
+use blocks::{Block, Cuts};
+use cells::Triple;
 use job::{Job, Stage};
 use judge::{
     CallName, Entry, KindLengths, Lengths, NO_KIND_LENGTHS, NO_LENGTHS, entry_of, fits, judge_map,
     number_stands, opened,
 };
-use lists::{read_or_zero, read_or_zero_u64};
+use lists::read_or;
 use pass_point::final_number;
-use refusals::{NO_SUCH_PLACE, STRAY_LABEL};
+use refusals::Refusal;
 
-// What a lookup answers: the number of its refusal, 0 for none, and the final number of the cell.
+// The tables that a lookup is lent: ticks, the block table, the final numbers of faces and of curves, the positions of points.
 #[derive(Clone, Copy)]
-pub struct Found {
-    pub refusal: u32,
-    pub number: u32,
+pub struct LookupTables<'a> {
+    pub ticks: &'a [u32],
+    pub blocks: &'a [u32],
+    pub faces: &'a [u32],
+    pub curves: &'a [u32],
+    pub points: &'a [u64],
 }
 
 // ---- the tests
 
 // Whether there is such a block, and it has the cell.
-fn has_place(cx: &[u32], cy: &[u32], cz: &[u32], b: u32, x: u32, y: u32, z: u32) -> bool
-    ensures { AnyExtents cx.now cy.now cz.now (λ k. result ≡ (ltb b (blocks k) && has_cell k b (triple x y z))) }
+fn has_place(cuts: &Cuts, b: u32, c: Triple) -> bool
+    ensures { AnyExtents cuts.now (λ k. result ≡ (ltb b (blocks k) && has_cell k b c)) }
 {
-    if !has_block(cx, cy, cz, b) {
-        return false;
-    }
-    let block = block_at(cx, cy, cz, b as usize);
-    has_cell(block, x as u64, y as u64, z as u64)
+    cuts.has_block(b) && cuts.block_at(b as usize).has_cell(c)
 }
 
-// The lengths of the tables that a lookup is lent. Not an entry.
-pub fn lengths_of(
-    ticks: &[u32],
-    table: &[u32],
-    face_numbers: &[u32],
-    curve_numbers: &[u32],
-    point_firsts: &[u64],
-) -> Lengths
-    ensures { result ≡ lengths_of (lent ticks.now table.now face_numbers.now curve_numbers.now point_firsts.now) }
-{
-    Lengths {
-        ticks: ticks.len(),
-        blocks: table.len(),
-        numbers: KindLengths {
-            faces: face_numbers.len(),
-            curves: curve_numbers.len(),
-            ..NO_KIND_LENGTHS
-        },
-        firsts: KindLengths {
-            points: point_firsts.len(),
-            ..NO_KIND_LENGTHS
-        },
-        ..NO_LENGTHS
+impl LookupTables<'_> {
+    // The lengths of the tables. Not an entry.
+    pub fn lengths(&self) -> Lengths
+        ensures { result ≡ lengths_of (lent_in self.now) }
+    {
+        Lengths {
+            ticks: self.ticks.len(),
+            blocks: self.blocks.len(),
+            numbers: KindLengths {
+                faces: self.faces.len(),
+                curves: self.curves.len(),
+                ..NO_KIND_LENGTHS
+            },
+            firsts: KindLengths {
+                points: self.points.len(),
+                ..NO_KIND_LENGTHS
+            },
+            ..NO_LENGTHS
+        }
     }
 }
 
-// The number of the refusal, the lowest that applies, and 0 for none; but for the final number that is handed out.
-fn refusal(
+// The refusal, that of the lowest number that applies; but for the final number that is handed out.
+fn refuse(
     job: Job,
-    cx: &[u32],
-    cy: &[u32],
-    cz: &[u32],
-    ticks: &[u32],
-    table: &[u32],
-    face_numbers: &[u32],
-    curve_numbers: &[u32],
-    point_firsts: &[u64],
+    cuts: &Cuts,
+    tables: &LookupTables,
     b: u32,
     m: &[u32],
-    x: u32,
-    y: u32,
-    z: u32,
-) -> u32
-    ensures { result ≡ look_judged
-        (state_of job cx.now cy.now cz.now
-        (lent ticks.now table.now face_numbers.now curve_numbers.now point_firsts.now))
-        b m.now (triple x y z) }
+    c: Triple,
+) -> Result<(), Refusal>
+    ensures { number_of result ≡ look_judged (state_by job cuts.now (lent_in tables.now)) b m.now c }
 {
-    let number = opened(job, cx, cy, cz, Stage::Closed);
-    if number != 0 {
-        return number;
+    opened(job, cuts, Stage::Closed)?;
+    if !has_place(cuts, b, c) {
+        return Err(Refusal::NoSuchPlace);
     }
-    if !has_place(cx, cy, cz, b, x, y, z) {
-        return NO_SUCH_PLACE;
-    }
-    let lengths = lengths_of(ticks, table, face_numbers, curve_numbers, point_firsts);
-    let block = block_at(cx, cy, cz, b as usize);
-    let count = block_count(cx, cy, cz);
+    let lengths = tables.lengths();
+    let block = cuts.block_at(b as usize);
+    let count = cuts.block_count();
     let whole = fits(CallName::Lookup, count, block, job, lengths, m.len());
-    judge_map(job, block, entry_of(table, b), whole, m)
+    judge_map(job, block, entry_of(tables.blocks, b), whole, m)
 }
 
 // ---- a point by its position
@@ -115,21 +98,23 @@ struct Span {
 }
 
 // The half of these places in which, or after which, the first entry stands that is not below v.
+#[tactic(auto, unfolding(crate::specs::Inner::halved_of))]
 fn halved(table: &[u64], s: Span, v: u64) -> Span
     requires { (0 < s.size) × (s.from + s.size < 2 ^ 32) }
     ensures { result ≡ halved_of table.now s v }
 {
     let half = s.size / 2;
     let middle = s.from + half;
-    if read_or_zero_u64(table, middle as usize) < v {
-        return Span {
+    if read_or(table, middle as usize, 0) < v {
+        Span {
             from: middle + 1,
             size: s.size - half - 1,
-        };
-    }
-    Span {
-        from: s.from,
-        size: half,
+        }
+    } else {
+        Span {
+            from: s.from,
+            size: half,
+        }
     }
 }
 
@@ -148,217 +133,100 @@ fn bisected(table: &[u64], count: u32, v: u64) -> u32
 }
 
 // The number of the point at position v, 0 where there is none.
+#[tactic(auto, unfolding(joiner::specs::Outcomes::point_number))]
 fn point_number(table: &[u64], count: u32, v: u64) -> u32
     ensures { result ≡ point_number table.now count v }
 {
     let i = bisected(table, count, v);
-    if count <= i {
-        return 0;
+    if i < count && read_or(table, i as usize, 0) == v {
+        i + 1
+    } else {
+        0
     }
-    if read_or_zero_u64(table, i as usize) != v {
-        return 0;
-    }
-    i + 1
 }
 
 // ---- the number of a cell
 
 // The order of the cell at a place.
-fn order_at(x: u32, y: u32, z: u32) -> u32
-    ensures { result ≡ order_at (triple x y z) }
+#[tactic(auto, unfolding(crate::specs::Inner::order_at))]
+fn order_at(c: Triple) -> usize
+    ensures { result ≡ order_at c }
 {
-    3 - (x % 2 + y % 2 + z % 2)
+    3 - (c.x % 2 + c.y % 2 + c.z % 2)
 }
 
-// The position in the volume of the cell at a place of it, one of the block's.
-fn position(job: Job, block: Block, x: u32, y: u32, z: u32) -> u64
-    requires { HasPlace (triple job.nx job.ny job.nz) block (triple x y z) }
-    ensures { result ≡ index (sides (triple job.nx job.ny job.nz)) (triple x y z) }
+// The position in a volume of extents e of the cell at a place of it, one of the block's.
+fn position(e: Triple, block: Block, c: Triple) -> u64
+    requires { HasPlace e block c }
+    ensures { result ≡ index (sides e) c }
 {
-    let i = x as usize - 2 * block.ox;
-    let j = y as usize - 2 * block.oy;
-    let k = z as usize - 2 * block.oz;
-    embed(job.nx, job.ny, job.nz, block, i, j, k)
+    let back = Triple {
+        x: c.x - 2 * block.origin.x,
+        y: c.y - 2 * block.origin.y,
+        z: c.z - 2 * block.origin.z,
+    };
+    block.embed(e, back)
 }
 
 // The final number of a cell of the block that has number n in the map. A point goes by its position alone. Not an entry.
-pub fn number_of(
-    job: Job,
-    block: Block,
-    d: Entry,
-    face_numbers: &[u32],
-    curve_numbers: &[u32],
-    point_firsts: &[u64],
-    n: u32,
-    x: u32,
-    y: u32,
-    z: u32,
-) -> u32
-    requires { HasPlace (triple job.nx job.ny job.nz) block (triple x y z) }
-    ensures { result ≡ number_in job d face_numbers.now curve_numbers.now point_firsts.now n (triple x y z) }
+#[tactic(auto, unfolding(crate::specs::Inner::number_in))]
+pub fn number_of(job: Job, block: Block, d: Entry, tables: &LookupTables, n: u32, c: Triple) -> u32
+    requires { HasPlace (triple job.nx job.ny job.nz) block c }
+    ensures { result ≡ number_in job d tables.now.faces.now tables.now.curves.now tables.now.points.now n c }
 {
-    let order = order_at(x, y, z);
-    if order == 3 {
-        return n;
+    match order_at(c) {
+        3 => n,
+        2 => final_number(tables.faces, d.face_from, n),
+        1 => final_number(tables.curves, d.curve_from, n),
+        _ => {
+            let v = position(job.extents(), block, c);
+            point_number(tables.points, job.numbered.points, v)
+        }
     }
-    if order == 2 {
-        return final_number(face_numbers, d.face_from, n);
-    }
-    if order == 1 {
-        return final_number(curve_numbers, d.curve_from, n);
-    }
-    let v = position(job, block, x, y, z);
-    point_number(point_firsts, job.numbered_points, v)
 }
 
 // Whether the final number of number n of a block is one of the closed table's. 0 has none.
+#[tactic(auto, unfolding(crate::specs::Inner::handed_in))]
 fn handed_stands(numbers: &[u32], most: u32, from: u32, n: u32) -> bool
     ensures { result ≡ handed_in numbers.now most from n }
 {
-    if n == 0 {
-        return true;
-    }
-    number_stands(numbers, most, from as usize + (n as usize - 1))
+    n == 0 || number_stands(numbers, most, from as usize + (n as usize - 1))
 }
 
 // Whether the final number that a cell of the block hands out is one of the closed table's. Voxels and points hand out none. Not an entry.
-pub fn number_handed(
-    job: Job,
-    d: Entry,
-    face_numbers: &[u32],
-    curve_numbers: &[u32],
-    n: u32,
-    x: u32,
-    y: u32,
-    z: u32,
-) -> bool
-    ensures { result ≡ look_in job d face_numbers.now curve_numbers.now n (triple x y z) }
+#[tactic(auto, unfolding(crate::specs::Inner::look_in))]
+pub fn number_handed(job: Job, d: Entry, tables: &LookupTables, n: u32, c: Triple) -> bool
+    ensures { result ≡ look_in job d tables.now.faces.now tables.now.curves.now n c }
 {
-    let order = order_at(x, y, z);
-    if order == 2 {
-        return handed_stands(face_numbers, job.numbered_faces, d.face_from, n);
-    }
-    if order == 1 {
-        return handed_stands(curve_numbers, job.numbered_curves, d.curve_from, n);
-    }
-    true
-}
-
-// The answer, where the call is not refused before: the final number that is handed out is tested last.
-fn look_up(
-    job: Job,
-    cx: &[u32],
-    cy: &[u32],
-    cz: &[u32],
-    ticks: &[u32],
-    table: &[u32],
-    face_numbers: &[u32],
-    curve_numbers: &[u32],
-    point_firsts: &[u64],
-    b: u32,
-    m: &[u32],
-    x: u32,
-    y: u32,
-    z: u32,
-) -> Found
-    requires { look_judged
-        (state_of job cx.now cy.now cz.now (lent ticks.now table.now face_numbers.now curve_numbers.now point_firsts.now))
-        b m.now (triple x y z) ≡ 0 }
-    ensures { CallStep
-        (state_of job cx.now cy.now cz.now
-        (lent ticks.now table.now face_numbers.now curve_numbers.now point_firsts.now))
-        (look b m.now (triple x y z)) (answer result.refusal result.number [])
-        (state_of job cx.now cy.now cz.now
-        (lent ticks.now table.now face_numbers.now curve_numbers.now point_firsts.now)) }
-{
-    let block = block_at(cx, cy, cz, b as usize);
-    let p = local(block, x as u64, y as u64, z as u64);
-    let d = entry_of(table, b);
-    let n = read_or_zero(m, p);
-    if !number_handed(job, d, face_numbers, curve_numbers, n, x, y, z) {
-        return Found {
-            refusal: STRAY_LABEL,
-            number: 0,
-        };
-    }
-    Found {
-        refusal: 0,
-        number: number_of(
-            job,
-            block,
-            d,
-            face_numbers,
-            curve_numbers,
-            point_firsts,
-            n,
-            x,
-            y,
-            z,
-        ),
+    match order_at(c) {
+        2 => handed_stands(tables.faces, job.numbered.faces, d.face_from, n),
+        1 => handed_stands(tables.curves, job.numbered.curves, d.curve_from, n),
+        _ => true,
     }
 }
 
-// The final number of the cell at place (x,y,z) of the volume, one of the block's: the code at a voxel, 0 where the cell is inactive in the
-// volume. A refused lookup gives 0.
+// The final number of the cell at place c of the volume, one of the block's: the code at a voxel, 0 where the cell is inactive in the volume.
+// The final number that is handed out is tested last.
 pub fn lookup(
     job: Job,
-    cx: &[u32],
-    cy: &[u32],
-    cz: &[u32],
-    ticks: &[u32],
-    blocks: &[u32],
-    face_numbers: &[u32],
-    curve_numbers: &[u32],
-    point_firsts: &[u64],
+    cuts: &Cuts,
+    tables: &LookupTables,
     block: u32,
     m: &[u32],
-    x: u32,
-    y: u32,
-    z: u32,
-) -> Found
+    c: Triple,
+) -> Result<u32, Refusal>
     ensures { CallStep
-        (state_of job cx.now cy.now cz.now
-        (lent ticks.now blocks.now face_numbers.now curve_numbers.now point_firsts.now))
-        (look block m.now (triple x y z)) (answer result.refusal result.number [])
-        (state_of job cx.now cy.now cz.now
-        (lent ticks.now blocks.now face_numbers.now curve_numbers.now point_firsts.now)) }
+        (state_by job cuts.now (lent_in tables.now))
+        (look block m.now c) (answer (number_of result) (number_read result) [])
+        (state_by job cuts.now (lent_in tables.now)) }
 {
-    let declined = refusal(
-        job,
-        cx,
-        cy,
-        cz,
-        ticks,
-        blocks,
-        face_numbers,
-        curve_numbers,
-        point_firsts,
-        block,
-        m,
-        x,
-        y,
-        z,
-    );
-    if declined != 0 {
-        return Found {
-            refusal: declined,
-            number: 0,
-        };
+    refuse(job, cuts, tables, block, m, c)?;
+    let r = cuts.block_at(block as usize);
+    let p = r.local(c);
+    let d = entry_of(tables.blocks, block);
+    let n = read_or(m, p, 0);
+    if !number_handed(job, d, tables, n, c) {
+        return Err(Refusal::StrayLabel);
     }
-    look_up(
-        job,
-        cx,
-        cy,
-        cz,
-        ticks,
-        blocks,
-        face_numbers,
-        curve_numbers,
-        point_firsts,
-        block,
-        m,
-        x,
-        y,
-        z,
-    )
+    Ok(number_of(job, r, d, tables, n, c))
 }

@@ -1,6 +1,8 @@
 -- The tests of a row reading by lengths, and the row by kind.
 -- Assumes nothing.
-use Rattle.std.specs.Prelude.{not, cond, ◌&&◌, List, [], ℕ, ◌-◌, ◌*◌, ◌≤◌, ◌<◌, leb, ltb, length, take, drop}
+use Rattle.std.specs.Prelude.{not, cond, ◌&&◌, List, [], ℕ, ◌-◌, ◌*◌, ◌≤◌, ◌<◌, leb, ltb, length, take, drop, Result, Ok, Err}
+use Rattle.std.specs.Borrow.{Bor}
+use Rattle.refusals.specs.declared.Refusal.{Refusal}
 use Rattle.cells.specs.Box.{triple}
 use Rattle.cells.specs.Extents.{off_size}
 use Rattle.joiner.specs.Job.{Closed, Tables, same_stage, width, lengths_fit}
@@ -43,3 +45,8 @@ HasRow kind n faces curves points = (0 < n) × (width (kind_of kind) * n ≤ len
 -- That row.
 abbrev pub row_in : Kind → ℕ → List ℕ → List ℕ → List ℕ → List ℕ
 row_in kind n faces curves points = take (width (kind_of kind)) (drop (width (kind_of kind) * (n - 1)) (table_of kind faces curves points))
+
+-- What an answer gives: a part of a table, which is empty where the reading is refused.
+abbrev pub part_of : Result (Bor (List ℕ)) Refusal → List ℕ
+part_of (Ok r) = r.now
+part_of (Err e) = []

@@ -5,12 +5,13 @@ ghost use Rattle.std.specs.Prelude.{◌≡◌, ◌-◌, ◌*◌, ◌≤◌, ◌<
 ghost use Rattle.joiner.specs.Calls.{reading, answer};
 ghost use Rattle.joiner.specs.Outcomes.{CallStep};
 ghost use Rattle.job.specs.JobState.{AnyCuts, numbered_tally, state_of};
-ghost use Rattle.reading_row.specs.Inner.{kind_of, lent, refusal_of, HasRow, row_in};
+ghost use Rattle.reading_row.specs.Inner.{kind_of, lent, refusal_of, HasRow, row_in, part_of};
+ghost use Rattle.refusals.specs.Refusals.{number_of};
 
 use extents::off_size;
-use job::{Job, Stage, same_stage, tallies_fit};
+use job::{Job, Stage};
 use judge::{CallName, KindLengths, Lengths, NO_LENGTHS, has_number, lent_fits};
-use refusals::{NO_SUCH_PLACE, OFF_SIZE, STRAY_LABEL, WRONG_STAGE, WRONG_TRAY};
+use refusals::Refusal;
 
 // What the tables hold.
 #[derive(Clone, Copy)]
@@ -25,33 +26,33 @@ fn numbered(job: Job, kind: Kind) -> u32
     ensures { result ≡ numbered_tally job (kind_of kind) }
 {
     match kind {
-        Kind::Face => job.numbered_faces,
-        Kind::Curve => job.numbered_curves,
-        Kind::Point => job.numbered_points,
+        Kind::Face => job.numbered.faces,
+        Kind::Curve => job.numbered.curves,
+        Kind::Point => job.numbered.points,
     }
 }
 
-// The number of the refusal, the lowest that applies, and 0 for none.
-fn refuse(job: Job, kind: Kind, number: u32, lengths: Lengths) -> u32
-    ensures { result ≡ refusal_of job kind number lengths }
+// The refusal, that of the lowest number that applies.
+#[tactic(auto, using(job::proofs::JobLaws::same_derived), unfolding(crate::specs::Inner::refusal_of, refusals::specs::Refusals::number))]
+fn refuse(job: Job, kind: Kind, number: u32, lengths: Lengths) -> Result<(), Refusal>
+    ensures { number_of result ≡ refusal_of job kind number lengths }
 {
-    if off_size(1024, job.nx as usize, job.ny as usize, job.nz as usize) {
-        return OFF_SIZE;
+    if off_size(1024, job.extents()) {
+        return Err(Refusal::OffSize);
     }
-    let now = job.stage;
-    if !same_stage(now, Stage::Closed) {
-        return WRONG_STAGE;
+    if job.stage != Stage::Closed {
+        return Err(Refusal::WrongStage);
     }
     if !has_number(number, numbered(job, kind)) {
-        return NO_SUCH_PLACE;
+        return Err(Refusal::NoSuchPlace);
     }
     if !lent_fits(CallName::Row, 0, job, lengths) {
-        return WRONG_TRAY;
+        return Err(Refusal::WrongTray);
     }
-    if !tallies_fit(job) {
-        return STRAY_LABEL;
+    if !job.tallies_fit() {
+        return Err(Refusal::StrayLabel);
     }
-    0
+    Ok(())
 }
 
 // Row `number`, counted from 1, of a table whose rows have `width` places.
@@ -59,7 +60,7 @@ fn row_of<'a>(rows: &'a [u32], width: u8, number: u32) -> &'a [u32]
     requires { (0 < number) × (width * number ≤ length rows.now) }
     ensures { result.now ≡ take width (drop (width * (number - 1)) rows.now) }
 {
-    let w = width as usize;
+    let w = usize::from(width);
     let a = w * (number as usize - 1);
     let e = a + w;
     &rows[a..e]
@@ -83,8 +84,7 @@ fn part<'a>(
     }
 }
 
-// The row of one face, curve or point of a closed job: two, four or six places of the lent table of its kind. A refused reading gives an
-// empty part. The number of the refusal, 0 for none, is stored in `refusal`.
+// The row of one face, curve or point of a closed job: two, four or six places of the lent table of its kind.
 pub fn row<'a>(
     job: Job,
     kind: Kind,
@@ -92,11 +92,10 @@ pub fn row<'a>(
     face_listed: &'a [u32],
     curve_listed: &'a [u32],
     point_listed: &'a [u32],
-    refusal: &mut u32,
-) -> &'a [u32]
+) -> Result<&'a [u32], Refusal>
     ensures { AnyCuts (λ cx cy cz. CallStep
         (state_of job cx cy cz (lent face_listed.now curve_listed.now point_listed.now))
-        (reading (kind_of kind) number) (answer refusal.new 0 result.now)
+        (reading (kind_of kind) number) (answer (number_of result) 0 (part_of result))
         (state_of job cx cy cz (lent face_listed.now curve_listed.now point_listed.now))) }
 {
     let lengths = Lengths {
@@ -107,10 +106,6 @@ pub fn row<'a>(
         },
         ..NO_LENGTHS
     };
-    let declined = refuse(job, kind, number, lengths);
-    *refusal = declined;
-    if declined != 0 {
-        return &face_listed[..0];
-    }
-    part(kind, number, face_listed, curve_listed, point_listed)
+    refuse(job, kind, number, lengths)?;
+    Ok(part(kind, number, face_listed, curve_listed, point_listed))
 }

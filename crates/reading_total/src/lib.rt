@@ -7,27 +7,21 @@ ghost use Rattle.cells.specs.Box.{triple};
 ghost use Rattle.cells.specs.Extents.{Sized};
 ghost use Rattle.joiner.specs.Job.{Tables};
 ghost use Rattle.stages.specs.Ticks.{ticked_in};
-ghost use Rattle.job.specs.JobState.{AnyCuts, job_of, state_of};
+ghost use Rattle.job.specs.JobState.{AnyCuts, job_of, job_by, state_by};
+ghost use Rattle.refusals.specs.Refusals.{number_of};
 ghost use Rattle.totals.specs.Totals.{Holds};
 ghost use Rattle.strain_calls.specs.Tables.{total_tables};
-ghost use Rattle.strain_calls.specs.Calls.{total, strain_answer, no_side};
+ghost use Rattle.strain_calls.specs.Calls.{total, strain_answer};
 ghost use Rattle.strain_calls.specs.Outcomes.{StrainStep};
-ghost use Rattle.reading_total.specs.Inner.{stand_in, refusal_of};
+ghost use Rattle.reading_total.specs.Inner.{stand_in, refusal_of, totals_read};
 
-use blocks::block_count;
-use extents::cell_count;
-use job::{Job, Stage, tallies_fit, total_trays};
+use blocks::Cuts;
+use extents::grid_cells;
+use job::{Job, Stage, total_trays};
 use judge::{has_number, opened};
-use refusals::{NO_SUCH_PLACE, STRAY_LABEL, WRONG_STAGE, WRONG_TRAY};
+use refusals::Refusal;
 use stages::is_ticked;
-use totals::{Side, Totals, both_stand, totals_of};
-
-// What the reading of a total answers: the number of its refusal, 0 for none, and the totals.
-#[derive(Clone, Copy)]
-pub struct Totalled {
-    pub refusal: u32,
-    pub totals: Totals,
-}
+use totals::{Totals, both_stand, totals_of};
 
 // ---- what is declined
 
@@ -35,115 +29,76 @@ pub struct Totalled {
 fn all_came(came: &[u32], count: usize) -> bool
     ensures { result ≡ all_of (ticked_in came.now) (consecutive 0 count) }
 {
-    let mut i: usize = 0;
-    while i < count {
-        if !is_ticked(came, i) {
-            return false;
-        }
-        i += 1;
-    }
-    true
+    (0..count).all(|b| is_ticked(came, b))
 }
 
 // Whether the tallies fit, and the total of a face stands.
+#[tactic(auto, unfolding(crate::specs::Inner::stand_in))]
 fn stand(job: Job, face_sums: &[f64], face_counts: &[u64], number: u32) -> bool
-    requires { Sized 1024 (triple job.nx job.ny job.nz) × (0 < number) × (number ≤ job.numbered_faces) × Holds face_sums.now face_counts.now job.face_entries }
+    requires { Sized 1024 (triple job.nx job.ny job.nz) × (0 < number) × (number ≤ job.numbered.faces) × Holds face_sums.now face_counts.now job.entries.faces }
     ensures { AnyCuts (λ cx cy cz. result ≡ stand_in (job_of job cx cy cz) face_sums.now face_counts.now number) }
 {
-    if !tallies_fit(job) {
-        return false;
-    }
-    both_stand(
-        cell_count(job.nx, job.ny, job.nz),
-        face_sums,
-        face_counts,
-        number,
-    )
+    job.tallies_fit()
+        && both_stand(
+            grid_cells(job.extents()) as u64,
+            face_sums,
+            face_counts,
+            number,
+        )
 }
 
-// The number of the refusal, the lowest that applies, and 0 for none.
+// The refusal, that of the lowest number that applies.
 fn refuse(
     job: Job,
-    cx: &[u32],
-    cy: &[u32],
-    cz: &[u32],
+    cuts: &Cuts,
     came: &[u32],
     face_sums: &[f64],
     face_counts: &[u64],
     number: u32,
-) -> u32
-    ensures { result ≡ refusal_of (job_of job cx.now cy.now cz.now)
+) -> Result<(), Refusal>
+    ensures { number_of result ≡ refusal_of (job_by job cuts.now)
         (total_tables came.now face_sums.now face_counts.now) number }
 {
-    let first = opened(job, cx, cy, cz, Stage::Closed);
-    if first != 0 {
-        return first;
-    }
-    let count = block_count(cx, cy, cz);
+    opened(job, cuts, Stage::Closed)?;
+    let count = cuts.block_count();
     if !all_came(came, count) {
-        return WRONG_STAGE;
+        return Err(Refusal::WrongStage);
     }
-    if !has_number(number, job.numbered_faces) {
-        return NO_SUCH_PLACE;
+    if !has_number(number, job.numbered.faces) {
+        return Err(Refusal::NoSuchPlace);
     }
     if !total_trays(
         count,
-        job.face_entries,
+        job.entries.faces,
         came.len(),
         face_sums.len(),
         face_counts.len(),
     ) {
-        return WRONG_TRAY;
+        return Err(Refusal::WrongTray);
     }
     if !stand(job, face_sums, face_counts, number) {
-        return STRAY_LABEL;
+        return Err(Refusal::StrayLabel);
     }
-    0
+    Ok(())
 }
 
 // ---- the reading
 
-// A side with no readings.
-fn no_side() -> Side
-    ensures { result ≡ no_side }
-{
-    Side {
-        sum: 0.0,
-        strains: 0,
-        clipped: 0,
-        missing: 0,
-    }
-}
-
-// The totals of a face, with the sum of strains and the numbers of strains, clipped and missing on either side. A refused reading gives zeros.
+// The totals of a face, with the sum of strains and the numbers of strains, clipped and missing on either side.
 pub fn total(
     job: Job,
-    cx: &[u32],
-    cy: &[u32],
-    cz: &[u32],
+    cuts: &Cuts,
     came: &[u32],
     face_sums: &[f64],
     face_counts: &[u64],
     number: u32,
-) -> Totalled
-    ensures { (t : Tables) → StrainStep (state_of job cx.now cy.now cz.now t)
+) -> Result<Totals, Refusal>
+    ensures { (t : Tables) → StrainStep (state_by job cuts.now t)
         (total_tables came.now face_sums.now face_counts.now)
-        (total number) (strain_answer result.refusal result.totals)
+        (total number) (strain_answer (number_of result) (totals_read result))
         (total_tables came.now face_sums.now face_counts.now) }
 {
-    let refusal = refuse(job, cx, cy, cz, came, face_sums, face_counts, number);
-    if refusal != 0 {
-        return Totalled {
-            refusal: refusal,
-            totals: Totals {
-                lower: no_side(),
-                higher: no_side(),
-            },
-        };
-    }
-    let cells = cell_count(job.nx, job.ny, job.nz);
-    Totalled {
-        refusal: 0,
-        totals: totals_of(cells, face_sums, face_counts, number),
-    }
+    refuse(job, cuts, came, face_sums, face_counts, number)?;
+    let cells = grid_cells(job.extents()) as u64;
+    Ok(totals_of(cells, face_sums, face_counts, number))
 }

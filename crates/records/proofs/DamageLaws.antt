@@ -10,7 +10,7 @@ use lib.ListN.{length}
 use borrow.Author.Tests.{eqb-true, eqb-false, eq-eqb, ne_eqb, not-false}
 use Rattle.lists.specs.Lists.{consecutive, some_of}
 use Rattle.lists.proofs.Lists.{consecutive_in, consecutive_out}
-use Rattle.cells.specs.Box.{Triple}
+use Rattle.cells.specs.declared.Triple.{Triple}
 use Rattle.cells.specs.Grid.{cells}
 use Rattle.lists.proofs.Cases.{neither}
 use Rattle.lists.proofs.Tests.{some_none, none_some}

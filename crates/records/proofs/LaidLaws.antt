@@ -11,7 +11,7 @@ use Rattle.records.proofs.MapLaws.{length-bitmap}
 use Rattle.lists.specs.Lists.{laid}
 use Rattle.lists.proofs.Cases.{by_test}
 use Rattle.lists.proofs.Laid.{laid_append, laid_next}
-use Rattle.cells.specs.Box.{Triple}
+use Rattle.cells.specs.declared.Triple.{Triple}
 use Rattle.records.specs.Fields.{bytes}
 use Rattle.records.specs.Record.{head_bytes, bit, bitmap_length, bitmap, listed, encode_record}
 

@@ -12,7 +12,10 @@ use borrow.Author.Tests.{eqb-true, ltb-true, ltb-false}
 use Rattle.lists.proofs.Cases.{by_test}
 use Rattle.closure.specs.Numbered.{count_below}
 use Rattle.closure.proofs.Numbers.{count_same, Nth, nth_passes}
-use Rattle.cells.specs.Box.{Triple, Axis, coord, triple, X, Y, Z}
+use Rattle.cells.specs.Box.{coord, triple}
+use Rattle.cells.specs.declared.Axis.{Axis}
+use Rattle.cells.specs.declared.Axis.TheVariants.{X, Y, Z}
+use Rattle.cells.specs.declared.Triple.{Triple}
 use Rattle.cells.specs.Grid.{cells}
 use Rattle.records.specs.Fields.{bytes, field_at}
 use Rattle.records.specs.Record.{head_bytes, bit, map_byte, bitmap_length, bitmap, listed, encode_record, extents_of, origin_of, bit_at, bits_before, number_of, decode_record, length_of, damaged}

@@ -3,7 +3,8 @@
 use Rattle.std.specs.Prelude.{Bool, cond, not, ◌||◌, List, [], ◌∷◌, ◌++◌, map, ℕ, ◌+◌, ◌-◌, ◌*◌, ◌/◌, ◌%◌, ◌^◌, eqb, length, get_or, take, drop}
 use Rattle.lists.specs.Lists.{consecutive, tabulate, some_of}
 use Rattle.closure.specs.Numbered.{count_below}
-use Rattle.cells.specs.Box.{Triple, triple}
+use Rattle.cells.specs.Box.{triple}
+use Rattle.cells.specs.declared.Triple.{Triple}
 use Rattle.cells.specs.Grid.{cells}
 use Rattle.records.specs.Fields.{bytes, field_at, packed}
 

@@ -13,9 +13,11 @@ use Rattle.lists.specs.Lists.{consecutive, all_of}
 use Rattle.lists.proofs.Tests.{all_out}
 use Rattle.lists.proofs.Cases.{by_test}
 use lib.Dec.{eqb, ltb}
-use borrow.Author.Tests.{eqb-true, ltb-true, ltb-false}
+use borrow.Author.Tests.{eqb-true, ltb-true, ltb-false, ne_eqb}
 use Rattle.lists.proofs.Lists.{Ascends, ascends_le, ascends_consecutive}
-use Rattle.refusals.specs.Refusals.{Case, stands_in, given_refusal, listed_numbers, Refusal, unfit_size, bad_cut, wrong_stage, no_such_place, done_already, unfit_tray, blank_voxel, stray_label, unlike_layers, table_full, bad_record, unfit_reading, number, table, first, given_by}
+use Rattle.refusals.specs.declared.Refusal.{Refusal}
+use Rattle.std.specs.Prelude.{Result, Ok, Err, IsErr, IsErrAnd}
+use Rattle.refusals.specs.Refusals.{number_of, Case, stands_in, given_refusal, listed_numbers, number, table, first, given_by}
 
 -- The numbers are 1 to 12, in the order of the table.
 pub table_numbers : map number table ≡ consecutive 1 12
@@ -25,18 +27,18 @@ table_numbers = refl
 -- Each refusal has its row.
 pub table_whole : (r : Refusal) → Memᴰ r table
 unfolding table
-table_whole unfit_size = here refl
-table_whole bad_cut = later (here refl)
-table_whole wrong_stage = later (later (here refl))
-table_whole no_such_place = later (later (later (here refl)))
-table_whole done_already = later (later (later (later (here refl))))
-table_whole unfit_tray = later (later (later (later (later (here refl)))))
-table_whole blank_voxel = later (later (later (later (later (later (here refl))))))
-table_whole stray_label = later (later (later (later (later (later (later (here refl)))))))
-table_whole unlike_layers = later (later (later (later (later (later (later (later (here refl))))))))
-table_whole table_full = later (later (later (later (later (later (later (later (later (here refl)))))))))
-table_whole bad_record = later (later (later (later (later (later (later (later (later (later (here refl))))))))))
-table_whole unfit_reading = later (later (later (later (later (later (later (later (later (later (later (here refl)))))))))))
+table_whole Refusal.OffSize = here refl
+table_whole Refusal.BadCut = later (here refl)
+table_whole Refusal.WrongStage = later (later (here refl))
+table_whole Refusal.NoSuchPlace = later (later (later (here refl)))
+table_whole Refusal.DoneAlready = later (later (later (later (here refl))))
+table_whole Refusal.WrongTray = later (later (later (later (later (here refl)))))
+table_whole Refusal.BlankVoxel = later (later (later (later (later (later (here refl))))))
+table_whole Refusal.StrayLabel = later (later (later (later (later (later (later (here refl)))))))
+table_whole Refusal.LayersDiffer = later (later (later (later (later (later (later (later (here refl))))))))
+table_whole Refusal.TableFull = later (later (later (later (later (later (later (later (later (here refl)))))))))
+table_whole Refusal.BadRecord = later (later (later (later (later (later (later (later (later (later (here refl))))))))))
+table_whole Refusal.BadReading = later (later (later (later (later (later (later (later (later (later (later (here refl)))))))))))
 
 -- What is given is the number of a refusal whose case stands.
 pub record GivenFirst (stands : Refusal → Bool) (rs : List Refusal) (n : ℕ) : Type 0 where
@@ -50,8 +52,12 @@ all_number_positive : all_of (λ r. ltb 0 (number r)) table ≡ true
 unfolding number table
 all_number_positive = refl
 
-number_positive : (r : Refusal) → 0 < number r
+pub number_positive : (r : Refusal) → 0 < number r
 number_positive r = ltb-true 0 (number r) (all_out (λ q. ltb 0 (number q)) table all_number_positive (table_whole r))
+
+-- .. so that none is told as an accepted call.
+pub number_nonzero : (r : Refusal) → eqb (number r) 0 ≡ false
+number_nonzero r = ne_eqb (number r) 0 (λ e. absurd (omega (arith, number_positive r, e)))
 
 ascending : Ascends 1 (map number table)
 ascending = rw table_numbers (ascends_consecutive 1 12)
@@ -140,3 +146,10 @@ given_listed cs h =
 pub outcome_refusal : {A : Type 0} (refusal : A → ℕ) (n : ℕ) {accepted refused outcome : A} → refusal accepted ≡ 0 → refusal refused ≡ n → outcome ≡ cond (eqb n 0) accepted refused
     → refusal outcome ≡ n
 outcome_refusal refusal n a r p = ap refusal p ∙ by_test (eqb n 0) (λ t. rw t (a ∙ sym (eqb-true n 0 t))) (λ t. rw t r)
+
+-- ---- answers
+
+-- What `?` hands on has the refusal's number.
+pub err_number : {A : Type 0} (x : Result A Refusal) (r : Refusal) → IsErr x × IsErrAnd x (λ e. e ≡ r) → number_of x ≡ number r
+err_number (Ok y) r h = absurd (true≢false (sym h.0))
+err_number (Err e) r h = ap number h.1

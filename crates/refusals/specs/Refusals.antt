@@ -1,32 +1,33 @@
 -- What the service declines (document 01, and 12 by item 1 of document 02): the refusals by name and number. A public entry lists its own cases; which of them is given, one table decides.
 -- 7 keeps its number, and no list has it since item 4 (`no_seven`, theory_refusals/proofs/NoSeven).
 -- Assumes nothing.
-use Rattle.std.specs.Prelude.{Bool, false, cond, List, [], ◌∷◌, map, ℕ, eqb}
-
--- The column "Called" of the table. "Off size", "wrong tray", "layers differ" and "bad reading" stand here as `unfit_size`, `unfit_tray`, `unlike_layers` and
--- `unfit_reading`: the tests of a call have the words of the table.
-pub data Refusal : Type 0 where
-  unfit_size bad_cut wrong_stage no_such_place done_already unfit_tray blank_voxel stray_label unlike_layers table_full bad_record unfit_reading : Refusal
+use Rattle.std.specs.Prelude.{Bool, false, cond, List, [], ◌∷◌, map, ℕ, eqb, Result, Ok, Err}
+use Rattle.refusals.specs.declared.Refusal.{Refusal}
 
 -- The column "Number".
 unfoldable pub number : Refusal → ℕ
-number unfit_size = 1
-number bad_cut = 2
-number wrong_stage = 3
-number no_such_place = 4
-number done_already = 5
-number unfit_tray = 6
-number blank_voxel = 7
-number stray_label = 8
-number unlike_layers = 9
-number table_full = 10
-number bad_record = 11
-number unfit_reading = 12
+number Refusal.OffSize = 1
+number Refusal.BadCut = 2
+number Refusal.WrongStage = 3
+number Refusal.NoSuchPlace = 4
+number Refusal.DoneAlready = 5
+number Refusal.WrongTray = 6
+number Refusal.BlankVoxel = 7
+number Refusal.StrayLabel = 8
+number Refusal.LayersDiffer = 9
+number Refusal.TableFull = 10
+number Refusal.BadRecord = 11
+number Refusal.BadReading = 12
+
+-- The number of what a call answers: its refusal's, 0 where it is accepted.
+abbrev pub number_of : {A : Type 0} → Result A Refusal → ℕ
+number_of (Ok x) = 0
+number_of (Err r) = number r
 
 -- The rows of the table, in the order in which refusals are given.
 unfoldable pub table : List Refusal
 table =
-    unfit_size ∷ bad_cut ∷ wrong_stage ∷ no_such_place ∷ done_already ∷ unfit_tray ∷ blank_voxel ∷ stray_label ∷ unlike_layers ∷ table_full ∷ bad_record ∷ unfit_reading ∷ []
+    Refusal.OffSize ∷ Refusal.BadCut ∷ Refusal.WrongStage ∷ Refusal.NoSuchPlace ∷ Refusal.DoneAlready ∷ Refusal.WrongTray ∷ Refusal.BlankVoxel ∷ Refusal.StrayLabel ∷ Refusal.LayersDiffer ∷ Refusal.TableFull ∷ Refusal.BadRecord ∷ Refusal.BadReading ∷ []
 
 -- The number of the first refusal of a list whose case stands; 0 where none does.
 unfoldable pub first : (Refusal → Bool) → List Refusal → ℕ

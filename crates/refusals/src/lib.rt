@@ -1,28 +1,41 @@
-// The numbers of the refusals (document 01, "What the service declines"). No refusal is 0.
+// The refusals: what the service declines, by name and number. No refusal is 0.
 #![tactic(auto)]
 
-pub const OFF_SIZE: u32 = 1;
+ghost use Rattle.std.specs.Prelude.{◌≡◌};
+ghost use Rattle.refusals.specs.Refusals.{number, number_of};
 
-pub const BAD_CUT: u32 = 2;
+// A refusal, by what it is called, with its number.
+#[derive(Clone, Copy, Debug, PartialEq, Eq)]
+pub enum Refusal {
+    OffSize = 1,
+    BadCut = 2,
+    WrongStage = 3,
+    NoSuchPlace = 4,
+    DoneAlready = 5,
+    WrongTray = 6,
+    // No longer given; it keeps its number.
+    BlankVoxel = 7,
+    StrayLabel = 8,
+    LayersDiffer = 9,
+    TableFull = 10,
+    BadRecord = 11,
+    BadReading = 12,
+}
 
-pub const WRONG_STAGE: u32 = 3;
+impl From<Refusal> for u32 {
+    fn from(refusal: Refusal) -> u32
+        ensures { result ≡ number refusal }
+    {
+        refusal as u32
+    }
+}
 
-pub const NO_SUCH_PLACE: u32 = 4;
-
-pub const DONE_ALREADY: u32 = 5;
-
-pub const WRONG_TRAY: u32 = 6;
-
-// No longer given (document 02, item 4); it keeps its number.
-pub const BLANK_VOXEL: u32 = 7;
-
-pub const STRAY_LABEL: u32 = 8;
-
-pub const LAYERS_DIFFER: u32 = 9;
-
-pub const TABLE_FULL: u32 = 10;
-
-pub const BAD_RECORD: u32 = 11;
-
-// Document 02, item 1.
-pub const BAD_READING: u32 = 12;
+// The number of what a call answers: its refusal's, 0 where it is accepted.
+pub fn number_of<T>(answer: &Result<T, Refusal>) -> u32
+    ensures { result ≡ number_of answer.now }
+{
+    match answer {
+        Ok(_) => 0,
+        Err(refusal) => u32::from(*refusal),
+    }
+}

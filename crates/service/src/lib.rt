@@ -1,7 +1,9 @@
 // The public entries, exported for programs in C and Rust. A slice goes in as a pointer and a length, an array as a pointer.
 #![tactic(auto)]
 
-ghost use Rattle.std.specs.Prelude.{◌≡◌};
+ghost use Rattle.std.specs.Prelude.{◌≡◌, false};
+ghost use Rattle.cells.specs.Extents.{off_place};
+ghost use Rattle.refusals.specs.Refusals.{number_of};
 ghost use Rattle.joiner.specs.Job.{Face, Curve, Point};
 ghost use Rattle.joiner.specs.Calls.{enrol, join, cross, point, look};
 ghost use Rattle.job.specs.declared.Stage.{Stage};
@@ -14,27 +16,59 @@ ghost use Rattle.writer.specs.Writing.{writing};
 ghost use Rattle.reader.specs.Loaded.{reading};
 ghost use Rattle.maxima.specs.Maxima.{most_components};
 ghost use Rattle.layer_printer.specs.Printing.{outcome, layer_printing};
-ghost use Rattle.service.specs.Exports.{exported, export, exported_most, export_most, exported_writing, export_writing, exported_reading, export_reading};
-ghost use Rattle.job_numbers.specs.Numbers.{job_in};
+ghost use Rattle.service.specs.Exports.{exported, export, exported_most, export_most, exported_writing, export_writing, exported_reading, export_reading, head_stored, counts_of};
+ghost use Rattle.job_numbers.specs.Numbers.{job_in, KeptAfter};
 ghost use Rattle.cell_calls.specs.Cells.{cell_lists};
 ghost use Rattle.exports.specs.CellCalls.{ExportedRequest, ExportedFill};
 ghost use Rattle.exports.specs.Exports.{ExportedOpening, ExportedStep, ExportedLookup, ExportedStrain, ExportedTotal, RowExported, six_of};
 ghost use Rattle.reading_row.specs.Inner.{kind_of};
 
-use counts::store_counts;
+use blocks::Cuts;
+use cells::Triple;
+use counts::{Counts, store_counts};
 use job::{Job, Stage};
 use job_numbers::{job_in, keep};
+use judge_cells::CellLists;
 use labeller::label;
 use layer_printer::print_layer;
-use lists::read_or_zero;
+use lists::read_or;
 use maxima::most_components;
 use methods::Joining;
-use reader::read_record;
-use reading_blocks::Requested;
-use reading_cell::Found;
+use reader::{Head, read_record};
+use reading_cell::LookupTables;
 use reading_row::Kind;
-use reading_total::Totalled;
+use refusals::{Refusal, number_of};
+use totals::Totals;
 use writer::write_record;
+
+// Three numbers by axis.
+fn triple(x: u16, y: u16, z: u16) -> Triple
+    ensures { result ≡ triple x y z }
+{
+    Triple {
+        x: usize::from(x),
+        y: usize::from(y),
+        z: usize::from(z),
+    }
+}
+
+// The job that the numbers tell, as it is handed from step to step. A number that is no stage is read as `other`.
+fn joining(numbers: &[u32; 13], other: Stage) -> Joining
+    ensures { result.job ≡ job_in numbers.now other }
+{
+    Joining {
+        job: job_in(numbers, other),
+    }
+}
+
+// Stores the job that a step hands on; answers its refusal, 0 for none.
+fn hand_on(numbers: &mut [u32; 13], answer: Result<Job, Refusal>) -> u32
+    ensures number { result ≡ number_of answer }
+    ensures kept { KeptAfter numbers.old numbers.new answer }
+{
+    keep(numbers, &answer);
+    number_of(&answer)
+}
 
 // Labels a block; answers the refusal, 0 for none, and stores how many faces, curves and points there are.
 #[unsafe(no_mangle)]
@@ -50,9 +84,9 @@ pub extern "C" fn tugrelis_label(
     ensures { exported result map.new work.new counts.new
         ≡ export (labelling (triple nx ny nz) codes.now map.old work.old) counts.old }
 {
-    let r = label(codes, nx, ny, nz, map, work);
-    store_counts(r.refusal, r.faces, r.curves, r.points, counts);
-    r.refusal
+    let answer = label(codes, triple(nx, ny, nz), map, work);
+    store_counts(&answer, counts);
+    number_of(&answer)
 }
 
 // Tells the most faces, curves and points that a block can have; answers the refusal, 0 for none, and stores the three numbers.
@@ -60,9 +94,9 @@ pub extern "C" fn tugrelis_label(
 pub extern "C" fn tugrelis_most_components(nx: u16, ny: u16, nz: u16, counts: &mut [u32; 3]) -> u32
     ensures { exported_most result counts.new ≡ export_most (most_components (triple nx ny nz)) counts.old }
 {
-    let most = most_components(nx, ny, nz);
-    store_counts(most.refusal, most.faces, most.curves, most.points, counts);
-    most.refusal
+    let answer = most_components(triple(nx, ny, nz));
+    store_counts(&answer, counts);
+    number_of(&answer)
 }
 
 // Writes a record; answers the refusal, 0 for none, and stores the record's length.
@@ -81,11 +115,27 @@ pub extern "C" fn tugrelis_write_record(
     ensures { exported_writing result tray.new size.new
         ≡ export_writing (writing (triple nx ny nz) (triple ox oy oz) map.now tray.old) size.old }
 {
-    let r = write_record(nx, ny, nz, ox, oy, oz, map, tray);
-    if r.refusal == 0 {
-        *size = r.length;
+    match write_record(triple(nx, ny, nz), triple(ox, oy, oz), map, tray) {
+        Ok(length) => {
+            *size = length;
+            0
+        }
+        Err(refusal) => u32::from(refusal),
     }
-    r.refusal
+}
+
+// Stores the extents and the origin of a block in its place.
+#[tactic(auto, using(crate::proofs::ExportLaws::placed_small))]
+fn store_head(head: Head, fields: &mut [u16; 6])
+    requires { off_place head.size head.origin ≡ false }
+    ensures { fields.new ≡ head_stored head fields.old }
+{
+    fields[0] = head.size.x as u16;
+    fields[1] = head.size.y as u16;
+    fields[2] = head.size.z as u16;
+    fields[3] = head.origin.x as u16;
+    fields[4] = head.origin.y as u16;
+    fields[5] = head.origin.z as u16;
 }
 
 // Reads a record; answers the refusal, 0 for none, and stores extents and origin.
@@ -94,16 +144,13 @@ pub extern "C" fn tugrelis_read_record(bytes: &[u8], map: &mut [u32], fields: &m
     ensures { exported_reading result map.new fields.new
         ≡ export_reading (reading bytes.now map.old) fields.old }
 {
-    let r = read_record(bytes, map);
-    if r.refusal == 0 {
-        fields[0] = r.nx;
-        fields[1] = r.ny;
-        fields[2] = r.nz;
-        fields[3] = r.ox;
-        fields[4] = r.oy;
-        fields[5] = r.oz;
+    match read_record(bytes, map) {
+        Ok(head) => {
+            store_head(head, fields);
+            0
+        }
+        Err(refusal) => u32::from(refusal),
     }
-    r.refusal
 }
 
 // Prints a layer of a block's map; answers the refusal, 0 for none.
@@ -118,7 +165,7 @@ pub extern "C" fn tugrelis_print_layer(
 ) -> u32
     ensures { outcome result tray.new ≡ layer_printing (triple nx ny nz) z map.now tray.old }
 {
-    print_layer(nx, ny, nz, z, map, tray)
+    number_of(&print_layer(triple(nx, ny, nz), z as usize, map, tray))
 }
 
 // Opens a job; answers the refusal, 0 for none, and stores the job.
@@ -170,16 +217,22 @@ pub extern "C" fn tugrelis_open(
         (total_tables came.old face_sums.old face_counts.old)
         (total_tables came.new face_sums.new face_counts.new) result }
 {
-    let r = Joining::open(
+    let cuts = Cuts {
+        x: cx,
+        y: cy,
+        z: cz,
+    };
+    let entries = Counts {
+        faces: face_entries,
+        curves: curve_entries,
+        points: point_entries,
+    };
+    let answer = Joining::open(
         nx,
         ny,
         nz,
-        cx,
-        cy,
-        cz,
-        face_entries,
-        curve_entries,
-        point_entries,
+        &cuts,
+        entries,
         ticks,
         blocks,
         face_links,
@@ -203,9 +256,7 @@ pub extern "C" fn tugrelis_open(
         face_sums,
         face_counts,
     );
-    let next = r.joining;
-    keep(job, r.refusal, next.job);
-    r.refusal
+    hand_on(job, answer)
 }
 
 // Enrols a block with its map; answers the refusal, 0 for none, and stores the job.
@@ -233,13 +284,13 @@ pub extern "C" fn tugrelis_enrol(
         face_rows.new curve_rows.new)
         (enrol block map.now) result) }
 {
-    let joining = Joining {
-        job: job_in(job, Stage::Closed),
+    let cuts = Cuts {
+        x: cx,
+        y: cy,
+        z: cz,
     };
-    let r = joining.enrol(
-        cx,
-        cy,
-        cz,
+    let answer = joining(job, Stage::Closed).enrol(
+        &cuts,
         ticks,
         blocks,
         face_links,
@@ -251,9 +302,7 @@ pub extern "C" fn tugrelis_enrol(
         block,
         map,
     );
-    let next = r.joining;
-    keep(job, r.refusal, next.job);
-    r.refusal
+    hand_on(job, answer)
 }
 
 // Joins two neighbouring blocks at the layer that they share; answers the refusal, 0 for none, and stores the job.
@@ -277,13 +326,13 @@ pub extern "C" fn tugrelis_seam(
         (seam_lent t ticks.new blocks.now face_links.new curve_links.new)
         (join lower upper lower_map.now upper_map.now) result) }
 {
-    let joining = Joining {
-        job: job_in(job, Stage::Closed),
+    let cuts = Cuts {
+        x: cx,
+        y: cy,
+        z: cz,
     };
-    let r = joining.seam(
-        cx,
-        cy,
-        cz,
+    let answer = joining(job, Stage::Closed).seam(
+        &cuts,
         ticks,
         blocks,
         face_links,
@@ -293,9 +342,7 @@ pub extern "C" fn tugrelis_seam(
         lower_map,
         upper_map,
     );
-    let next = r.joining;
-    keep(job, r.refusal, next.job);
-    r.refusal
+    hand_on(job, answer)
 }
 
 // Joins the curves of a block at its point cells; answers the refusal, 0 for none, and stores the job.
@@ -331,13 +378,13 @@ pub extern "C" fn tugrelis_crossing(
         face_firsts.new curve_firsts.new face_listed.new curve_listed.new)
         (cross block map.now) result) }
 {
-    let joining = Joining {
-        job: job_in(job, Stage::Closed),
+    let cuts = Cuts {
+        x: cx,
+        y: cy,
+        z: cz,
     };
-    let r = joining.crossing(
-        cx,
-        cy,
-        cz,
+    let answer = joining(job, Stage::Closed).crossing(
+        &cuts,
         ticks,
         blocks,
         face_links,
@@ -355,9 +402,7 @@ pub extern "C" fn tugrelis_crossing(
         block,
         map,
     );
-    let next = r.joining;
-    keep(job, r.refusal, next.job);
-    r.refusal
+    hand_on(job, answer)
 }
 
 // Finds the points of a block; answers the refusal, 0 for none, and stores the job.
@@ -385,13 +430,13 @@ pub extern "C" fn tugrelis_point(
         point_numbers.new point_firsts.new point_listed.new)
         (point block map.now) result) }
 {
-    let joining = Joining {
-        job: job_in(job, Stage::Closed),
+    let cuts = Cuts {
+        x: cx,
+        y: cy,
+        z: cz,
     };
-    let r = joining.point(
-        cx,
-        cy,
-        cz,
+    let answer = joining(job, Stage::Closed).point(
+        &cuts,
         ticks,
         blocks,
         point_keys,
@@ -403,9 +448,7 @@ pub extern "C" fn tugrelis_point(
         block,
         map,
     );
-    let next = r.joining;
-    keep(job, r.refusal, next.job);
-    r.refusal
+    hand_on(job, answer)
 }
 
 // The final number of a cell; answers the refusal, 0 for none, and stores the number.
@@ -431,28 +474,30 @@ pub extern "C" fn tugrelis_lookup(
         (look_lent t ticks.now blocks.now face_numbers.now curve_numbers.now point_firsts.now)
         (look block map.now (triple x y z)) result number.old number.new) }
 {
-    let joining = Joining {
-        job: job_in(job, Stage::Enrol),
+    let cuts = Cuts {
+        x: cx,
+        y: cy,
+        z: cz,
     };
-    let r: Found = joining.lookup(
-        cx,
-        cy,
-        cz,
+    let tables = LookupTables {
         ticks,
         blocks,
-        face_numbers,
-        curve_numbers,
-        point_firsts,
-        block,
-        map,
-        x,
-        y,
-        z,
-    );
-    if r.refusal == 0 {
-        *number = r.number;
+        faces: face_numbers,
+        curves: curve_numbers,
+        points: point_firsts,
+    };
+    let c = Triple {
+        x: x as usize,
+        y: y as usize,
+        z: z as usize,
+    };
+    match joining(job, Stage::Enrol).lookup(&cuts, &tables, block, map, c) {
+        Ok(found) => {
+            *number = found;
+            0
+        }
+        Err(refusal) => u32::from(refusal),
     }
-    r.refusal
 }
 
 // Lists the blocks that a list of cells of a closed job is read from, each once, ascending; answers the refusal, 0 for none.
@@ -471,14 +516,23 @@ pub extern "C" fn tugrelis_request_blocks(
     ensures { AnyTables (λ t. ExportedRequest job.now Stage.Enrol cx.now cy.now cz.now t
         (cell_lists xs.now ys.now zs.now) needed.old needed.new result count.old count.new) }
 {
-    let joining = Joining {
-        job: job_in(job, Stage::Enrol),
+    let cuts = Cuts {
+        x: cx,
+        y: cy,
+        z: cz,
     };
-    let r: Requested = joining.request_blocks(cx, cy, cz, xs, ys, zs, needed);
-    if r.refusal == 0 {
-        *count = r.count;
+    let cells = CellLists {
+        x: xs,
+        y: ys,
+        z: zs,
+    };
+    match joining(job, Stage::Enrol).request_blocks(&cuts, &cells, needed) {
+        Ok(found) => {
+            *count = found;
+            0
+        }
+        Err(refusal) => u32::from(refusal),
     }
-    r.refusal
 }
 
 // Fills in the answers of a list of cells of a closed job that are read from one block; answers the refusal, 0 for none.
@@ -504,25 +558,24 @@ pub extern "C" fn tugrelis_fill_cells(
         (look_lent t ticks.now blocks.now face_numbers.now curve_numbers.now point_firsts.now)
         (cell_lists xs.now ys.now zs.now) block map.now answers.old result answers.new) }
 {
-    let joining = Joining {
-        job: job_in(job, Stage::Enrol),
+    let cuts = Cuts {
+        x: cx,
+        y: cy,
+        z: cz,
     };
-    joining.fill_cells(
-        cx,
-        cy,
-        cz,
+    let tables = LookupTables {
         ticks,
         blocks,
-        face_numbers,
-        curve_numbers,
-        point_firsts,
-        xs,
-        ys,
-        zs,
-        block,
-        map,
-        answers,
-    )
+        faces: face_numbers,
+        curves: curve_numbers,
+        points: point_firsts,
+    };
+    let cells = CellLists {
+        x: xs,
+        y: ys,
+        z: zs,
+    };
+    number_of(&joining(job, Stage::Enrol).fill_cells(&cuts, &tables, &cells, block, map, answers))
 }
 
 // Adds the readings of a block to the totals of its faces; answers the refusal, 0 for none.
@@ -548,13 +601,13 @@ pub extern "C" fn tugrelis_strain(
         block map.now values.now kinds.now result
         (total_tables came.new face_sums.new face_counts.new) }
 {
-    let joining = Joining {
-        job: job_in(job, Stage::Enrol),
+    let cuts = Cuts {
+        x: cx,
+        y: cy,
+        z: cz,
     };
-    let r = joining.strain(
-        cx,
-        cy,
-        cz,
+    let answer = joining(job, Stage::Enrol).strain(
+        &cuts,
         blocks,
         face_numbers,
         came,
@@ -565,7 +618,23 @@ pub extern "C" fn tugrelis_strain(
         values,
         kinds,
     );
-    r.refusal
+    number_of(&answer)
+}
+
+// The counts of both sides of a face in six places.
+fn six_counts(totals: Totals) -> [u64; 6]
+    ensures { result ≡ counts_of totals }
+{
+    let lower = totals.lower;
+    let higher = totals.higher;
+    [
+        lower.strains,
+        lower.clipped,
+        lower.missing,
+        higher.strains,
+        higher.clipped,
+        higher.missing,
+    ]
 }
 
 // The totals of a face; answers the refusal, 0 for none, and stores the sums and the counts of its two sides.
@@ -586,24 +655,19 @@ pub extern "C" fn tugrelis_total(
         (total_tables came.now face_sums.now face_counts.now) number result
         sums.old sums.new counts.old counts.new }
 {
-    let joining = Joining {
-        job: job_in(job, Stage::Enrol),
+    let cuts = Cuts {
+        x: cx,
+        y: cy,
+        z: cz,
     };
-    let r: Totalled = joining.total(cx, cy, cz, came, face_sums, face_counts, number);
-    if r.refusal == 0 {
-        let lower = r.totals.lower;
-        let higher = r.totals.higher;
-        *sums = [lower.sum, higher.sum];
-        *counts = [
-            lower.strains,
-            lower.clipped,
-            lower.missing,
-            higher.strains,
-            higher.clipped,
-            higher.missing,
-        ];
+    match joining(job, Stage::Enrol).total(&cuts, came, face_sums, face_counts, number) {
+        Ok(totals) => {
+            *sums = [totals.lower.sum, totals.higher.sum];
+            *counts = six_counts(totals);
+            0
+        }
+        Err(refusal) => u32::from(refusal),
     }
-    r.refusal
 }
 
 // A part filled with zeros to six places.
@@ -611,12 +675,12 @@ fn six(part: &[u32]) -> [u32; 6]
     ensures { result ≡ six_of part.now }
 {
     [
-        read_or_zero(part, 0),
-        read_or_zero(part, 1),
-        read_or_zero(part, 2),
-        read_or_zero(part, 3),
-        read_or_zero(part, 4),
-        read_or_zero(part, 5),
+        read_or(part, 0, 0),
+        read_or(part, 1, 0),
+        read_or(part, 2, 0),
+        read_or(part, 3, 0),
+        read_or(part, 4, 0),
+        read_or(part, 5, 0),
     ]
 }
 
@@ -633,20 +697,14 @@ fn read_row<'a>(
     ensures { RowExported job (kind_of kind) number
         face_listed.now curve_listed.now point_listed.now result places.old places.new }
 {
-    let mut refusal: u32 = 0;
-    let joining = Joining { job: job };
-    let part = joining.row(
-        face_listed,
-        curve_listed,
-        point_listed,
-        kind,
-        number,
-        &mut refusal,
-    );
-    if refusal == 0 {
-        *places = six(part);
+    let answer = Joining { job }.row(kind, number, face_listed, curve_listed, point_listed);
+    match answer {
+        Ok(part) => {
+            *places = six(part);
+            0
+        }
+        Err(refusal) => u32::from(refusal),
     }
-    refusal
 }
 
 // The row of a face; answers the refusal, 0 for none, and stores the row, filled with zeros.

@@ -13,12 +13,16 @@ use lib.ListN.{length}
 use borrow.Author.Tests.{eq-eqb, eqb-false, eqb-true, lt-ltb, ltb-false, ltb-true, ne_eqb}
 use Rattle.lists.specs.Lists.{all_of, consecutive}
 use Rattle.closure.specs.Joined.{Edge, edge}
-use Rattle.cells.specs.Box.{Axis, Triple, coord, index, place, volume, X, Y, Z}
+use Rattle.cells.specs.Box.{coord, index, place, volume}
+use Rattle.cells.specs.declared.Axis.{Axis}
+use Rattle.cells.specs.declared.Axis.TheVariants.{X, Y, Z}
+use Rattle.cells.specs.declared.Triple.{Triple}
 use Rattle.cutting.specs.Cutting.{Cutting, block_sides, blocks, cuts, follows, interval, intervals, seam}
 use Rattle.joiner.specs.Job.{Crossing, Enrol, Points, Seam, column, ticks_per_block}
 use Rattle.joiner.specs.Stages.{crossing_step, enrol_step, finished, point_step, products, seam_axis, seam_step, seams, steps_of}
 use Rattle.layers.specs.Layers.{axis_of}
-use Rattle.stages.specs.Ticks.{axis_number, has_next, seam_ticked, seams_ticked, seams_ticked_to, ticked_to}
+use Rattle.blocks.specs.Blocks.{axis_number}
+use Rattle.stages.specs.Ticks.{has_next, seam_ticked, seams_ticked, seams_ticked_to, ticked_to}
 use Rattle.lists.proofs.Cases.{and_both, and_first, and_second, by_test, same_test}
 use Rattle.lists.proofs.Lists.{consecutive_in, consecutive_out, keep_in, keep_out}
 use Rattle.lists.proofs.Tests.{all_in, all_out, implied, implies}

@@ -1,12 +1,12 @@
 -- What an accepted crossing step has passed, and that what it leaves is what the joiner asks for.
 -- Assumes nothing.
-use mathlib.Core.Path.{◌≡◌, refl, sym, ◌∙◌}
-use mathlib.Core.Bool.{Bool, true, false, not}
+use mathlib.Core.Path.{◌≡◌, refl, sym, ap, ◌∙◌}
+use mathlib.Core.Bool.{true, false, true≢false}
 use mathlib.Core.List.{List, []}
 use Prim.Native.Nat.{ℕ, ◌≤◌, ◌<◌}
 use native.Mathlib.Omega.{arith}
 use lib.ListN.{get_or, length}
-use borrow.Author.Tests.{eqb-true, not-true, not-false, ltb-true}
+use borrow.Author.Tests.{eqb-true, ltb-true}
 use Rattle.lists.proofs.Cases.{and_first}
 use Rattle.cells.specs.Grid.{cells}
 use Rattle.cutting.specs.Cutting.{Cutting, blocks, block_extents}
@@ -20,8 +20,14 @@ use Rattle.joiner.proofs.Passed.{is_stage, not_stage, Passed, passed, fits_at_le
 use Rattle.joiner.proofs.Kept.{found_kept, numbers_kept_lem}
 use Rattle.pass_cross.proofs.MergeLaws.{crossing_merged}
 use Rattle.kind_numbers.proofs.NumberedLaws.{numbered_kind}
+use Rattle.std.specs.Prelude.{Result, Ok, Err, IsErr, IsErrAnd}
+use Rattle.refusals.specs.declared.Refusal.{Refusal}
+use Rattle.refusals.specs.Refusals.{number, number_of}
+use Rattle.refusals.proofs.RefusalLaws.{number_positive}
+use Rattle.counts.specs.declared.Counts.{Counts}
+use Rattle.blocks.specs.declared.Cuts.{Cuts}
 use Rattle.job.specs.declared.Job.{Job}
-use Rattle.job.specs.JobState.{by_kind, sofar_tally, job_of, state_of, told_of}
+use Rattle.job.specs.JobState.{by_kind, sofar_tally, job_after, job_by, no_counts, state_by}
 use Rattle.job.specs.JobWith.{job_with}
 use Rattle.job.specs.JobState as job
 use Rattle.judge.specs.Judge.{lengths_of, entry_of}
@@ -29,7 +35,6 @@ use Rattle.stages.proofs.AdvancedLaws.{ticked_by, numbered_kept}
 use Rattle.judge.proofs.JudgeLaws.{few_of, step_refused, step_accepted}
 use Rattle.judge_cross.specs.Tests.{refusal_of}
 use Rattle.judge_cross.proofs.TestLaws.{refusal_is}
-use Rattle.store_cross.specs.declared.Totals.{Totals}
 use Rattle.store_cross.specs.Stores.{JoinReady, TalliesFit, CurvesJoined, KindRoom, BothNumbered}
 use Rattle.step_cross.specs.Inner.{lent, Ready}
 
@@ -98,73 +103,58 @@ module _ (s : State) (b : ℕ) (m : List ℕ) where
     curves_room =
         record { on_keys = omega (arith, tally Curve, at 9); on_numbers = omega (arith, tally Curve, at 11); on_firsts = omega (arith, tally Curve, at 12); on_listed = omega (arith, tally Curve, at 13) }
 
-  -- ---- the public entry
-
-  module _ (number' : ℕ) (e : number' ≡ refusal_of s.job s.tables.ticks (lengths_of s.tables) s.tables.blocks (s.tables.rows Curve) (s.tables.links Face) (s.tables.links Curve) b m) where
-    told_number : number' ≡ refusal s (cross b m)
-    told_number = e ∙ sym (refusal_is s b m)
-
-    pub cross_refused : (number' ≡ 0 → ⊥) → CallStep s (cross b m) (answer number' 0 []) s
-    cross_refused = step_refused s (cross b m) number' told_number
-
-    pub ready : number' ≡ 0 → Ready s b m
-    ready z = record { none = sym told_number ∙ z }
-
-    pub cross_accepted : number' ≡ 0 → (t : State) → CrossingDone s b m t → CallStep s (cross b m) (answer 0 0 []) t
-    cross_accepted z t d = step_accepted s (cross b m) number' told_number z (answer 0 0 []) t refl (refl, d)
-
 -- ---- what an accepted step leaves
 
 -- The job with so many faces and curves numbered.
-abbrev numbered_job : Job → Totals → Job
-numbered_job q r = job_with q q.stage (sofar_tally q) (by_kind r.faces r.curves q.numbered_points)
+abbrev numbered_job : Job → Counts → Job
+numbered_job q r = job_with q q.stage (sofar_tally q) (by_kind r.faces r.curves q.numbered.points)
 
-module _ (j : Job) (cx cy cz ticks ticks' table fl fl' cl cl' fk ck fr cr fn cn ff cf fs cs : List ℕ) (b : ℕ) (m : List ℕ) (q : Job)
-    (J : CurvesJoined j cx cy cz ticks ticks' table fl fl' cl cl' b m q) (t : Bool) (e : t ≡ same_stage (job.stage_of q.stage) Points) where
+module _ (j : Job) (cuts : Cuts) (ticks ticks' table fl fl' cl cl' fk ck fr cr fn cn ff cf fs cs : List ℕ) (b : ℕ) (m : List ℕ) (q : Job)
+    (J : CurvesJoined j cuts ticks ticks' table fl fl' cl cl' b m q) where
   abbrev before : State
-  before = state_of j cx cy cz (lent ticks table fl cl fk ck fr cr fn cn ff cf fs cs)
+  before = state_by j cuts (lent ticks table fl cl fk ck fr cr fn cn ff cf fs cs)
 
-  curves_merged : Merged cl cl' (AtCrossing (told_of j cx cy cz).cutting before.tables b m)
+  curves_merged : Merged cl cl' (AtCrossing (job_by j cuts).told.cutting before.tables b m)
   unfolding from_of entry_of
-  curves_merged = crossing_merged (told_of j cx cy cz).cutting before.tables b m _ fl _ _ cl cl' refl refl refl refl J.crossed.joined
+  curves_merged = crossing_merged (job_by j cuts).told.cutting before.tables b m _ fl _ _ cl cl' refl refl refl refl J.crossed.joined
 
-  tally_kept : (κ : Kind) → (job_of q cx cy cz).numbered κ ≡ (job_of j cx cy cz).numbered κ
-  tally_kept = numbered_kept j cx cy cz ticks ticks' (crossing_step b) 0 0 0 q J.moved
+  tally_kept : (κ : Kind) → (job_by q cuts).numbered κ ≡ (job_by j cuts).numbered κ
+  tally_kept = numbered_kept j cuts ticks ticks' (crossing_step b) no_counts q J.moved
 
   abbrev after : List ℕ → List ℕ → List ℕ → List ℕ → List ℕ → List ℕ → Tables
   after fn' cn' ff' cf' fs' cs' = lent ticks' table fl' cl' fk ck fr cr fn' cn' ff' cf' fs' cs'
 
-  step_done : (fn' cn' ff' cf' fs' cs' : List ℕ) → Ticked before (state_of q cx cy cz (after fn' cn' ff' cf' fs' cs')) (cross b m) (crossing_step b)
+  step_done : (fn' cn' ff' cf' fs' cs' : List ℕ) → Ticked before (state_by q cuts (after fn' cn' ff' cf' fs' cs')) (cross b m) (crossing_step b)
   step_done fn' cn' ff' cf' fs' cs' =
-      ticked_by j cx cy cz before.tables (after fn' cn' ff' cf' fs' cs') (cross b m) (crossing_step b) 0 0 0 (adds_none before b m) q J.moved
+      ticked_by j cuts before.tables (after fn' cn' ff' cf' fs' cs') (cross b m) (crossing_step b) no_counts (adds_none before b m) q J.moved
 
   -- before the last
-  pub done_before : not t ≡ true → CrossingDone before b m (state_of q cx cy cz (after fn cn ff cf fs cs))
+  pub done_before : same_stage (job.stage_of q.stage) Points ≡ false → CrossingDone before b m (state_by q cuts (after fn cn ff cf fs cs))
   done_before n = record {
     step = step_done fn cn ff cf fs cs;
     blocks = refl;
     faces = J.crossed.kept;
     curves = curves_merged;
     found = λ κ. found_kept refl;
-    last = λ p. absurd (not_stage (job.stage_of q.stage) Points (sym e ∙ not-true t n) p);
+    last = λ p. absurd (not_stage (job.stage_of q.stage) Points n p);
     before = λ _. (numbers_kept_lem (tally_kept Face) refl, numbers_kept_lem (tally_kept Curve) refl);
     points = numbers_kept_lem (tally_kept Point) refl;
   }
 
   -- the last
-  module _ (fn' cn' ff' cf' fs' cs' : List ℕ) (r : Totals) (N : BothNumbered fl' cl' fk ck fr cr fn fn' cn cn' ff ff' cf cf' fs fs' cs cs' j.faces j.curves r) where
+  module _ (fn' cn' ff' cf' fs' cs' : List ℕ) (r : Counts) (N : BothNumbered fl' cl' fk ck fr cr fn fn' cn cn' ff ff' cf cf' fs fs' cs cs' j.sofar.faces j.sofar.curves r) where
     abbrev closed : State
-    closed = state_of (numbered_job q r) cx cy cz (after fn' cn' ff' cf' fs' cs')
+    closed = state_by (numbered_job q r) cuts (after fn' cn' ff' cf' fs' cs')
 
-    faces_numbered : NumberedKind before closed Face j.faces
+    faces_numbered : NumberedKind before closed Face j.sofar.faces
     unfolding class_of row_final
-    faces_numbered = numbered_kind before closed Face j.faces (N.of_faces closed.tables Face refl (λ x. refl) refl refl (λ x. refl))
+    faces_numbered = numbered_kind before closed Face j.sofar.faces (N.of_faces closed.tables Face refl (λ x. refl) refl refl (λ x. refl))
 
-    curves_numbered : NumberedKind before closed Curve j.curves
+    curves_numbered : NumberedKind before closed Curve j.sofar.curves
     unfolding class_of
-    curves_numbered = numbered_kind before closed Curve j.curves (N.of_curves closed.tables refl (λ x. refl) refl refl)
+    curves_numbered = numbered_kind before closed Curve j.sofar.curves (N.of_curves closed.tables refl (λ x. refl) refl refl)
 
-    pub done_last : not t ≡ false → CrossingDone before b m closed
+    pub done_last : same_stage (job.stage_of q.stage) Points ≡ true → CrossingDone before b m closed
     done_last n =
         let advanced = step_done fn' cn' ff' cf' fs' cs' in
         record {
@@ -174,6 +164,31 @@ module _ (j : Job) (cx cy cz ticks ticks' table fl fl' cl cl' fk ck fr cr fn cn 
           curves = curves_merged;
           found = λ κ. found_kept refl;
           last = λ _. (faces_numbered, curves_numbered);
-          before = λ p. absurd (p (is_stage (job.stage_of q.stage) Points (sym e ∙ not-false t n)));
+          before = λ p. absurd (p (is_stage (job.stage_of q.stage) Points n));
           points = numbers_kept_lem (tally_kept Point) refl;
         }
+
+-- ---- the public entry
+
+module _ (j : Job) (cuts : Cuts) (tables : Tables) (b : ℕ) (m : List ℕ) where
+  abbrev start : State
+  start = state_by j cuts tables
+
+  abbrev judged : ℕ
+  judged = refusal_of start.job tables.ticks (lengths_of tables) tables.blocks (tables.rows Curve) (tables.links Face) (tables.links Curve) b m
+
+  pub cross_refused : (d : Refusal) → number d ≡ judged → (r : Result Job Refusal) → IsErr r × IsErrAnd r (λ x. x ≡ d)
+      → CallStep start (cross b m) (answer (number_of r) 0 []) (state_by (job_after j r) cuts tables)
+  cross_refused d q (Ok k) h = absurd (true≢false (sym h.0))
+  cross_refused d q (Err x) h =
+      step_refused start (cross b m) (number x) (ap number h.1 ∙ q ∙ sym (refusal_is start b m)) (λ y. absurd (omega (arith, number_positive x, y)))
+
+  module _ (q : 0 ≡ judged) where
+    told_number : 0 ≡ refusal start (cross b m)
+    told_number = q ∙ sym (refusal_is start b m)
+
+    pub ready : Ready start b m
+    ready = record { none = sym told_number }
+
+    pub cross_accepted : (t : State) → CrossingDone start b m t → CallStep start (cross b m) (answer 0 0 []) t
+    cross_accepted t d = step_accepted start (cross b m) 0 told_number refl (answer 0 0 []) t refl (refl, d)

@@ -1,19 +1,25 @@
 -- The ways of the functions that enrol a block, over plain lists and numbers.
 -- Assumes nothing.
 use mathlib.Core.Path.{◌≡◌, refl, sym, ap, ◌∙◌}
-use mathlib.Core.Bool.{Bool, false, ◌||◌}
+use mathlib.Core.Bool.{Bool, false, ◌||◌, true≢false}
 use mathlib.Core.Logic.{◌⊎◌, inl, inr}
 use mathlib.Core.List.{List, []}
 use Prim.Native.Nat.{ℕ, suc, ◌+◌, ◌-◌, ◌*◌, ◌/◌, ◌%◌, ◌≤◌, ◌<◌}
-use native.Mathlib.Nat.{add-zero}
 use native.Mathlib.Omega.{arith}
 use lib.Dec.{ltb}
-use lib.ListN.{length, set}
+use lib.ListN.{length}
 use borrow.Author.Tests.{ltb-false}
+use Rattle.std.specs.Prelude.{Result, Ok, Err, IsErr, IsErrAnd}
+use Rattle.refusals.specs.declared.Refusal.{Refusal}
+use Rattle.refusals.specs.Refusals.{number, number_of}
+use Rattle.refusals.proofs.RefusalLaws.{number_positive}
+use Rattle.counts.specs.declared.Counts.{Counts}
+use Rattle.blocks.specs.declared.Cuts.{Cuts}
 use Rattle.lists.specs.Lists.{overlay}
 use Rattle.lists.proofs.Cases.{neither}
 use Rattle.lists.proofs.Overlay.{length-overlay, overlay_same}
-use Rattle.cells.specs.Box.{Triple, triple}
+use Rattle.cells.specs.Box.{triple}
+use Rattle.cells.specs.declared.Triple.{Triple}
 use Rattle.cells.specs.Grid.{cells}
 use Rattle.labels.specs.Components.{largest}
 use Rattle.cutting.specs.Cutting.{Cutting, blocks, block_extents, most_blocks, FewBlocks}
@@ -30,7 +36,7 @@ use Rattle.pass_enrol.specs.EnrolledRows.{Lies, key_in, FirstKeys}
 use Rattle.pass_enrol.proofs.KeyLaws.{lies_told, enrolled_keys, stored_first_keys}
 use Rattle.pass_enrol.proofs.RowLaws.{enrolled_faces, enrolled_curves}
 use Rattle.job.specs.declared.Job.{Job}
-use Rattle.job.specs.JobState.{by_kind, told_of, job_of, state_of}
+use Rattle.job.specs.JobState.{by_kind, job_after, job_by, state_by}
 use Rattle.job.specs.Lent.{no_tables, enrol_lent}
 use Rattle.judge.specs.declared.CallName.{CallName}
 use Rattle.judge.specs.declared.Lengths.{Lengths}
@@ -38,17 +44,9 @@ use Rattle.stages.specs.Advanced.{Advanced}
 use Rattle.judge.specs.Judge.{lengths_of}
 use Rattle.stages.proofs.AdvancedLaws.{ticked_by, numbered_kept}
 use Rattle.judge.proofs.JudgeLaws.{or_none, FirstTests, few_of, count_few, lengths_passed, step_refused, step_accepted}
-use Rattle.judge_enrol.specs.declared.Plan.{Plan}
 use Rattle.judge_enrol.specs.Tests.{lent_lengths, refusal_of, Judged}
 use Rattle.judge_enrol.proofs.TestLaws.{refusal_is}
 use Rattle.step_enrol.specs.Inner.{Ready, block_numbers, KindReady, KindDone}
-
--- ---- the numbers of a block
-
-pub block_put : (xs : List ℕ) (b : ℕ) (p : Plan) (face curve : ℕ)
-    → set (set (set (set (set xs (numbers_per_block * b) p.faces) (numbers_per_block * b + 1) p.curves) (numbers_per_block * b + 2) p.points) (numbers_per_block * b + 3) face) (numbers_per_block * b + 4) curve ≡ overlay xs (numbers_per_block * b) (block_numbers p face curve) numbers_per_block
-unfolding overlay block_numbers
-block_put xs b p face curve = rw (add-zero (numbers_per_block * b))
 
 -- ---- what an accepted call has passed
 
@@ -83,12 +81,12 @@ kind_rows v r b m j shift from count l n ks R ks' e =
 abbrev pub lent_tables : List ℕ → List ℕ → List ℕ → List ℕ → List ℕ → List ℕ → List ℕ → List ℕ → Tables
 lent_tables tk bl fl cl fk ck fr cr = enrol_lent no_tables tk bl fl cl fk ck fr cr
 
-module _ (j : Job) (cx cy cz tk bl fl cl fk ck fr cr : List ℕ) (b : ℕ) (m : List ℕ) (p : Plan) (R : Ready (state_of j cx cy cz (lent_tables tk bl fl cl fk ck fr cr)) b m p) where
+module _ (j : Job) (cuts : Cuts) (tk bl fl cl fk ck fr cr : List ℕ) (b : ℕ) (m : List ℕ) (p : Counts) (R : Ready (state_by j cuts (lent_tables tk bl fl cl fk ck fr cr)) b m p) where
   abbrev before : State
-  before = state_of j cx cy cz (lent_tables tk bl fl cl fk ck fr cr)
+  before = state_by j cuts (lent_tables tk bl fl cl fk ck fr cr)
 
   abbrev cut_of : Cutting
-  cut_of = (told_of j cx cy cz).cutting
+  cut_of = (job_by j cuts).told.cutting
 
   call_facts : Passed before (enrol b m)
   call_facts = passed before (enrol b m) R.accepted
@@ -102,12 +100,12 @@ module _ (j : Job) (cx cy cz tk bl fl cl fk ck fr cr : List ℕ) (b : ℕ) (m : 
   record Long : Type 0 where
     on_ticks : length tk ≡ ticks_per_block * blocks cut_of
     on_blocks : length bl ≡ numbers_per_block * blocks cut_of
-    face_links : length fl ≡ j.face_entries
-    curve_links : length cl ≡ j.curve_entries
-    face_keys : length fk ≡ j.face_entries
-    face_rows : length fr ≡ 2 * j.face_entries
-    curve_keys : length ck ≡ j.curve_entries
-    curve_rows : length cr ≡ 4 * j.curve_entries
+    face_links : length fl ≡ j.entries.faces
+    curve_links : length cl ≡ j.entries.curves
+    face_keys : length fk ≡ j.entries.faces
+    face_rows : length fr ≡ 2 * j.entries.faces
+    curve_keys : length ck ≡ j.entries.curves
+    curve_rows : length cr ≡ 4 * j.entries.curves
 
   long : Long
   unfolding block_trays link_trays found_trays
@@ -116,6 +114,9 @@ module _ (j : Job) (cx cy cz tk bl fl cl fk ck fr cr : List ℕ) (b : ℕ) (m : 
       record { on_ticks = at 0; on_blocks = at 1; face_links = at 2; curve_links = at 3; face_keys = at 4; face_rows = at 5; curve_keys = at 6; curve_rows = at 7 }
 
   -- its tallies
+  abbrev added : Counts
+  added = record { faces = p.faces; curves = p.curves; points = 0 }
+
   more : (κ : Kind) → adds before (enrol b m) κ ≡ by_kind p.faces p.curves 0 κ
   unfolding adds
   more Face = sym R.plan.faces
@@ -130,13 +131,13 @@ module _ (j : Job) (cx cy cz tk bl fl cl fk ck fr cr : List ℕ) (b : ℕ) (m : 
   act_block = (omega (arith, begun.1, count_few cut_of begun.0.good (blocks cut_of) refl), omega (arith, begun.1, long.on_blocks))
 
   -- .. and `advance`
-  pub act_advance : ((enrol_step b < length tk) × FewBlocks cx cy cz)
-      × ((j.faces + p.faces ≤ j.face_entries) × (j.curves + p.curves ≤ j.curve_entries) × (j.points + 0 ≤ j.point_entries))
+  pub act_advance : ((enrol_step b < length tk) × FewBlocks cuts.x.now cuts.y.now cuts.z.now)
+      × ((j.sofar.faces + p.faces ≤ j.entries.faces) × (j.sofar.curves + p.curves ≤ j.entries.curves) × (j.sofar.points + 0 ≤ j.entries.points))
   act_advance = ((omega (arith, begun.1, long.on_ticks), few_of cut_of begun.0.good), (room Face, room Curve, room Point))
 
-  module _ (r : Block) (T : AnyExtents cx cy cz (λ k. Tells k b r)) where
+  module _ (r : Block) (T : AnyExtents cuts (λ k. Tells k b r)) where
     abbrev tells : Tells cut_of b r
-    tells = T j.nx j.ny j.nz
+    tells = T (triple j.nx j.ny j.nz)
 
     act_lies : Lies (triple j.nx j.ny j.nz) r
     act_lies = lies_told cut_of b r tells begun.0.good begun.1 begun.0.sized
@@ -148,7 +149,7 @@ module _ (j : Job) (cx cy cz tk bl fl cl fk ck fr cr : List ℕ) (b : ℕ) (m : 
     act_faces_most = R.plan.faces ∙ ap (λ (v : Triple). largest v m 2) (sym tells.size)
 
     -- what `enrol_kind` requires of faces and of curves
-    pub act_faces : KindReady (triple j.nx j.ny j.nz) r b m 2 0 j.faces p.faces (length fl) (length fk) (length fr)
+    pub act_faces : KindReady (triple j.nx j.ny j.nz) r b m 2 0 j.sofar.faces p.faces (length fl) (length fk) (length fr)
     act_faces = record {
       lies = act_lies;
       size = act_size;
@@ -161,7 +162,7 @@ module _ (j : Job) (cx cy cz tk bl fl cl fk ck fr cr : List ℕ) (b : ℕ) (m : 
       shifts = inl refl;
     }
 
-    pub act_curves : j.face_entries < 4294967296 → KindReady (triple j.nx j.ny j.nz) r b m 1 j.faces j.curves p.curves (length cl) (length ck) (length cr)
+    pub act_curves : j.entries.faces < 4294967296 → KindReady (triple j.nx j.ny j.nz) r b m 1 j.sofar.faces j.sofar.curves p.curves (length cl) (length ck) (length cr)
     act_curves h = record {
       lies = act_lies;
       size = act_size;
@@ -175,52 +176,58 @@ module _ (j : Job) (cx cy cz tk bl fl cl fk ck fr cr : List ℕ) (b : ℕ) (m : 
     }
 
     -- what all of them leave
-    module _ (bl' : List ℕ) (eb : bl' ≡ overlay bl (numbers_per_block * b) (block_numbers p j.faces j.curves) numbers_per_block)
-        (fl' fk' fr' : List ℕ) (F : KindDone (triple j.nx j.ny j.nz) r b m 2 0 j.faces p.faces fl fk fr fl' fk' fr')
-        (cl' ck' cr' : List ℕ) (C : KindDone (triple j.nx j.ny j.nz) r b m 1 j.faces j.curves p.curves cl ck cr cl' ck' cr')
-        (tk' : List ℕ) (q : Job) (A : Advanced j cx cy cz tk tk' (enrol_step b) p.faces p.curves 0 q) where
+    module _ (bl' : List ℕ) (eb : bl' ≡ overlay bl (numbers_per_block * b) (block_numbers p j.sofar.faces j.sofar.curves) numbers_per_block)
+        (fl' fk' fr' : List ℕ) (F : KindDone (triple j.nx j.ny j.nz) r b m 2 0 j.sofar.faces p.faces fl fk fr fl' fk' fr')
+        (cl' ck' cr' : List ℕ) (C : KindDone (triple j.nx j.ny j.nz) r b m 1 j.sofar.faces j.sofar.curves p.curves cl ck cr cl' ck' cr')
+        (tk' : List ℕ) (q : Job) (A : Advanced j cuts tk tk' (enrol_step b) added q) where
       abbrev after : State
-      after = state_of q cx cy cz (lent_tables tk' bl' fl' cl' fk' ck' fr' cr')
+      after = state_by q cuts (lent_tables tk' bl' fl' cl' fk' ck' fr' cr')
 
-      entry_is : (i : ℕ) → block_numbers p j.faces j.curves i ≡ block_entry before b m i
+      entry_is : (i : ℕ) → block_numbers p j.sofar.faces j.sofar.curves i ≡ block_entry before b m i
       unfolding block_numbers block_entry
       entry_is i = rw (R.plan.faces, R.plan.curves, R.plan.points)
 
       pub act_done : EnrolDone before b m after
       unfolding adds
       act_done = record {
-        step = ticked_by j cx cy cz (lent_tables tk bl fl cl fk ck fr cr) (lent_tables tk' bl' fl' cl' fk' ck' fr' cr') (enrol b m) (enrol_step b) p.faces p.curves 0 more q A;
+        step = ticked_by j cuts (lent_tables tk bl fl cl fk ck fr cr) (lent_tables tk' bl' fl' cl' fk' ck' fr' cr') (enrol b m) (enrol_step b) added more q A;
         blocks = eb ∙ overlay_same bl (numbers_per_block * b) _ _ numbers_per_block (λ i _. entry_is i);
         faces = record {
-          links = F.links_are ∙ ap (overlay fl j.faces (λ i. 0)) R.plan.faces;
-          keys = enrolled_keys cut_of b r tells m Face j.faces p.faces fk fk' F.keys_are ∙ ap (overlay fk j.faces _) R.plan.faces;
-          rows = enrolled_faces cut_of b r tells j.faces m j.faces p.faces fr fr' F.rows_are ∙ ap (λ (n : ℕ). overlay fr (2 * j.faces) (λ i. enrolled_row cut_of j.faces b m Face (suc (i / 2)) (i % 2)) (2 * n)) R.plan.faces;
+          links = F.links_are ∙ ap (overlay fl j.sofar.faces (λ i. 0)) R.plan.faces;
+          keys = enrolled_keys cut_of b r tells m Face j.sofar.faces p.faces fk fk' F.keys_are ∙ ap (overlay fk j.sofar.faces _) R.plan.faces;
+          rows = enrolled_faces cut_of b r tells j.sofar.faces m j.sofar.faces p.faces fr fr' F.rows_are ∙ ap (λ (n : ℕ). overlay fr (2 * j.sofar.faces) (λ i. enrolled_row cut_of j.sofar.faces b m Face (suc (i / 2)) (i % 2)) (2 * n)) R.plan.faces;
         };
         curves = record {
-          links = C.links_are ∙ ap (overlay cl j.curves (λ i. 0)) R.plan.curves;
-          keys = enrolled_keys cut_of b r tells m Curve j.curves p.curves ck ck' C.keys_are ∙ ap (overlay ck j.curves _) R.plan.curves;
-          rows = enrolled_curves cut_of b r tells j.faces m j.curves p.curves cr cr' C.rows_are ∙ ap (λ (n : ℕ). overlay cr (4 * j.curves) (λ i. enrolled_row cut_of j.faces b m Curve (suc (i / 4)) (i % 4)) (4 * n)) R.plan.curves;
+          links = C.links_are ∙ ap (overlay cl j.sofar.curves (λ i. 0)) R.plan.curves;
+          keys = enrolled_keys cut_of b r tells m Curve j.sofar.curves p.curves ck ck' C.keys_are ∙ ap (overlay ck j.sofar.curves _) R.plan.curves;
+          rows = enrolled_curves cut_of b r tells j.sofar.faces m j.sofar.curves p.curves cr cr' C.rows_are ∙ ap (λ (n : ℕ). overlay cr (4 * j.sofar.curves) (λ i. enrolled_row cut_of j.sofar.faces b m Curve (suc (i / 4)) (i % 4)) (4 * n)) R.plan.curves;
         };
         points = found_kept refl;
-        numbers = λ κ. numbers_kept_lem (numbered_kept j cx cy cz tk tk' (enrol_step b) p.faces p.curves 0 q A κ) refl;
+        numbers = λ κ. numbers_kept_lem (numbered_kept j cuts tk tk' (enrol_step b) added q A κ) refl;
       }
 
 -- ---- the ways of `enrol`
 
-module _ (j : Job) (cx cy cz tk bl fl cl fk ck fr cr : List ℕ) (b : ℕ) (m : List ℕ) (z : Lengths)
-    (e : z ≡ lent_lengths (length tk) (length bl) (length fl) (length cl) (length fk) (length ck) (length fr) (length cr)) (p : Plan) (J : Judged (job_of j cx cy cz) tk z b m p) where
+module _ (j : Job) (cuts : Cuts) (tk bl fl cl fk ck fr cr : List ℕ) (b : ℕ) (m : List ℕ) (z : Lengths)
+    (e : z ≡ lent_lengths (length tk) (length bl) (length fl) (length cl) (length fk) (length ck) (length fr) (length cr)) (p : Result Counts Refusal) (J : Judged (job_by j cuts) tk z b m p) where
   abbrev start : State
-  start = state_of j cx cy cz (lent_tables tk bl fl cl fk ck fr cr)
+  start = state_by j cuts (lent_tables tk bl fl cl fk ck fr cr)
 
-  refusal_told : p.refusal ≡ refusal start (enrol b m)
+  refusal_told : number_of p ≡ refusal start (enrol b m)
   refusal_told = J.told ∙ rw e (sym (refusal_is start b m))
 
-  pub enrol_refused : (p.refusal ≡ 0 → ⊥) → CallStep start (enrol b m) (answer p.refusal 0 []) start
-  enrol_refused = step_refused start (enrol b m) p.refusal refusal_told
+  pub enrol_refused : (d : Refusal) → p ≡ Err d → (r : Result Job Refusal) → IsErr r × IsErrAnd r (λ x. x ≡ d)
+      → CallStep start (enrol b m) (answer (number_of r) 0 []) (state_by (job_after j r) cuts (lent_tables tk bl fl cl fk ck fr cr))
+  enrol_refused d q (Ok k) h = absurd (true≢false (sym h.0))
+  enrol_refused d q (Err x) h =
+      step_refused start (enrol b m) (number x) (ap number h.1 ∙ rw q at refusal_told) (λ y. absurd (omega (arith, number_positive x, y)))
 
-  module _ (q : p.refusal ≡ 0) where
-    pub enrol_ready : Ready start b m p
-    enrol_ready = record { accepted = sym refusal_told ∙ q; plan = J.plan q }
+  module _ (n : Counts) (q : p ≡ Ok n) where
+    accepted_told : 0 ≡ refusal start (enrol b m)
+    accepted_told = rw q at refusal_told
+
+    pub enrol_ready : Ready start b m n
+    enrol_ready = record { accepted = sym accepted_told; plan = rw q at J.plan }
 
     pub enrol_accepted : (t : State) → EnrolDone start b m t → CallStep start (enrol b m) (answer 0 0 []) t
-    enrol_accepted t D = step_accepted start (enrol b m) p.refusal refusal_told q (answer 0 0 []) t refl (refl, D)
+    enrol_accepted t D = step_accepted start (enrol b m) 0 accepted_told refl (answer 0 0 []) t refl (refl, D)

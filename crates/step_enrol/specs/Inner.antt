@@ -2,7 +2,7 @@
 -- Assumes nothing.
 use Rattle.std.specs.Prelude.{◌≡◌, ◌⊎◌, List, [], ◌∷◌, ℕ, suc, ◌+◌, ◌-◌, ◌*◌, ◌/◌, ◌%◌, ◌≤◌, ◌<◌, get_or, length}
 use Rattle.lists.specs.Lists.{overlay}
-use Rattle.cells.specs.Box.{Triple}
+use Rattle.cells.specs.declared.Triple.{Triple}
 use Rattle.cells.specs.Grid.{cells}
 use Rattle.labels.specs.Components.{largest}
 use Rattle.cutting.specs.Cutting.{most_blocks}
@@ -12,16 +12,16 @@ use Rattle.joiner.specs.Declines.{refusal}
 use Rattle.blocks.specs.Blocks.{size_of}
 use Rattle.blocks.specs.declared.Block.{Block}
 use Rattle.pass_enrol.specs.EnrolledRows.{Lies, key_in, row_in}
-use Rattle.judge_enrol.specs.declared.Plan.{Plan}
+use Rattle.counts.specs.declared.Counts.{Counts}
 use Rattle.judge_enrol.specs.Tests.{Planned}
 
 -- What the stores require: an accepted call, and its block's largest numbers.
-pub record Ready (s : State) (b : ℕ) (m : List ℕ) (p : Plan) : Type 0 where
+pub record Ready (s : State) (b : ℕ) (m : List ℕ) (p : Counts) : Type 0 where
   pub accepted : refusal s (enrol b m) ≡ 0
   pub plan : Planned s.job b m p
 
 -- The numbers of a block, the joiner's `block_entry`.
-unfoldable pub block_numbers : Plan → ℕ → ℕ → ℕ → ℕ
+unfoldable pub block_numbers : Counts → ℕ → ℕ → ℕ → ℕ
 block_numbers p face curve i = get_or (p.faces ∷ p.curves ∷ p.points ∷ face ∷ curve ∷ []) i 0
 
 -- What the stores of one kind require, of tables by their lengths, and what they leave.

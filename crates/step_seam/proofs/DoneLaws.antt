@@ -1,7 +1,7 @@
 -- What an accepted seam step leaves is what the joiner asks for.
 -- Assumes nothing.
-use mathlib.Core.Path.{◌≡◌, refl, ap}
-use mathlib.Core.Bool.{true}
+use mathlib.Core.Path.{◌≡◌, refl, sym, ap, ◌∙◌}
+use mathlib.Core.Bool.{true, true≢false}
 use mathlib.Core.List.{List, []}
 use Prim.Native.Nat.{ℕ, ◌+◌, ◌-◌, ◌*◌, ◌≤◌, ◌<◌}
 use native.Mathlib.Nat.{le_refl}
@@ -27,27 +27,31 @@ use Rattle.pass_seam.specs.Walks.{layer_edges}
 use Rattle.pass_seam.proofs.SeamWalks.{seam_joined}
 use Rattle.blocks.specs.Blocks.{Tells, size_of}
 use Rattle.blocks.specs.declared.Block.{Block}
+use Rattle.blocks.specs.declared.Cuts.{Cuts}
+use Rattle.std.specs.Prelude.{Result, Ok, Err, IsErr, IsErrAnd}
+use Rattle.refusals.specs.declared.Refusal.{Refusal}
+use Rattle.refusals.specs.Refusals.{number, number_of}
+use Rattle.refusals.proofs.RefusalLaws.{number_positive}
 use Rattle.job.specs.declared.Job.{Job}
-use Rattle.job.specs.JobState.{by_kind, told_of, state_of}
+use Rattle.job.specs.JobState.{by_kind, job_after, job_by, no_counts, state_by}
 use Rattle.judge.specs.declared.Entry.{Entry}
 use Rattle.stages.specs.Advanced.{Advanced}
 use Rattle.judge.specs.Judge.{entry_of}
 use Rattle.stages.proofs.AdvancedLaws.{ticked_by, numbered_kept}
-use Rattle.judge.proofs.JudgeLaws.{few_of, step_refused, step_accepted}
-use Rattle.step_seam.specs.declared.Joined.{Joined}
+use Rattle.judge.proofs.JudgeLaws.{few_of, step_refused}
 use Rattle.judge_seam.specs.declared.Shared.{Shared}
 use Rattle.judge_seam.specs.Tests.{lent, SharedBy}
 use Rattle.judge_seam.proofs.TestLaws.{lower_sized, upper_sized}
 use Rattle.step_seam.specs.Inner.{Linked}
 
-module _ (j : Job) (cx cy cz ticks blocks' faces curves : List ℕ) (b c : ℕ) (m n : List ℕ) where
+module _ (j : Job) (cuts : Cuts) (ticks blocks' faces curves : List ℕ) (b c : ℕ) (m n : List ℕ) where
   abbrev pub k : Cutting
-  k = (told_of j cx cy cz).cutting
+  k = (job_by j cuts).told.cutting
 
   abbrev pub before : State
-  before = state_of j cx cy cz (lent ticks blocks' faces curves)
+  before = state_by j cuts (lent ticks blocks' faces curves)
 
-  adds_none : (κ : Kind) → adds before (join b c m n) κ ≡ by_kind 0 0 0 κ
+  adds_none : (κ : Kind) → adds before (join b c m n) κ ≡ by_kind no_counts.faces no_counts.curves no_counts.points κ
   unfolding adds
   adds_none Face = refl
   adds_none Curve = refl
@@ -59,7 +63,7 @@ module _ (j : Job) (cx cy cz ticks blocks' faces curves : List ℕ) (b c : ℕ) 
     call_facts : Passed before (join b c m n)
     call_facts = passed before (join b c m n) acc
 
-    pub seam_few : FewBlocks cx cy cz
+    pub seam_few : FewBlocks cuts.x.now cuts.y.now cuts.z.now
     seam_few = few_of k call_facts.cut
 
     pub low_sized : (r : Block) → Tells k b r → Sized 64 (size_of r)
@@ -72,16 +76,16 @@ module _ (j : Job) (cx cy cz ticks blocks' faces curves : List ℕ) (b c : ℕ) 
     unfolding block_trays
     step_in axis step e f = omega (arith, axis_bound k b c, (seam_listed k b c call_facts.placed_in).0, fits_at_lem (lent_to before.job.told before.tables (join b c m n)) 0 call_facts.lent)
 
-    pub seam_sums : (j.faces + 0 ≤ j.face_entries) × (j.curves + 0 ≤ j.curve_entries) × (j.points + 0 ≤ j.point_entries)
+    pub seam_sums : (j.sofar.faces + 0 ≤ j.entries.faces) × (j.sofar.curves + 0 ≤ j.entries.curves) × (j.sofar.points + 0 ≤ j.entries.points)
     seam_sums =
         let h : (κ : Kind) → before.job.sofar κ ≤ before.job.told.entries κ = tally_fits_lem before.job call_facts.tallies in
         (omega (arith, h Face), omega (arith, h Curve), omega (arith, h Point))
 
-    pub face_length : length faces ≡ j.face_entries
+    pub face_length : length faces ≡ j.entries.faces
     unfolding block_trays link_trays
     face_length = fits_at_lem (lent_to before.job.told before.tables (join b c m n)) 2 call_facts.lent
 
-    pub curve_length : length curves ≡ j.curve_entries
+    pub curve_length : length curves ≡ j.entries.curves
     unfolding block_trays link_trays
     curve_length = fits_at_lem (lent_to before.job.told before.tables (join b c m n)) 3 call_facts.lent
 
@@ -106,41 +110,38 @@ module _ (j : Job) (cx cy cz ticks blocks' faces curves : List ℕ) (b c : ℕ) 
           (λ p i q. omega (arith, largest_bound (block_extents k c) n p i, ap (largest (block_extents k c) n) q, U.most))
           (omega (arith, L.behind, h)) (omega (arith, U.behind, h)) xs ys J
 
-      module _ (faces' curves' : List ℕ) (K : Linked faces faces' curves curves' sh (entry_of blocks' b) (entry_of blocks' c) j.face_entries j.curve_entries m n) where
+      module _ (faces' curves' : List ℕ) (K : Linked faces faces' curves curves' sh (entry_of blocks' b) (entry_of blocks' c) j.entries.faces j.entries.curves m n) where
         faces_merged : Merged faces faces' (AtSeam k before.tables Face b c m n)
         unfolding from_of entry_of
         faces_merged =
-            merged Face 1 j.face_entries refl (faces_stand_lem before (block_extents k b) b m lower_stands) (faces_stand_lem before (block_extents k c) c n upper_stands_lem)
-            (le_refl j.face_entries) faces faces' K.of_faces
+            merged Face 1 j.entries.faces refl (faces_stand_lem before (block_extents k b) b m lower_stands) (faces_stand_lem before (block_extents k c) c n upper_stands_lem)
+            (le_refl j.entries.faces) faces faces' K.of_faces
 
         curves_merged : Merged curves curves' (AtSeam k before.tables Curve b c m n)
         unfolding from_of entry_of
         curves_merged =
-            merged Curve 2 j.curve_entries refl (curves_stand_lem before (block_extents k b) b m lower_stands) (curves_stand_lem before (block_extents k c) c n upper_stands_lem)
-            (le_refl j.curve_entries) curves curves' K.of_curves
+            merged Curve 2 j.entries.curves refl (curves_stand_lem before (block_extents k b) b m lower_stands) (curves_stand_lem before (block_extents k c) c n upper_stands_lem)
+            (le_refl j.entries.curves) curves curves' K.of_curves
 
       pub seam_done : (d g : Entry) → d ≡ entry_of blocks' b → g ≡ entry_of blocks' c → (step : ℕ) → step ≡ ticks_per_block * b + axis → (next : Job) (ticks' faces' curves' : List ℕ)
-          → Advanced j cx cy cz ticks ticks' step 0 0 0 next → Linked faces faces' curves curves' sh d g j.face_entries j.curve_entries m n
-          → SeamDone before b c m n (state_of next cx cy cz (lent ticks' blocks' faces' curves'))
+          → Advanced j cuts ticks ticks' step no_counts next → Linked faces faces' curves curves' sh d g j.entries.faces j.entries.curves m n
+          → SeamDone before b c m n (state_by next cuts (lent ticks' blocks' faces' curves'))
       unfolding seam_step
       seam_done d g p q step e next ticks' faces' curves' T K =
           let L = rw (p, q) at K in
           let A = rw (e, number_is) at T in
           record {
-            step = ticked_by j cx cy cz (lent ticks blocks' faces curves) (lent ticks' blocks' faces' curves') (join b c m n) (ticks_per_block * b + seam_axis k b c) 0 0 0 adds_none next A;
+            step = ticked_by j cuts (lent ticks blocks' faces curves) (lent ticks' blocks' faces' curves') (join b c m n) (ticks_per_block * b + seam_axis k b c) no_counts adds_none next A;
             blocks = refl;
             faces = faces_merged faces' curves' L;
             curves = curves_merged faces' curves' L;
             found = λ κ. found_kept refl;
-            numbers = λ κ. numbers_kept_lem (numbered_kept j cx cy cz ticks ticks' step 0 0 0 next T κ) refl;
+            numbers = λ κ. numbers_kept_lem (numbered_kept j cuts ticks ticks' step no_counts next T κ) refl;
           }
 
   -- ---- the public entry
 
-  module _ (number' : ℕ) (e : number' ≡ refusal before (join b c m n)) where
-    pub seam_refused : (number' ≡ 0 → ⊥) → CallStep before (join b c m n) (answer number' 0 []) before
-    seam_refused = step_refused before (join b c m n) number' e
-
-    pub seam_accepted : number' ≡ 0 → (r : Joined) (t : State) → (r.refusal ≡ 0) × SeamDone before b c m n t → CallStep before (join b c m n) (answer r.refusal 0 []) t
-    seam_accepted z r t u =
-        step_accepted before (join b c m n) number' e z (answer r.refusal 0 []) t u.0 (ap (λ (x : ℕ). answer x 0 []) u.0, u.1)
+  pub seam_refused : (d : Refusal) → number d ≡ refusal before (join b c m n) → (r : Result Job Refusal) → IsErr r × IsErrAnd r (λ x. x ≡ d)
+      → CallStep before (join b c m n) (answer (number_of r) 0 []) (state_by (job_after j r) cuts (lent ticks blocks' faces curves))
+  seam_refused d e (Ok k) h = absurd (true≢false (sym h.0))
+  seam_refused d e (Err x) h = step_refused before (join b c m n) (number x) (ap number h.1 ∙ e) (λ y. absurd (omega (arith, number_positive x, y)))

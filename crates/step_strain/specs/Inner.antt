@@ -2,11 +2,18 @@
 -- Assumes nothing.
 use Rattle.std.specs.Prelude.{List, ℕ, ◌<◌, length, set, Float}
 use Rattle.cutting.specs.Cutting.{Cutting, block_extents}
+use Rattle.blocks.specs.declared.Cuts.{Cuts}
+use Rattle.job.specs.declared.Job.{Job}
+use Rattle.job.specs.JobState.{job_by}
 use Rattle.judge.specs.Judge.{entry_of}
 use Rattle.totals.specs.Totals.{Taken, sums_with, counts_with}
 use Rattle.lowest.specs.Lowest.{starts}
 use Rattle.pass_strain.specs.BlockReadings.{brought, block_taken, Whole}
 use Rattle.strain_calls.specs.Tables.{TotalTables, total_tables}
+
+-- The cutting of a job with lent cut lists.
+abbrev pub cutting_of : Job → Cuts → Cutting
+cutting_of j c = (job_by j c).told.cutting
 
 -- What an accepted step brings: lists of the block's sizes, and a place for its tick.
 pub record Ready (k : Cutting) (came : List ℕ) (b : ℕ) (m : List ℕ) (values : List Float) (kinds : List ℕ) : Type 0 where

@@ -9,11 +9,12 @@ use Rattle.joiner.specs.Job as joiner
 use Rattle.joiner.specs.Stages.{crossing_step}
 use Rattle.pass_cross.specs.CrossEdges.{cross_edges, Trays, Crossed}
 use Rattle.kind_numbers.specs.Numbered.{Numbered, AnyCopied, AnyCurves}
+use Rattle.blocks.specs.declared.Cuts.{Cuts}
 use Rattle.job.specs.declared.Job.{Job}
-use Rattle.job.specs.JobState.{told_of}
+use Rattle.job.specs.JobState.{job_by, no_counts}
 use Rattle.stages.specs.Advanced.{Advanced}
 use Rattle.judge.specs.Judge.{entry_of}
-use Rattle.store_cross.specs.declared.Totals.{Totals}
+use Rattle.counts.specs.declared.Counts.{Counts}
 
 -- The edges that the crossing of block b joins.
 abbrev pub edges_of : Cutting → List ℕ → List ℕ → ℕ → List ℕ → List Edge
@@ -29,9 +30,9 @@ pub record TalliesFit (j : joiner.Job) : Type 0 where
   pub each : (κ : joiner.Kind) → j.sofar κ ≤ j.told.entries κ
 
 -- The step is ticked and the block's curves are joined.
-pub record CurvesJoined (j : Job) (cx cy cz ticks ticks' table faces faces' curves curves' : List ℕ) (b : ℕ) (m : List ℕ) (r : Job) : Type 0 where
-  pub moved : Advanced j cx cy cz ticks ticks' (crossing_step b) 0 0 0 r
-  pub crossed : Crossed faces faces' curves curves' (edges_of (told_of j cx cy cz).cutting table faces b m)
+pub record CurvesJoined (j : Job) (c : Cuts) (ticks ticks' table faces faces' curves curves' : List ℕ) (b : ℕ) (m : List ℕ) (r : Job) : Type 0 where
+  pub moved : Advanced j c ticks ticks' (crossing_step b) no_counts r
+  pub crossed : Crossed faces faces' curves curves' (edges_of (job_by j c).told.cutting table faces b m)
 
 -- n components of a kind with rows of w places have room in tables of these lengths.
 pub record KindRoom (w n keys numbers firsts listed : ℕ) : Type 0 where
@@ -41,6 +42,6 @@ pub record KindRoom (w n keys numbers firsts listed : ℕ) : Type 0 where
   pub on_listed : w * n ≤ listed
 
 -- Faces and curves are numbered, the curves' rows by the faces' new numbers.
-pub record BothNumbered (fl cl fk ck fr cr fn fn' cn cn' ff ff' cf cf' fs fs' cs cs' : List ℕ) (faces curves : ℕ) (r : Totals) : Type 0 where
+pub record BothNumbered (fl cl fk ck fr cr fn fn' cn cn' ff ff' cf cf' fs fs' cs cs' : List ℕ) (faces curves : ℕ) (r : Counts) : Type 0 where
   pub of_faces : AnyCopied fl fk fr 2 (λ t κ. Numbered t κ faces r.faces fn fn' ff ff' fs fs')
   pub of_curves : AnyCurves cl ck cr fn' (λ t. Numbered t Curve curves r.curves cn cn' cf cf' cs cs')

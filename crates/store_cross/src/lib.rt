@@ -2,11 +2,11 @@
 #![tactic(auto)]
 
 ghost use Rattle.std.specs.Prelude.{length};
-ghost use Rattle.blocks.specs.Blocks.{cut_of};
-ghost use Rattle.job.specs.JobState.{job_of};
+ghost use Rattle.job.specs.JobState.{job_by};
 ghost use Rattle.store_cross.specs.Stores.{JoinReady, TalliesFit, CurvesJoined, KindRoom, BothNumbered};
 
-use blocks::block_at;
+use blocks::Cuts;
+use counts::Counts;
 use job::Job;
 use judge::entry_of;
 use judge_cross::step_of;
@@ -14,19 +14,11 @@ use kind_numbers::{number_copied, number_curves};
 use pass_cross::cross_cells;
 use stages::advance;
 
-// How many faces and curves there are once numbered.
-#[derive(Clone, Copy)]
-pub struct Totals {
-    pub faces: u32,
-    pub curves: u32,
-}
-
 // Ticks the step and joins the block's curves. Not an entry.
+#[tactic(auto, using(crate::proofs::StoreLaws::cross_trays, crate::proofs::StoreLaws::joined_by))]
 pub fn join_curves(
     job: Job,
-    cx: &[u32],
-    cy: &[u32],
-    cz: &[u32],
+    cuts: &Cuts,
     ticks: &mut [u32],
     table: &[u32],
     face_links: &mut [u32],
@@ -34,19 +26,22 @@ pub fn join_curves(
     b: u32,
     m: &[u32],
 ) -> Job
-    requires { JoinReady (cut_of job.nx job.ny job.nz cx.now cy.now cz.now) ticks.old table.now face_links.old curve_links.old b m.now
-        × TalliesFit (job_of job cx.now cy.now cz.now) }
-    ensures { CurvesJoined job cx.now cy.now cz.now ticks.old ticks.new table.now
+    requires { JoinReady (job_by job cuts.now).told.cutting ticks.old table.now face_links.old curve_links.old b m.now
+        × TalliesFit (job_by job cuts.now) }
+    ensures { CurvesJoined job cuts.now ticks.old ticks.new table.now
         face_links.old face_links.new curve_links.old curve_links.new b m.now result }
 {
-    let here = block_at(cx, cy, cz, b as usize);
+    let here = cuts.block_at(b as usize);
     let entry = entry_of(table, b);
-    let next = advance(job, ticks, cx, cy, cz, step_of(b), 0, 0, 0);
+    let none = Counts {
+        faces: 0,
+        curves: 0,
+        points: 0,
+    };
+    let next = advance(job, ticks, cuts, step_of(b), none);
     cross_cells(
         m,
-        here.nx,
-        here.ny,
-        here.nz,
+        here.size,
         1,
         face_links,
         entry.face_from,
@@ -56,7 +51,9 @@ pub fn join_curves(
     next
 }
 
-// Numbers the faces, then the curves by the faces' numbers. Not an entry.
+// Numbers the faces, then the curves by the faces' numbers, and answers how many of each there are once numbered. Not an entry.
+// Kept: the tables of a kind apart, since a struct of the six would be no plainer: `accept` of step_cross would build it, only for it to be
+// taken apart here for `number_copied` and `number_curves`.
 pub fn number_both(
     links_of_faces: &[u32],
     links_of_curves: &[u32],
@@ -72,7 +69,7 @@ pub fn number_both(
     curve_listed: &mut [u32],
     faces: u32,
     curves: u32,
-) -> Totals
+) -> Counts
     requires kind_room { KindRoom 2 faces (length keys_of_faces.now) (length face_numbers.old) (length face_firsts.old) (length face_listed.old) }
     requires kind_room_2 { KindRoom 4 curves (length keys_of_curves.now) (length curve_numbers.old) (length curve_firsts.old) (length curve_listed.old) }
     ensures { BothNumbered links_of_faces.now links_of_curves.now keys_of_faces.now keys_of_curves.now face_rows.now curve_rows.now
@@ -80,7 +77,7 @@ pub fn number_both(
         face_firsts.old face_firsts.new curve_firsts.old curve_firsts.new
         face_listed.old face_listed.new curve_listed.old curve_listed.new faces curves result }
 {
-    let f = number_copied(
+    let faces = number_copied(
         links_of_faces,
         keys_of_faces,
         face_rows,
@@ -90,7 +87,7 @@ pub fn number_both(
         face_listed,
         faces,
     );
-    let c = number_curves(
+    let curves = number_curves(
         links_of_curves,
         keys_of_curves,
         curve_rows,
@@ -100,8 +97,9 @@ pub fn number_both(
         curve_listed,
         curves,
     );
-    Totals {
-        faces: f,
-        curves: c,
+    Counts {
+        faces,
+        curves,
+        points: 0,
     }
 }

@@ -4,7 +4,8 @@ use mathlib.Core.Path.{◌≡◌}
 use mathlib.Core.Bool.{Bool, false, true}
 use borrow.Author.Tests.{not-false}
 use Rattle.lists.proofs.Cases.{and_first, and_second}
-use Rattle.refusals.specs.Refusals.{Refusal, unfit_size, bad_cut, unfit_tray, number, table, first, given_by, stands_in}
+use Rattle.refusals.specs.declared.Refusal.{Refusal}
+use Rattle.refusals.specs.Refusals.{number, table, first, given_by, stands_in}
 use Rattle.refusals.proofs.RefusalLaws.{given_none}
 use Rattle.cells.specs.Extents.{off_size}
 use Rattle.cutting.specs.Cutting.{good_cut}
@@ -28,8 +29,8 @@ module _ (o : Told) (lent : Tables) (w : TotalTables) (r : opening_refusal o len
   opening_passed : (off_size 1024 o.cutting.extents ≡ false) × (good_cut o.cutting ≡ true) × (joined_fit ≡ true) × (totals_fit ≡ true)
   unfolding opening_declines stands_in number
   opening_passed =
-      let fit = not-false _ (none_stands unfit_tray) in
-      (none_stands unfit_size, not-false _ (none_stands bad_cut), and_first joined_fit totals_fit fit, and_second joined_fit totals_fit fit)
+      let fit = not-false _ (none_stands Refusal.WrongTray) in
+      (none_stands Refusal.OffSize, not-false _ (none_stands Refusal.BadCut), and_first joined_fit totals_fit fit, and_second joined_fit totals_fit fit)
 
   -- The joiner's refusals do not stand either, and the tables of the readings have the stated lengths.
   pub opening_fits : (open_refusal o lent ≡ 0) × (lengths_fit (total_trays o w) ≡ true)

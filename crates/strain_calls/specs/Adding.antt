@@ -2,7 +2,8 @@
 -- Assumes nothing.
 use Rattle.std.specs.Prelude.{Bool, cond, List, [], ◌∷◌, ◌++◌, ℕ, eqb, get_or, Float}
 use Rattle.lists.specs.Lists.{keep}
-use Rattle.cells.specs.Box.{Triple, place}
+use Rattle.cells.specs.Box.{place}
+use Rattle.cells.specs.declared.Triple.{Triple}
 use Rattle.cells.specs.Grid.{sides, upper_neighbours, voxel}
 use Rattle.cells.specs.Row.{row}
 use Rattle.labels.specs.Components.{of_order}

@@ -2,7 +2,8 @@
 -- Assumes nothing.
 use Rattle.std.specs.Prelude.{Bool, not, ◌&&◌, List, [], ◌∷◌, ◌++◌, ℕ, ◌*◌, eqb, get_or, length}
 use Rattle.lists.specs.Lists.{consecutive, all_of}
-use Rattle.refusals.specs.Refusals.{unfit_size, bad_cut, wrong_stage, no_such_place, done_already, unfit_tray, stray_label, unfit_reading, Case, ◌if◌, given_refusal}
+use Rattle.refusals.specs.declared.Refusal.{Refusal}
+use Rattle.refusals.specs.Refusals.{Case, ◌if◌, given_refusal}
 use Rattle.cells.specs.Extents.{off_size}
 use Rattle.cells.specs.Grid.{cells}
 use Rattle.cutting.specs.Cutting.{Cutting, blocks, block_extents, good_cut}
@@ -18,8 +19,8 @@ use Rattle.strain_calls.specs.Calls.{StrainCall, strain, total, in_stage, has_pl
 -- "1 off size", "2 bad cut", "6 wrong tray", of the tables of the readings too.
 unfoldable pub opening_declines : Told → Tables → TotalTables → List Case
 opening_declines o t w =
-    unfit_size if off_size 1024 o.cutting.extents ∷ bad_cut if not (good_cut o.cutting) ∷
-    unfit_tray if not (lengths_fit (all_trays o t) && lengths_fit (total_trays o w)) ∷ []
+    Refusal.OffSize if off_size 1024 o.cutting.extents ∷ Refusal.BadCut if not (good_cut o.cutting) ∷
+    Refusal.WrongTray if not (lengths_fit (all_trays o t) && lengths_fit (total_trays o w)) ∷ []
 
 -- What is given, 0 for none.
 unfoldable pub opening_refusal : Told → Tables → TotalTables → ℕ
@@ -56,14 +57,14 @@ strain_stands s w (total n) = total_stands s.job.told.cutting w n
 -- The cases of the two calls. A total gives no 5 and no 12.
 unfoldable pub strain_declines : State → TotalTables → StrainCall → List Case
 strain_declines s w c =
-    unfit_size if off_size 1024 s.job.told.cutting.extents ∷
-    bad_cut if not (good_cut s.job.told.cutting) ∷
-    wrong_stage if not (in_stage s.job.told.cutting s.job.stage (has_come w) c) ∷
-    no_such_place if not (has_place s.job.told.cutting (s.job.numbered Face) c) ∷
-    done_already if again (has_come w) c ∷
-    unfit_tray if not (lists_fit s.job.told.cutting c && lengths_fit (lent_for s.job.told s.tables w c)) ∷
-    stray_label if not (tallies_fit s.job && strain_stands s w c) ∷
-    unfit_reading if bad_reading c ∷
+    Refusal.OffSize if off_size 1024 s.job.told.cutting.extents ∷
+    Refusal.BadCut if not (good_cut s.job.told.cutting) ∷
+    Refusal.WrongStage if not (in_stage s.job.told.cutting s.job.stage (has_come w) c) ∷
+    Refusal.NoSuchPlace if not (has_place s.job.told.cutting (s.job.numbered Face) c) ∷
+    Refusal.DoneAlready if again (has_come w) c ∷
+    Refusal.WrongTray if not (lists_fit s.job.told.cutting c && lengths_fit (lent_for s.job.told s.tables w c)) ∷
+    Refusal.StrayLabel if not (tallies_fit s.job && strain_stands s w c) ∷
+    Refusal.BadReading if bad_reading c ∷
     []
 
 -- The number with which a call is refused, 0 where it is accepted.

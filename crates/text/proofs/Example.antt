@@ -1,4 +1,4 @@
--- The example of document 01, and a volume that is all outside (document 02, item 4), computed.
+-- The example that comes with the listing, and a volume that is all outside, computed.
 -- Assumes nothing.
 use mathlib.Core.Path.{◌≡◌, refl}
 use mathlib.Core.List.{List, [], ◌∷◌, ◌++◌}

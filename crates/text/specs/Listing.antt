@@ -1,9 +1,10 @@
--- The text that the listing program prints (document 01, "Volumes to try"). A text is its bytes, in ASCII.
+-- The text that the listing program prints. A text is its bytes, in ASCII.
 -- Assumes nothing.
 use Rattle.std.specs.Prelude.{cond, List, [], ◌∷◌, ◌++◌, ℕ, ◌-◌, ◌*◌, eqb, get_or, take}
 use Rattle.lists.specs.Lists.{consecutive}
 use Rattle.decimals.specs.Decimals.{decimal_digits}
-use Rattle.cells.specs.Box.{Triple, place}
+use Rattle.cells.specs.Box.{place}
+use Rattle.cells.specs.declared.Triple.{Triple}
 use Rattle.cells.specs.Grid.{sides}
 use Rattle.labels.specs.Number.{labels}
 use Rattle.labels.specs.Components.{largest, first_cell, component_row}

@@ -1,9 +1,11 @@
--- What the listing program is asked (document 01, "Volumes to try"): "three extents (each at most 8) and the codes, exactly as many as
+-- What the listing program is asked: "three extents (each at most 8) and the codes, exactly as many as
 -- voxels", and when the text is refused.
 -- Assumes nothing.
 use Rattle.std.specs.Prelude.{Bool, true, not, ◌&&◌, List, [], ◌∷◌, map, ℕ, eqb, leb, length, get_or, drop}
-use Rattle.refusals.specs.Refusals.{unfit_size, bad_record, Case, ◌if◌, given_refusal}
-use Rattle.cells.specs.Box.{Triple, triple, volume}
+use Rattle.refusals.specs.declared.Refusal.{Refusal}
+use Rattle.refusals.specs.Refusals.{Case, ◌if◌, given_refusal}
+use Rattle.cells.specs.Box.{triple, volume}
+use Rattle.cells.specs.declared.Triple.{Triple}
 use Rattle.cells.specs.Extents.{off_size}
 use Rattle.text.specs.Words.{words_of, is_number, spelled}
 
@@ -31,9 +33,9 @@ codes_in ws = map spelled (drop 3 ws)
 unfoldable pub formed : List (List ℕ) → Bool
 formed ws = numbers ws && (leb 3 (length ws) && eqb (length (drop 3 ws)) (volume (extents_in ws)))
 
--- The cases of a text: 1 where the extents can be read and are off size, 11 for any other text that has not its form. A code 0 is a code (document 02, item 4).
+-- The cases of a text: 1 where the extents can be read and are off size, 11 for any other text that has not its form. A code 0 is a code: it is outside.
 unfoldable pub declines_text : List (List ℕ) → List Case
-declines_text ws = unfit_size if (readable ws && off_size 8 (extents_in ws)) ∷ bad_record if not (formed ws) ∷ []
+declines_text ws = Refusal.OffSize if (readable ws && off_size 8 (extents_in ws)) ∷ Refusal.BadRecord if not (formed ws) ∷ []
 
 -- The refusal of a text, 0 for none.
 unfoldable pub text_refusal : List ℕ → ℕ

@@ -1,4 +1,4 @@
--- The words of a text and the numbers among them (document 01, "Volumes to try"): numbers "of 1 to 10 decimal digits and below 2^32,
+-- The words of a text and the numbers among them: numbers "of 1 to 10 decimal digits and below 2^32,
 -- parted by one or more spaces or line ends, which may also stand first and last". A text is its bytes.
 -- Assumes nothing.
 use Rattle.std.specs.Prelude.{Bool, true, cond, ◌&&◌, ◌||◌, List, [], ◌∷◌, ◌++◌, ℕ, ◌+◌, ◌-◌, ◌*◌, ◌^◌, eqb, leb, ltb, length}

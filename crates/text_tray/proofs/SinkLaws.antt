@@ -49,9 +49,9 @@ module _ (k a : ℕ) (t : List ℕ) (b : ℕ) where
   unfolding sunk sunk_byte
   put_skipped h = rw (ne_eqb k 0 (λ e. omega arith))
 
-  pub put_in : k ≤ 0 → a < length t → at_state 0 (a + 1) (set t a b) ≡ sunk (at_state k a t) (b ∷ [])
+  pub put_in : k ≤ 0 → a < length t → at_state k (a + 1) (set t a b) ≡ sunk (at_state k a t) (b ∷ [])
   unfolding sunk sunk_byte
-  put_in h i = rw (eq-eqb k 0 (omega arith), lt-ltb a (length t) i)
+  put_in h i = let z : k ≡ 0 = omega arith in rw (z, lt-ltb a (length t) i)
 
   pub put_full : k ≤ 0 → length t ≤ a → at_state k a t ≡ sunk (at_state k a t) (b ∷ [])
   unfolding sunk sunk_byte
@@ -88,8 +88,8 @@ filled (b ∷ bs) a t =
     let d : length t - a ≡ 0 = omega arith in
     rw h (filled bs a t ∙ rw d))
 
-take_min : (n : ℕ) (l : List ℕ) → take n l ≡ take (min n (length l)) l
-take_min n l =
+take_least : (n : ℕ) (l : List ℕ) → take n l ≡ take (min n (length l)) l
+take_least n l =
     by_test (ltb n (length l))
     (λ h. let i = ltb-true n (length l) h in let j : n ≤ length l = omega arith in rw (min-eq_left j))
     (λ h. let i = ltb-false n (length l) h in rw (min-eq_right i) (take_all n l i ∙ sym (take_all (length l) l (omega arith))))
@@ -104,7 +104,7 @@ module _ (text t : List ℕ) (k : ℕ) where
 
   fit_is : fit ≡ take (fitting k text (length t)) (drop k text)
   unfolding fitting
-  fit_is = take_min (length t) (drop k text) ∙ rw (length-drop k text)
+  fit_is = take_least (length t) (drop k text) ∙ rw (length-drop k text)
 
   whole_text_lem : sunk (at_state 0 0 t) (drop k text) ≡ at_state 0 (0 + length fit) (sets t 0 fit)
   whole_text_lem = let z : length t - 0 ≡ length t = omega arith in rw z at (filled (drop k text) 0 t)

@@ -8,8 +8,12 @@ pub record State : Type 0 where
   pub at : ℕ
   pub tray : List ℕ
 
-abbrev pub state : Sink → List ℕ → State
-state s t = record { skip = s.skip; at = s.at; tray = t }
+abbrev pub state : Sink → State
+state s = record { skip = s.skip; at = s.at; tray = s.tray.now }
+
+-- Before the first byte.
+abbrev pub begun : ℕ → List ℕ → State
+begun from t = record { skip = from; at = 0; tray = t }
 
 -- A byte is passed over, or goes into the tray where there is room.
 unfoldable pub sunk_byte : State → ℕ → State

@@ -1,86 +1,93 @@
 // Words and numbers put into a tray of bytes: the part of a text from any place on, as much as the tray holds. None of the functions is an entry.
 #![tactic(auto)]
 
-ghost use Rattle.std.specs.Prelude.{◌≡◌, [], ◌∷◌, ◌++◌, ◌+◌, ◌<◌};
+ghost use Rattle.std.specs.Prelude.{◌≡◌, [], ◌∷◌, ◌++◌};
 ghost use Rattle.decimals.specs.Decimals.{decimal_digits};
 ghost use Rattle.text.specs.Listing.{spaced};
-ghost use Rattle.text_tray.specs.Sunk.{state, sunk};
+ghost use Rattle.text_tray.specs.Sunk.{begun, state, sunk};
 
-const SPACE: u8 = 32;
-
-// How many bytes of the text still stand before the part that is asked for, and how many are in the tray.
-#[derive(Clone, Copy)]
-pub struct Sink {
+// A tray that takes a text from any place of it on: how many bytes of the text still stand before that place, and how many are in the tray.
+#[derive(Drop)]
+pub struct Sink<'a> {
     pub skip: usize,
     pub at: usize,
+    pub tray: &'a mut [u8],
 }
 
-// Puts a byte.
-pub fn put(s: Sink, out: &mut [u8], b: u8) -> Sink
-    ensures { state result out.new ≡ sunk (state s out.old) (b ∷ []) }
-{
-    let skip = s.skip;
-    let at = s.at;
-    if skip > 0 {
-        return Sink {
-            skip: skip - 1,
-            at: at,
-        };
+impl<'a> Sink<'a> {
+    // Before the first byte of the text.
+    pub fn new(skip: usize, tray: &'a mut [u8]) -> Sink<'a>
+        ensures begun { state result ≡ begun skip tray.old }
+        ensures same_tray { result.tray.ghost_name ≡ tray.entry.ghost_name }
+    {
+        Sink { skip, at: 0, tray }
     }
-    if at < out.len() {
-        out[at] = b;
-        return Sink {
-            skip: 0,
-            at: at + 1,
-        };
+
+    // Puts a byte.
+    #[tactic(auto, using(crate::proofs::SinkLaws::put_skipped, crate::proofs::SinkLaws::put_in, crate::proofs::SinkLaws::put_full))]
+    pub fn put(&mut self, b: u8)
+        ensures put { state self.new ≡ sunk (state self.old) (b ∷ []) }
+        ensures same_tray { self.new.tray.ghost_name ≡ self.old.tray.ghost_name }
+    {
+        if self.skip > 0 {
+            self.skip -= 1;
+        } else if self.at < self.tray.len() {
+            self.tray[self.at] = b;
+            self.at += 1;
+        }
     }
-    s
-}
 
-// Puts a word.
-pub fn put_word(s: Sink, out: &mut [u8], word: &[u8]) -> Sink
-    ensures { state result out.new ≡ sunk (state s out.old) word.now }
-{
-    let mut t = s;
-    let mut i: usize = 0;
-    while i < word.len() {
-        t = put(t, out, word[i]);
-        i += 1;
+    // Puts a word.
+    #[tactic(auto, using(crate::proofs::SinkLaws::sunk_none, crate::proofs::SinkLaws::word_next, crate::proofs::SinkLaws::word_all))]
+    pub fn put_word(&mut self, word: &[u8])
+        ensures put { state self.new ≡ sunk (state self.old) word.now }
+        ensures same_tray { self.new.tray.ghost_name ≡ self.old.tray.ghost_name }
+    {
+        for b in word {
+            self.put(*b);
+        }
     }
-    t
-}
 
-// Puts a digit.
-fn put_digit(s: Sink, out: &mut [u8], d: u32) -> Sink
-    requires { d < 10 }
-    ensures { state result out.new ≡ sunk (state s out.old) ((48 + d) ∷ []) }
-{
-    put(s, out, (48 + d) as u8)
-}
-
-// Puts a number: the digits before the last, and the last.
-fn put_decimal(s: Sink, out: &mut [u8], n: u32) -> Sink
-    ensures { state result out.new ≡ sunk (state s out.old) (decimal_digits n) }
-{
-    if n < 10 {
-        return put_digit(s, out, n);
+    // Puts a number: the digits before the last, and the last.
+    // Kept: no `write!`, whose contract allows an error: the clauses here and of `print_listing` say what is put at every call.
+    fn put_decimal(&mut self, n: u32)
+        ensures put { state self.new ≡ sunk (state self.old) (decimal_digits n) }
+        ensures same_tray { self.new.tray.ghost_name ≡ self.old.tray.ghost_name }
+    {
+        if n >= 10 {
+            self.put_decimal(n / 10);
+        }
+        self.put(b'0' + (n % 10) as u8);
     }
-    let t = put_decimal(s, out, n / 10);
-    put_digit(t, out, n % 10)
-}
 
-// Puts a number after a space.
-pub fn put_spaced(s: Sink, out: &mut [u8], n: u32) -> Sink
-    ensures { state result out.new ≡ sunk (state s out.old) (spaced (n ∷ [])) }
-{
-    let t = put(s, out, SPACE);
-    put_decimal(t, out, n)
-}
+    // Puts a number after a space.
+    #[tactic(auto, using(crate::proofs::NumberLaws::spaced_put))]
+    pub fn put_spaced(&mut self, n: u32)
+        ensures put { state self.new ≡ sunk (state self.old) (spaced (n ∷ [])) }
+        ensures same_tray { self.new.tray.ghost_name ≡ self.old.tray.ghost_name }
+    {
+        self.put(b' ');
+        self.put_decimal(n);
+    }
 
-// Puts a word and a number after it.
-pub fn put_count(s: Sink, out: &mut [u8], word: &[u8], n: u32) -> Sink
-    ensures { state result out.new ≡ sunk (state s out.old) (word.now ++ spaced (n ∷ [])) }
-{
-    let t = put_word(s, out, word);
-    put_spaced(t, out, n)
+    // Puts numbers, each after a space.
+    #[tactic(auto, using(crate::proofs::NumberLaws::row_start, crate::proofs::NumberLaws::row_next, crate::proofs::NumberLaws::row_all))]
+    pub fn put_all(&mut self, ns: &[u32])
+        ensures put { state self.new ≡ sunk (state self.old) (spaced ns.now) }
+        ensures same_tray { self.new.tray.ghost_name ≡ self.old.tray.ghost_name }
+    {
+        for n in ns {
+            self.put_spaced(*n);
+        }
+    }
+
+    // Puts a word and a number after it.
+    #[tactic(auto, using(crate::proofs::SinkLaws::sunk_then))]
+    pub fn put_count(&mut self, word: &[u8], n: u32)
+        ensures put { state self.new ≡ sunk (state self.old) (word.now ++ spaced (n ∷ [])) }
+        ensures same_tray { self.new.tray.ghost_name ≡ self.old.tray.ghost_name }
+    {
+        self.put_word(word);
+        self.put_spaced(n);
+    }
 }

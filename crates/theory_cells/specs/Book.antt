@@ -1,8 +1,10 @@
 -- The day book on the two calls about lists of cells (document 02, item 12): what is refused and answered, from what the calls bring, never job or tables.
 -- Assumes nothing.
 use Rattle.std.specs.Prelude.{Bool, true, not, ◌&&◌, List, [], ◌∷◌, ℕ, eqb, get_or}
-use Rattle.refusals.specs.Refusals.{wrong_stage, no_such_place, unfit_tray, Case, ◌if◌, given_refusal}
-use Rattle.cells.specs.Box.{Triple, index}
+use Rattle.refusals.specs.declared.Refusal.{Refusal}
+use Rattle.refusals.specs.Refusals.{Case, ◌if◌, given_refusal}
+use Rattle.cells.specs.Box.{index}
+use Rattle.cells.specs.declared.Triple.{Triple}
 use Rattle.cells.specs.Grid.{sides}
 use Rattle.cells.specs.Row.{same_row}
 use Rattle.joiner.specs.Job.{Closed, same_stage}
@@ -14,9 +16,9 @@ use Rattle.cell_calls.specs.Outcomes.{listed_in, filled_by}
 -- 3, 4 and 6 go by the book, whatever map is brought. It gives no other.
 unfoldable pub cell_book_declines : Book → CellCall → List Case
 cell_book_declines B c =
-    wrong_stage if not (same_stage B.stage Closed) ∷
-    no_such_place if not (cells_placed B.told.cutting c) ∷
-    unfit_tray if not (lists_fit B.told.cutting c) ∷
+    Refusal.WrongStage if not (same_stage B.stage Closed) ∷
+    Refusal.NoSuchPlace if not (cells_placed B.told.cutting c) ∷
+    Refusal.WrongTray if not (lists_fit B.told.cutting c) ∷
     []
 
 -- What is given, 0 for none.

@@ -8,12 +8,13 @@ use Prim.Native.Nat.{ℕ}
 use native.Mathlib.Omega.{arith}
 use Rattle.lists.specs.Lists.{is_in}
 use Rattle.lists.proofs.Tests.{is_in_lem}
-use Rattle.refusals.specs.Refusals.{blank_voxel, number, given_refusal, listed_numbers}
+use Rattle.refusals.specs.declared.Refusal.{Refusal}
+use Rattle.refusals.specs.Refusals.{number, given_refusal, listed_numbers}
 use Rattle.refusals.proofs.RefusalLaws.{given_listed, outcome_refusal}
-use Rattle.cells.specs.Box.{Triple}
+use Rattle.cells.specs.declared.Triple.{Triple}
 use Rattle.labeller.specs.Labelling as labeller
 use Rattle.labeller.proofs.OneBlock.{label_refusal}
-use Rattle.maxima.specs.declared.Most.{Most}
+use Rattle.counts.specs.Counts.{Counted}
 use Rattle.maxima.specs.Maxima as maxima
 use Rattle.writer.specs.Writing as writer
 use Rattle.reader.specs.Loaded as reader
@@ -24,13 +25,12 @@ use Rattle.strain_calls.specs.Declines.{opening_declines, opening_refusal, strai
 use Rattle.cell_calls.specs.Declines.{cell_declines, cell_refusal}
 use Rattle.cell_calls.proofs.AnswerLaws.{step_told}
 use Rattle.text.specs.Request.{declines_text, text_refusal, asked_extents}
-use Rattle.parser.specs.declared.Task.{Task}
-use Rattle.parser.specs.Asked.{task_of}
+use Rattle.parser.specs.Asked.{Task, task_of}
 use Rattle.parser.proofs.TextLaws.{text_read}
 use Rattle.theory_refusals.specs.PublicCalls.{PublicCall, label, most_components, write_record, read_record, print_layer, opening, call, about_readings, about_cells, program, cases_of, Answers}
 
 -- 7 is on no list.
-pub seven_unlisted : (a : PublicCall) → is_in (listed_numbers (cases_of a)) (number blank_voxel) ≡ false
+pub seven_unlisted : (a : PublicCall) → is_in (listed_numbers (cases_of a)) (number Refusal.BlankVoxel) ≡ false
 unfolding is_in listed_numbers number cases_of labeller.declines maxima.declines writer.declines reader.declines layer_printer.declines opening_declines joiner.declines strain_declines cell_declines declines_text
 seven_unlisted (label e codes m w) = refl
 seven_unlisted (most_components e) = refl
@@ -56,7 +56,7 @@ task_shown n e = outcome_refusal shown n refl refl refl
 pub answers_cases : (a : PublicCall) (n : ℕ) → Answers a n → n ≡ given_refusal (cases_of a)
 unfolding cases_of labeller.refusal_of maxima.most_components maxima.accepted maxima.refused maxima.refusal_of writer.writing writer.accepted writer.refused writer.refusal_of reader.reading reader.accepted reader.refused reader.refusal_of layer_printer.refusal_of opening_refusal joiner.refusal strain_refusal cell_refusal text_refusal
 answers_cases (label e codes m w) n (r, m', w', p, i) = i ∙ label_refusal e codes m w r m' w' p
-answers_cases (most_components e) n (r, p, i) = i ∙ outcome_refusal (λ (a : Most). a.refusal) _ refl refl p
+answers_cases (most_components e) n (r, p, i) = i ∙ outcome_refusal (λ (a : Counted). a.refusal) _ refl refl p
 answers_cases (write_record e o m t) n (r, t', p, i) = i ∙ outcome_refusal (λ (a : writer.Outcome). a.answer.refusal) _ refl refl p
 answers_cases (read_record b t) n (r, t', p, i) = i ∙ outcome_refusal (λ (a : reader.Outcome). a.answer.refusal) _ refl refl p
 answers_cases (print_layer e z m t) n (t', p) = print_refusal e z m t t' n p

@@ -2,14 +2,13 @@
 -- Assumes nothing.
 use Rattle.std.specs.Prelude.{◌≡◌, List, ℕ, length}
 use Rattle.refusals.specs.Refusals.{Case}
-use Rattle.cells.specs.Box.{Triple}
-use Rattle.labeller.specs.declared.Labelled.{Labelled}
+use Rattle.cells.specs.declared.Triple.{Triple}
+use Rattle.counts.specs.Counts.{Counted}
 use Rattle.labeller.specs.Labelling as labeller
-use Rattle.maxima.specs.declared.Most.{Most}
 use Rattle.maxima.specs.Maxima as maxima
-use Rattle.writer.specs.declared.Written.{Written}
+use Rattle.writer.specs.Writing.{Written}
 use Rattle.writer.specs.Writing as writer
-use Rattle.reader.specs.declared.Head.{Head}
+use Rattle.reader.specs.Loaded.{Told as Heading}
 use Rattle.reader.specs.Loaded as reader
 use Rattle.layer_printer.specs.Printing as layer_printer
 use Rattle.joiner.specs.Job.{Told, Tables, State}
@@ -25,9 +24,8 @@ use Rattle.cell_calls.specs.Declines.{cell_declines}
 use Rattle.cell_calls.specs.Outcomes.{CellStep}
 use Rattle.text.specs.Words.{words_of}
 use Rattle.text.specs.Request.{declines_text}
-use Rattle.parser.specs.declared.Task.{Task}
 use Rattle.parser.specs.Scanning.{state, begun, after}
-use Rattle.parser.specs.Asked.{finished}
+use Rattle.parser.specs.Asked.{Task, finished}
 
 pub data PublicCall : Type 0 where
   -- extents, codes, map and working tray
@@ -66,10 +64,10 @@ cases_of (program t) = declines_text (words_of t)
 -- n is the number with which it is answered, 0 for no refusal: what is left and answered is as the `ensures` of the public entry says, and n is its refusal.
 -- Of the program, once it has read the text to its end, the number of the line `refused` that it is to print.
 abbrev pub Answers : PublicCall → ℕ → Type 0
-Answers (label e codes m w) n = (r : Labelled) × (m' : List ℕ) × (w' : List ℕ) × (labeller.outcome r m' w' ≡ labeller.labelling e codes m w) × (n ≡ r.refusal)
-Answers (most_components e) n = (r : Most) × (r ≡ maxima.most_components e) × (n ≡ r.refusal)
+Answers (label e codes m w) n = (r : Counted) × (m' : List ℕ) × (w' : List ℕ) × (labeller.outcome r m' w' ≡ labeller.labelling e codes m w) × (n ≡ r.refusal)
+Answers (most_components e) n = (r : Counted) × (r ≡ maxima.most_components e) × (n ≡ r.refusal)
 Answers (write_record e o m t) n = (r : Written) × (t' : List ℕ) × (writer.outcome r t' ≡ writer.writing e o m t) × (n ≡ r.refusal)
-Answers (read_record b t) n = (r : Head) × (t' : List ℕ) × (reader.outcome r t' ≡ reader.reading b t) × (n ≡ r.refusal)
+Answers (read_record b t) n = (r : Heading) × (t' : List ℕ) × (reader.outcome r t' ≡ reader.reading b t) × (n ≡ r.refusal)
 Answers (print_layer e z m t) n = (t' : List ℕ) × (layer_printer.outcome n t' ≡ layer_printer.layer_printing e z m t)
 Answers (opening o lent w) n = (s : State) × (v : TotalTables) × TotalsOpening o lent w n s v
 Answers (call s c) n = (a : Answer) × (t : State) × CallStep s c a t × (n ≡ a.refusal)

@@ -3,7 +3,7 @@
 use Rattle.std.specs.Prelude.{List, map, ℕ}
 use Rattle.lists.specs.Lists.{consecutive}
 use Rattle.closure.specs.Joined.{Edge}
-use Rattle.cells.specs.Box.{Triple}
+use Rattle.cells.specs.declared.Triple.{Triple}
 use Rattle.cells.specs.Grid.{cells}
 use Rattle.labels.specs.Number.{labels}
 use Rattle.labels.specs.Components.{largest, first_cell, component_row}

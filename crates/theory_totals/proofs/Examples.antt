@@ -203,8 +203,8 @@ totals_up = refl
 
 -- ---- the book: the uncut volume
 
-abbrev maps : ℕ → List ℕ
-maps b = cond (eqb b 0) map₀ map₁
+abbrev maps_of_blocks : ℕ → List ℕ
+maps_of_blocks b = cond (eqb b 0) map₀ map₁
 
 abbrev values : ℕ → List Float
 values b = cond (eqb b 0) values₀ values₁
@@ -213,7 +213,7 @@ abbrev kinds : ℕ → List ℕ
 kinds b = cond (eqb b 0) kinds₀ kinds₁
 
 -- Its map, by the maps of the blocks.
-pub uncut_map_lem : uncut_from cutting maps ≡ 1 ∷ 1 ∷ 2 ∷ 2 ∷ 1 ∷ []
+pub uncut_map_lem : uncut_from cutting maps_of_blocks ≡ 1 ∷ 1 ∷ 2 ∷ 2 ∷ 1 ∷ []
 unfolding refused merge_ids join_classes joins rep count_below leader number_by label voxel_cell occupied active pairs alike edges_at order_below edges active_of number_named numbered_at numbered code_at map_down labels code_in codes_of
 uncut_map_lem = refl
 

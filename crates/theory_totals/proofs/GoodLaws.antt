@@ -10,7 +10,8 @@ use lib.Dec.{eqb}
 use Rattle.lists.specs.Lists.{all_of}
 use Rattle.lists.proofs.Cases.{by_test, and_both, and_first, and_second, picked}
 use Rattle.lists.proofs.Tests.{all_in, all_out}
-use Rattle.cells.specs.Box.{Triple, volume}
+use Rattle.cells.specs.Box.{volume}
+use Rattle.cells.specs.declared.Triple.{Triple}
 use Rattle.cells.specs.Grid.{cells, upper_neighbours, voxel}
 use Rattle.cells.proofs.GridLaws.{upper_neighbour, voxel_inside}
 use Rattle.labels.proofs.ComponentLaws.{of_order_out}

@@ -12,7 +12,8 @@ use borrow.Author.Tests.{eqb-true, eq-eqb}
 use Rattle.lists.specs.Lists.{consecutive, keep}
 use Rattle.lists.proofs.Cases.{by_test}
 use Rattle.lists.proofs.Lists.{Ascends, ascends_consecutive, ascends_keep, consecutive_in, consecutive_out, keep_in, keep_out}
-use Rattle.cells.specs.Box.{Triple, place}
+use Rattle.cells.specs.Box.{place}
+use Rattle.cells.specs.declared.Triple.{Triple}
 use Rattle.cells.specs.Grid.{sides, cells, order}
 use Rattle.cells.proofs.BoxLaws.{index_place}
 use Rattle.labels.specs.Components.{of_order}

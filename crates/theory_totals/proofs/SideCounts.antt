@@ -11,7 +11,7 @@ use lib.ListN.{get_or, length, length-append, length-map}
 use borrow.Author.Tests.{eqb-true, eqb-false, eq-eqb, ne_eqb}
 use Rattle.lists.specs.Lists.{keep}
 use Rattle.lists.proofs.Cases.{by_test}
-use Rattle.cells.specs.Box.{Triple}
+use Rattle.cells.specs.declared.Triple.{Triple}
 use Rattle.cells.specs.Grid.{upper_neighbours}
 use Rattle.cells.specs.Row.{occurrences, row, occupied, active, numbers_at}
 use Rattle.cells.proofs.RowFacts.{row_once}

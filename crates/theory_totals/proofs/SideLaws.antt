@@ -13,7 +13,7 @@ use borrow.Author.Tests.{eqb-true, eqb-false, eq-eqb, ne_eqb, not-true}
 use Rattle.lists.specs.Lists.{keep}
 use Rattle.lists.proofs.Cases.{by_test, and_first}
 use Rattle.lists.proofs.Lists.{keep_append}
-use Rattle.cells.specs.Box.{Triple}
+use Rattle.cells.specs.declared.Triple.{Triple}
 use Rattle.cells.specs.Grid.{upper_neighbours, voxel}
 use Rattle.cells.specs.Row.{row, numbers_at}
 use Rattle.cells.proofs.RowFacts.{first_two_apart}

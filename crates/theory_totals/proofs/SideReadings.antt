@@ -15,7 +15,8 @@ use Rattle.lists.specs.Lists.{keep}
 use Rattle.lists.proofs.Cases.{by_test}
 use Rattle.lists.proofs.Lists.{keep_out}
 use Rattle.lists.proofs.Tests.{keep_same}
-use Rattle.cells.specs.Box.{Triple, index, place}
+use Rattle.cells.specs.Box.{index, place}
+use Rattle.cells.specs.declared.Triple.{Triple}
 use Rattle.cells.specs.Extents.{off_size}
 use Rattle.cells.specs.Grid.{sides, cells, order, upper_neighbours, voxel}
 use Rattle.cells.specs.Row.{row}

@@ -14,7 +14,8 @@ use borrow.Author.Tests.{eqb-true, eqb-false, eq-eqb, ne_eqb, leb-true, ltb-true
 use Rattle.lists.specs.Lists.{consecutive, is_in, some_of}
 use Rattle.lists.proofs.Cases.{by_test, and_both, and_first, and_second}
 use Rattle.lists.proofs.Tests.{all_same, is_in_lem}
-use Rattle.refusals.specs.Refusals.{Refusal, unfit_reading, done_already, no_such_place, number, stands_in, wrong_stage, unfit_tray}
+use Rattle.refusals.specs.declared.Refusal.{Refusal}
+use Rattle.refusals.specs.Refusals.{number, stands_in}
 use Rattle.refusals.proofs.RefusalLaws.{given_none}
 use Rattle.cells.specs.Box.{volume}
 use Rattle.cells.specs.Extents.{off_size}
@@ -212,12 +213,12 @@ module _ (o : Told) (own : ℕ → List ℕ) (ext : off_size 1024 o.cutting.exte
     passed r =
         let n : (z : Refusal) → stands_in (strain_declines s w c) z ≡ false = (given_none (stands_in (strain_declines s w c))).0 r in
         record {
-          closed = closed_of c (n wrong_stage);
-          staged = ap (λ (z : Told). in_stage z.cutting B.stage (is_in R.came) c) (sym I.btold) ∙ sym (stage_same c) ∙ not-false _ (n wrong_stage);
-          placed = placed_of (n no_such_place);
-          fresh = sym (again_same c) ∙ n done_already;
-          lists = ap (λ (z : Told). lists_fit z.cutting c) (sym I.told) ∙ and_first (lists_fit s.job.told.cutting c) (lengths_fit (lent_for s.job.told s.tables w c)) (not-false _ (n unfit_tray));
-          fits = n unfit_reading;
+          closed = closed_of c (n Refusal.WrongStage);
+          staged = ap (λ (z : Told). in_stage z.cutting B.stage (is_in R.came) c) (sym I.btold) ∙ sym (stage_same c) ∙ not-false _ (n Refusal.WrongStage);
+          placed = placed_of (n Refusal.NoSuchPlace);
+          fresh = sym (again_same c) ∙ n Refusal.DoneAlready;
+          lists = ap (λ (z : Told). lists_fit z.cutting c) (sym I.told) ∙ and_first (lists_fit s.job.told.cutting c) (lengths_fit (lent_for s.job.told s.tables w c)) (not-false _ (n Refusal.WrongTray));
+          fits = n Refusal.BadReading;
         }
 
   -- ---- an accepted step

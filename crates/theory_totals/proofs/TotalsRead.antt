@@ -15,7 +15,8 @@ use borrow.Author.Tests.{eqb-true, eqb-false, leb-true, ltb-true}
 use Rattle.lists.specs.Lists.{is_in}
 use Rattle.lists.proofs.Cases.{by_test, and_first, and_second, picked}
 use Rattle.lists.proofs.Lists.{keep_out}
-use Rattle.cells.specs.Box.{Triple, place}
+use Rattle.cells.specs.Box.{place}
+use Rattle.cells.specs.declared.Triple.{Triple}
 use Rattle.cells.specs.Extents.{off_size}
 use Rattle.cells.specs.Grid.{sides, cells, order, upper_neighbours, voxel}
 use Rattle.cells.specs.Row.{row}

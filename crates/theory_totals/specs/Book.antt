@@ -3,8 +3,10 @@
 -- Assumes nothing.
 use Rattle.std.specs.Prelude.{Bool, true, not, cond, ◌&&◌, List, [], ◌∷◌, ◌++◌, map, ℕ, eqb, get_or, Float}
 use Rattle.lists.specs.Lists.{keep, is_in}
-use Rattle.refusals.specs.Refusals.{wrong_stage, no_such_place, done_already, unfit_tray, unfit_reading, Case, ◌if◌, given_refusal}
-use Rattle.cells.specs.Box.{Triple, place}
+use Rattle.refusals.specs.declared.Refusal.{Refusal}
+use Rattle.refusals.specs.Refusals.{Case, ◌if◌, given_refusal}
+use Rattle.cells.specs.Box.{place}
+use Rattle.cells.specs.declared.Triple.{Triple}
 use Rattle.cells.specs.Grid.{sides, upper_neighbours, voxel}
 use Rattle.cells.specs.Row.{row, same_row}
 use Rattle.labels.specs.Components.{component}
@@ -61,15 +63,15 @@ no_readings = record { came = []; values = λ b. []; kinds = λ b. [] }
 -- 3 to 6 go by the book, whatever map is brought.
 abbrev pub strain_early_cases : Book → ReadingBook → StrainCall → List Case
 strain_early_cases B R c =
-    wrong_stage if not (in_stage B.told.cutting B.stage (is_in R.came) c) ∷
-    no_such_place if not (has_place B.told.cutting (uncut_count B Face) c) ∷
-    done_already if again (is_in R.came) c ∷
-    unfit_tray if not (lists_fit B.told.cutting c) ∷
+    Refusal.WrongStage if not (in_stage B.told.cutting B.stage (is_in R.came) c) ∷
+    Refusal.NoSuchPlace if not (has_place B.told.cutting (uncut_count B Face) c) ∷
+    Refusal.DoneAlready if again (is_in R.came) c ∷
+    Refusal.WrongTray if not (lists_fit B.told.cutting c) ∷
     []
 
 -- .. and 12.
 unfoldable pub strain_book_declines : Book → ReadingBook → StrainCall → List Case
-strain_book_declines B R c = strain_early_cases B R c ++ (unfit_reading if bad_reading c ∷ [])
+strain_book_declines B R c = strain_early_cases B R c ++ (Refusal.BadReading if bad_reading c ∷ [])
 
 -- What is given, 0 for none.
 unfoldable pub strain_book_refusal : Book → ReadingBook → StrainCall → ℕ

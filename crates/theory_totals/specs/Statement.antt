@@ -2,7 +2,8 @@
 -- Assumes nothing.
 use Rattle.std.specs.Prelude.{◌≡◌, ◌↔◌, ◌≢◌, true, ℕ, ◌+◌, ◌*◌, ◌<◌, ◌≤◌, get_or, length, ℤ, Float}
 use mathlib.Core.List.{List, [], ◌∷◌, Memᴰ}
-use Rattle.cells.specs.Box.{Triple, volume}
+use Rattle.cells.specs.Box.{volume}
+use Rattle.cells.specs.declared.Triple.{Triple}
 use Rattle.cells.specs.Grid.{voxel, voxel_cell}
 use Rattle.labels.specs.Number.{labels}
 use Rattle.labels.specs.Components.{component, component_row}

@@ -1,7 +1,8 @@
 -- What all blocks of a volume add to the totals, said without any order of blocks (document 02, item 1).
 -- Assumes nothing.
 use Rattle.std.specs.Prelude.{List, [], ◌∷◌, ℕ, Float}
-use Rattle.cells.specs.Box.{Triple, place}
+use Rattle.cells.specs.Box.{place}
+use Rattle.cells.specs.declared.Triple.{Triple}
 use Rattle.cells.specs.Grid.{sides}
 use Rattle.labels.specs.Components.{of_order}
 use Rattle.cutting.specs.Cutting.{Cutting, block_extents}

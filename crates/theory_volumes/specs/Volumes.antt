@@ -3,7 +3,8 @@
 -- Assumes nothing.
 use Rattle.std.specs.Prelude.{cond, List, [], ◌∷◌, ◌++◌, map, ℕ, get_or, replicate}
 use Rattle.lists.specs.Lists.{tabulate, zeros}
-use Rattle.cells.specs.Box.{Triple, triple, volume}
+use Rattle.cells.specs.Box.{triple, volume}
+use Rattle.cells.specs.declared.Triple.{Triple}
 use Rattle.cells.specs.Grid.{cells, upper_neighbours}
 use Rattle.labels.specs.Number.{labels}
 use Rattle.labels.specs.Components.{largest, component_row}

@@ -1,7 +1,7 @@
 -- The laws of the totals' leaves, one for each way through their code.
 -- Assumes nothing.
 use mathlib.Core.Path.{◌≡◌, refl, sym, ap, ◌∙◌}
-use mathlib.Core.Bool.{Bool, true, false, not, ◌&&◌}
+use mathlib.Core.Bool.{Bool, true, false, ◌&&◌}
 use mathlib.Core.Logic.{◌≢◌}
 use mathlib.Core.List.{List, [], ◌∷◌}
 use Prim.Native.Nat.{ℕ, zero, suc, ◌+◌, ◌-◌, ◌*◌, ◌≤◌, ◌<◌}
@@ -9,13 +9,15 @@ use native.Mathlib.Omega.{arith}
 use lib.Dec.{eqb, leb, lit<}
 use lib.IntN.{ℤ, pos, +ℤ_idl}
 use lib.ListN.{get_or, set, length}
-use lib.Seq.{set_out, set-get_or}
+use lib.Seq.{set-get_or}
 use lib.Ieee.{Float, nan, fin, binary64, add}
-use borrow.Author.Tests.{eqb-true, eqb-false, eq-eqb, ne_eqb, le-leb, lt-leb, not-true, not-false}
-use Rattle.lists.specs.Lists.{consecutive}
+use borrow.Author.Tests.{eqb-true, eqb-false, eq-eqb, ne_eqb, lt-leb}
+use Rattle.lists.specs.Lists.{consecutive, all_of}
+use Rattle.std.specs.List.{list_all, range_with_len}
+use native.Mathlib.Numerals.{add-one}
 use Rattle.lists.proofs.Cases.{by_test, and_first, and_second}
 use Rattle.lists.proofs.Lists.{consecutive_in}
-use Rattle.lists.proofs.Tests.{all_out, TrueBelow, true_below_broken, true_below_all}
+use Rattle.lists.proofs.Tests.{all_out}
 use Rattle.strains.specs.Units.{is_units, whole_units, float_of, plus_zero}
 use Rattle.strains.proofs.Exact.{add_units}
 use Rattle.strains.proofs.Signs.{given_signed}
@@ -26,43 +28,25 @@ use Rattle.totals.specs.Totals.{sum_added, more, count_added, reading_of, readin
 use Rattle.totals.specs.declared.Side.{Side}
 use Rattle.totals.specs.declared.Totals.{Totals}
 
-pub more_next : (n : ℕ) → n < 18446744073709551615 → n + 1 ≡ more n
-unfolding more
-more_next n h = omega arith
-
-pub more_most : (n : ℕ) → 18446744073709551615 ≤ n → n < 18446744073709551616 → n ≡ more n
-unfolding more
-more_most n h l = omega arith
-
-pub past : {A : Type 0} (l : List A) (i : ℕ) (a : A) → length l ≤ i → l ≡ set l i a
-past l i a h = sym (set_out l i a h)
-
 -- where there is an entry, what else would be taken does not count
 pub any_default : {A : Type 0} (l : List A) (i : ℕ) (c d : A) → i < length l → get_or l i c ≡ get_or l i d
 any_default [] i c d h = absurd (omega arith)
 any_default (x ∷ l) zero c d h = refl
 any_default (x ∷ l) (suc i) c d h = any_default l i c d (omega arith)
 
-pub sum_set : (l : List Float) (i : ℕ) (x : Float) → i < length l → set l i (add binary64 (get_or l i nan) x) ≡ set l i (add binary64 (get_or l i plus_zero) x)
-sum_set l i x h = rw (any_default l i nan plus_zero h)
-
-pub count_set : (l : List ℕ) (i n : ℕ) → n ≡ more (get_or l i 0) → set l i n ≡ set l i (more (get_or l i 0))
-count_set l i n e = rw e
-
 -- ---- one reading
 
+-- a reading that is no strain adds nothing
+unsummed : (r : Reading) (s : Float) → ((x : Float) → r ≡ Reading.Strain x → ⊥) → sum_with s r ≡ s
+unfolding sum_with
+unsummed (Reading.Strain x) s h = absurd (h x refl)
+unsummed (Reading.Clipped x) s h = refl
+unsummed Reading.Missing s h = refl
+
 module _ (sums : List Float) (counts : List ℕ) (s : ℕ) (r : Reading) where
-  pub strain_sum : (x : Float) (after : List Float) → r ≡ Reading.Strain x → after ≡ set sums s (add binary64 (get_or sums s plus_zero) x) → after ≡ sum_added sums s r
-  unfolding sum_added sum_with
-  strain_sum x after e f = rw e f
-
-  pub clipped_sum : (x : Float) → r ≡ Reading.Clipped x → sums ≡ sum_added sums s r
-  unfolding sum_added sum_with
-  clipped_sum x e = rw e (sym (set-get_or sums s plus_zero))
-
-  pub missing_sum : r ≡ Reading.Missing → sums ≡ sum_added sums s r
-  unfolding sum_added sum_with
-  missing_sum e = rw e (sym (set-get_or sums s plus_zero))
+  pub other_sum : ((x : Float) → r ≡ Reading.Strain x → ⊥) → sums ≡ sum_added sums s r
+  unfolding sum_added
+  other_sum h = sym (ap (set sums s) (unsummed r (get_or sums s plus_zero) h) ∙ set-get_or sums s plus_zero)
 
   pub kind_counted : (k : ℕ) (after : List ℕ) → k ≡ kind_of r → after ≡ set counts (3 * s + k) (more (get_or counts (3 * s + k) 0)) → after ≡ count_added counts s r
   unfolding count_added
@@ -73,18 +57,6 @@ unfolding kind_of
 kind_most (Reading.Strain x) k e = omega arith
 kind_most (Reading.Clipped x) k e = omega arith
 kind_most Reading.Missing k e = omega arith
-
-pub kind_strain : (r : Reading) (x : Float) → r ≡ Reading.Strain x → 0 ≡ kind_of r
-unfolding kind_of
-kind_strain r x e = rw e refl
-
-pub kind_clipped : (r : Reading) (x : Float) → r ≡ Reading.Clipped x → 1 ≡ kind_of r
-unfolding kind_of
-kind_clipped r x e = rw e refl
-
-pub kind_missing : (r : Reading) → r ≡ Reading.Missing → 2 ≡ kind_of r
-unfolding kind_of
-kind_missing r e = rw e refl
 
 -- ---- readings as they come
 
@@ -133,14 +105,14 @@ module _ (values : List Float) (kinds : List ℕ) (v : ℕ) where
 
 -- ---- all readings of the lists
 
-module _ (values : List Float) (kinds : List ℕ) where
-  pub some_unfit : (v : ℕ) (b : Bool) → v < length values → b ≡ fits_at values kinds v → not b ≡ true → false ≡ readings_fit values kinds
-  unfolding readings_fit
-  some_unfit v b h e n = true_below_broken (fits_at values kinds) (length values) v b h e n
+all_told : (f : ℕ → Bool) (n i : ℕ) → list_all f (range_with_len i n) ≡ all_of f (consecutive i n)
+unfolding consecutive
+all_told f zero i = refl
+all_told f (suc n) i = ap (λ t. f i && t) (rw add-one (all_told f n (suc i)))
 
-  pub all_fitting : (v : ℕ) → length values ≤ v → TrueBelow (fits_at values kinds) v → true ≡ readings_fit values kinds
-  unfolding readings_fit
-  all_fitting v h a = true_below_all (fits_at values kinds) (length values) v h a
+pub fit_told : (values : List Float) (kinds : List ℕ) → list_all (fits_at values kinds) (range_with_len 0 (length values)) ≡ readings_fit values kinds
+unfolding readings_fit
+fit_told values kinds = all_told (fits_at values kinds) (length values) 0
 
 -- where the test is passed, every reading of the lists is one
 pub fit_good : (values : List Float) (kinds : List ℕ) → readings_fit values kinds ≡ true → (v : ℕ) → v < length values → is_good (reading_at values kinds v) ≡ true
@@ -169,19 +141,6 @@ pub side_given : (d : Side) → is_units 9007199254740992 d.sum ≡ true
 unfolding given_side
 side_given d h = ap (λ (x : Float). record { sum = x; strains = d.strains; clipped = d.clipped; missing = d.missing }) (sum_given d.sum 9007199254740992 h)
 
-module _ (most : ℕ) (sums : List Float) (counts : List ℕ) (n : ℕ) (r : Bool) (e : r ≡ stands_at most sums counts (2 * (n - 1))) where
-  first_place : r ≡ stands_at most sums counts (slot_of n 0)
-  unfolding slot_of
-  first_place = e ∙ ap (stands_at most sums counts) (omega arith)
-
-  pub lower_stray : not r ≡ true → false ≡ both_stand most sums counts n
-  unfolding both_stand
-  lower_stray f = rw (sym first_place ∙ not-true r f)
-
-  pub lower_stands : not r ≡ false → (t : Bool) → t ≡ stands_at most sums counts (2 * (n - 1) + 1) → t ≡ both_stand most sums counts n
-  unfolding both_stand slot_of
-  lower_stands f t g = g ∙ sym (ap (λ (b : Bool). b && stands_at most sums counts (2 * (n - 1) + 1)) (sym first_place ∙ not-false r f))
-
 -- the sums of a face whose both sides stand are whole 1,024ths
 module _ (most : ℕ) (sums : List Float) (counts : List ℕ) (n : ℕ) (h : both_stand most sums counts n ≡ true) where
   side_units : (s : ℕ) → stands_at most sums counts s ≡ true → (d : Side) → d ≡ side_at sums counts s → is_units 9007199254740992 d.sum ≡ true
@@ -208,34 +167,3 @@ pub totals_are : (sums : List Float) (counts : List ℕ) (n : ℕ) (a b c d : Si
     → c ≡ given_side a → d ≡ given_side b → ◌≡◌ {A = Totals} (record { lower = c; higher = d }) (totals_of sums counts n)
 unfolding totals_of slot_of
 totals_are sums counts n a b c d e f g h = let z : 2 * (n - 1) + 0 ≡ 2 * (n - 1) = omega arith in rw (g, h, e, f, z)
-
-module _ (most : ℕ) (d : Side) (t : Bool) (e : t ≡ is_units 9007199254740992 d.sum) where
-  pub no_sum : not t ≡ true → false ≡ side_stands most d
-  unfolding side_stands
-  no_sum n = rw (sym e ∙ not-true t n)
-
-  module _ (n : not t ≡ false) where
-    on : is_units 9007199254740992 d.sum ≡ true
-    on = sym e ∙ not-false t n
-
-    pub many_strains : most < d.strains → false ≡ side_stands most d
-    unfolding side_stands
-    many_strains h = rw (on, lt-leb d.strains most h)
-
-    module _ (f : d.strains ≤ most) where
-      pub many_clipped : most < d.clipped → false ≡ side_stands most d
-      unfolding side_stands
-      many_clipped h = rw (on, le-leb d.strains most f, lt-leb d.clipped most h)
-
-      module _ (g : d.clipped ≤ most) where
-        pub many_missing : most < d.missing → false ≡ side_stands most d
-        unfolding side_stands
-        many_missing h = rw (on, le-leb d.strains most f, le-leb d.clipped most g, lt-leb d.missing most h)
-
-        pub all_fit : d.missing ≤ most → true ≡ side_stands most d
-        unfolding side_stands
-        all_fit h = rw (on, le-leb d.strains most f, le-leb d.clipped most g, le-leb d.missing most h)
-
-pub stands_is : (most : ℕ) (sums : List Float) (counts : List ℕ) (s : ℕ) (d : Side) (r : Bool) → d ≡ side_at sums counts s → r ≡ side_stands most d → r ≡ stands_at most sums counts s
-unfolding stands_at
-stands_is most sums counts s d r e f = f ∙ ap (side_stands most) e

@@ -12,45 +12,37 @@ use strains::{Reading, is_strain, is_sum};
 
 // ---- adding a reading
 
-// One more, as far as 64 bits go.
-fn more(n: u64) -> u64
-    ensures { result ≡ more n }
-{
-    if n < 18446744073709551615 { n + 1 } else { n }
-}
-
 // Adds x to the sum at a place, if there is one.
 fn add_at(sums: &mut [f64], s: usize, x: f64)
     ensures { sums.new ≡ set sums.old s (add binary64 (get_or sums.old s plus_zero) x) }
 {
     if s < sums.len() {
-        sums[s] = sums[s] + x;
+        sums[s] += x;
     }
 }
 
-// Counts one more at a place, if there is one.
+// Counts one more at a place, if there is one, as far as 64 bits go.
+#[tactic(auto, unfolding(crate::specs::Totals::more))]
 fn count_at(counts: &mut [u64], i: usize)
     ensures { counts.new ≡ set counts.old i (more (get_or counts.old i 0)) }
 {
     if i < counts.len() {
-        counts[i] = more(counts[i]);
+        counts[i] = counts[i].saturating_add(1);
     }
 }
 
 // Adds the reading r to the sum at a place.
+#[tactic(auto, using(crate::proofs::TotalLaws::other_sum), unfolding(crate::specs::Totals::sum_added, strains::specs::Readings::sum_with))]
 fn add_strain(sums: &mut [f64], s: usize, r: Reading)
     ensures { sums.new ≡ sum_added sums.old s r }
 {
-    match r {
-        Reading::Strain(x) => {
-            add_at(sums, s, x);
-        }
-        Reading::Clipped(_) => {}
-        Reading::Missing => {}
+    if let Reading::Strain(x) = r {
+        add_at(sums, s, x);
     }
 }
 
 // Which of the three counts the reading r is for.
+#[tactic(auto, unfolding(strains::specs::Readings::kind_of))]
 fn kind_of(r: Reading) -> usize
     ensures { result ≡ kind_of r }
 {
@@ -62,6 +54,7 @@ fn kind_of(r: Reading) -> usize
 }
 
 // The summing step: takes a reading in for the sum at a place. Not an entry.
+#[tactic(auto, using(crate::proofs::TotalLaws::kind_most, crate::proofs::TotalLaws::kind_counted))]
 pub fn take_reading(sums: &mut [f64], counts: &mut [u64], s: usize, r: Reading)
     requires { s < 2 ^ 33 }
     ensures sum { sums.new ≡ sum_added sums.old s r }
@@ -74,30 +67,26 @@ pub fn take_reading(sums: &mut [f64], counts: &mut [u64], s: usize, r: Reading)
 // ---- readings as they come
 
 // The reading of voxel v. Not an entry.
+#[tactic(auto, using(crate::proofs::TotalLaws::reading_strain, crate::proofs::TotalLaws::reading_clipped, crate::proofs::TotalLaws::reading_missing))]
 pub fn reading_at(values: &[f64], kinds: &[u8], v: usize) -> Reading
     requires { (v < length values.now) × (v < length kinds.now) }
     ensures { result ≡ reading_at values.now kinds.now v }
 {
-    let k = kinds[v];
-    if k == 0 {
-        return Reading::Strain(values[v]);
+    match kinds[v] {
+        0 => Reading::Strain(values[v]),
+        1 => Reading::Clipped(values[v]),
+        _ => Reading::Missing,
     }
-    if k == 1 {
-        return Reading::Clipped(values[v]);
-    }
-    Reading::Missing
 }
 
 // Whether the reading of voxel v is one. A value that is a strain is one of any kind, any other only where its reading is missing.
+#[tactic(auto, using(crate::proofs::TotalLaws::strain_fits, crate::proofs::TotalLaws::other_fits))]
 fn fits_at(values: &[f64], kinds: &[u8], v: usize) -> bool
     requires { (v < length values.now) × (v < length kinds.now) }
     ensures { result ≡ fits_at values.now kinds.now v }
 {
     let k = kinds[v];
-    if is_strain(values[v]) {
-        return k <= 2;
-    }
-    k == 2
+    if is_strain(values[v]) { k <= 2 } else { k == 2 }
 }
 
 // Whether every reading of the lists is one. Not an entry.
@@ -105,14 +94,7 @@ pub fn readings_fit(values: &[f64], kinds: &[u8]) -> bool
     requires { length kinds.now ≡ length values.now }
     ensures { result ≡ readings_fit values.now kinds.now }
 {
-    let mut v: usize = 0;
-    while v < values.len() {
-        if !fits_at(values, kinds, v) {
-            return false;
-        }
-        v += 1;
-    }
-    true
+    (0..values.len()).all(|v| fits_at(values, kinds, v))
 }
 
 // ---- totals that are read
@@ -134,6 +116,7 @@ pub struct Totals {
 }
 
 // The sum at a place with its counts.
+#[tactic(auto, using(crate::proofs::TotalLaws::side_is))]
 fn side_at(sums: &[f64], counts: &[u64], s: usize) -> Side
     requires { (s < length sums.now) × (3 * s + 2 < length counts.now) }
     ensures { result ≡ side_at sums.now counts.now s }
@@ -158,36 +141,28 @@ fn given(d: Side) -> Side
 }
 
 // The totals of face n, as they are given. Not an entry.
+#[tactic(auto, using(crate::proofs::TotalLaws::lower_units, crate::proofs::TotalLaws::higher_units, crate::proofs::TotalLaws::totals_are))]
 pub fn totals_of(most: u64, sums: &[f64], counts: &[u64], n: u32) -> Totals
     requires { (0 < n) × Holds sums.now counts.now n × (both_stand most sums.now counts.now n ≡ true) }
     ensures { result ≡ totals_of sums.now counts.now n }
 {
     let s = 2 * (n as usize - 1);
-    let lower = side_at(sums, counts, s);
-    let higher = side_at(sums, counts, s + 1);
     Totals {
-        lower: given(lower),
-        higher: given(higher),
+        lower: given(side_at(sums, counts, s)),
+        higher: given(side_at(sums, counts, s + 1)),
     }
 }
 
 // Whether the sum is one, and no count is above the volume's cells.
+#[tactic(auto, unfolding(crate::specs::Totals::side_stands))]
 fn side_stands(most: u64, d: Side) -> bool
     ensures { result ≡ side_stands most d }
 {
-    if !is_sum(d.sum) {
-        return false;
-    }
-    if d.strains > most {
-        return false;
-    }
-    if d.clipped > most {
-        return false;
-    }
-    if d.missing > most { false } else { true }
+    is_sum(d.sum) && d.strains <= most && d.clipped <= most && d.missing <= most
 }
 
 // Whether the total at a place stands.
+#[tactic(auto, unfolding(crate::specs::Totals::stands_at))]
 fn stands_at(most: u64, sums: &[f64], counts: &[u64], s: usize) -> bool
     requires { (s < length sums.now) × (3 * s + 2 < length counts.now) }
     ensures { result ≡ stands_at most sums.now counts.now s }
@@ -196,13 +171,11 @@ fn stands_at(most: u64, sums: &[f64], counts: &[u64], s: usize) -> bool
 }
 
 // Whether both sides of face n stand. Not an entry.
+#[tactic(auto, unfolding(crate::specs::Totals::both_stand, crate::specs::Totals::slot_of))]
 pub fn both_stand(most: u64, sums: &[f64], counts: &[u64], n: u32) -> bool
     requires { (0 < n) × Holds sums.now counts.now n }
     ensures { result ≡ both_stand most sums.now counts.now n }
 {
     let s = 2 * (n as usize - 1);
-    if !stands_at(most, sums, counts, s) {
-        return false;
-    }
-    stands_at(most, sums, counts, s + 1)
+    stands_at(most, sums, counts, s) && stands_at(most, sums, counts, s + 1)
 }

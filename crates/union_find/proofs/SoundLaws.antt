@@ -4,19 +4,22 @@ use Prim.Native.Nat.{ℕ, zero, suc, ◌+◌, ◌-◌, ◌≤◌, ◌<◌}
 use native.Mathlib.Decide.{le_ind}
 use native.Mathlib.Omega.{arith}
 use mathlib.Core.Bool.{Bool, true, false, true≢false, ◌&&◌}
-use mathlib.Core.Logic.{⊎_elim}
+use mathlib.Core.Logic.{◌⊎◌, ⊎_elim}
 use mathlib.Core.List.{List}
 use mathlib.Core.Path.{◌≡◌, refl, sym, ap, ◌∙◌}
 use lib.ListN.{length, get_or, get_or-eq_default}
+use Rattle.std.proofs.lemmas.Bool.{cases_lt}
 use lib.Dec.{leb}
+use Rattle.std.proofs.Common.{Some, None}
+use Rattle.std.proofs.lemmas.Option.{cond_some, none-some}
 use borrow.Author.Tests.{leb-true, le-leb, lt-leb, eq-eqb, ne_eqb}
 use Rattle.lists.specs.Lists.{consecutive, all_of, zeros}
-use Rattle.lists.proofs.Cases.{by_test, and_first, and_second, and_both, or_right}
+use Rattle.lists.proofs.Cases.{by_test, and_first, and_second, and_both, or_on_right}
 use Rattle.lists.proofs.Lists.{consecutive_in, consecutive_out, zeros_at}
 use Rattle.lists.proofs.Tests.{all_in, all_out, test_none, test_passed}
 use Rattle.closure.specs.Trees.{ancestor}
 use Rattle.closure.proofs.Rooted.{same?}
-use Rattle.union_find.specs.Links.{parent, root, sound_at, sound_way, sound_from, sound_below, sound_range, steps_within, depth, depths, sound_ways, Walked}
+use Rattle.union_find.specs.Links.{parent, root, sound_at, sound_way, sound_from, sound_below, sound_range, steps_within, depth, depths, sound_ways, way}
 use Rattle.union_find.proofs.LinkLaws.{parent_low, own_root}
 
 -- ---- one link
@@ -193,29 +196,46 @@ module _ (ls : List ℕ) where
   unfolding depth
   depth_low x = within_low x x
 
+-- ---- the test of the code: the links of the first i ids are sound, and one more is, or is not, or no id below n is left that has one
+
+module _ (ls : List ℕ) (n i : ℕ) where
+  pub below_sound : ((x : ℕ) → x < i → sound_at ls x ≡ true) → get_or ls i 0 ≤ i → (x : ℕ) → x < i + 1 → sound_at ls x ≡ true
+  below_sound h l x k = ⊎_elim (λ (e : x ≡ i). rw e (sound_at_lem ls i l)) (λ (e : ¬ (x ≡ i)). h x (omega arith)) (same? x i)
+
+  pub below_stray : i < n → i < get_or ls i 0 → false ≡ sound_below ls n
+  below_stray l h = by_test (sound_below ls n) (λ t. absurd (true≢false (sym (below_at ls n t i l) ∙ stray_at ls i h))) (λ t. sym t)
+
+  pub below_past : ((x : ℕ) → x < i → sound_at ls x ≡ true) → (n ≤ i) ⊎ (length ls ≤ i) → true ≡ sound_below ls n
+  below_past h e = sym (at_below ls n (λ x l. ⊎_elim (λ (k : n ≤ i). h x (omega arith))
+      (λ (k : length ls ≤ i). ⊎_elim (λ (b : x < i). h x b) (λ (b : i ≤ x). at_past ls x (omega arith)) (cases_lt x i)) e))
+
 -- ---- the walks of the code
 
 module _ (ls : List ℕ) (x : ℕ) where
-  pub walk_past : length ls ≤ x → Walked ls x true 0
-  unfolding parent
-  walk_past h = record {
-    is = sym (sound_past ls x h);
-    many = λ _. sym (depth_own ls x (rw (get_or-eq_default ls 0 h) (omega arith)));
-  }
+  pub way_some : (w : ℕ) → way ls x ≡ Some w → (sound_from ls x ≡ true) × (depth ls x ≡ w)
+  unfolding way
+  way_some w e = cond_some (sound_from ls x) (depth ls x) w e
+
+  pub way_none : way ls x ≡ None → sound_from ls x ≡ false
+  unfolding way
+  way_none e = by_test (sound_from ls x) (λ t. absurd (none-some (depth ls x) (sym (rw t at e)))) (λ t. t)
+
+  pub walk_past : length ls ≤ x → Some 0 ≡ way ls x
+  unfolding parent way
+  walk_past h = rw (sound_past ls x h, depth_own ls x (rw (get_or-eq_default ls 0 h) (omega arith)))
 
   -- One turn of a walk at y, k steps after x.
   module _ (y k : ℕ) (s : sound_from ls y ≡ sound_from ls x) (d : k + depth ls y ≡ depth ls x) where
-    pub walk_stray : y < get_or ls y 0 → Walked ls x false k
-    walk_stray h = record { is = rw (← s, sound_step ls y, stray_at ls y h); many = λ e. absurd (true≢false (sym e)) }
+    pub walk_stray : y < get_or ls y 0 → None ≡ way ls x
+    unfolding way
+    walk_stray h = rw (← s, sound_step ls y, stray_at ls y h)
 
-    pub walk_root : get_or ls y 0 ≡ 0 → Walked ls x true k
-    unfolding parent
+    pub walk_root : get_or ls y 0 ≡ 0 → Some k ≡ way ls x
+    unfolding parent way
     walk_root e =
         let o : parent ls y ≡ y = rw e (omega arith) in
-        record {
-          is = sym (sound_at_lem ls y (omega arith)) ∙ sym (sound_own ls y o) ∙ s;
-          many = λ _. omega (arith, depth_own ls y o);
-        }
+        let n : depth ls x ≡ k = omega (arith, depth_own ls y o) in
+        rw (← s, sound_own ls y o, sound_at_lem ls y (omega arith), n)
 
     module _ (h : get_or ls y 0 ≤ y) (n : get_or ls y 0 ≡ 0 → ⊥) where
       moves : ¬ (parent ls y ≡ y)
@@ -252,7 +272,7 @@ module _ (ls : List ℕ) where
   unfolding sound_ways
   below_ways n g from count h =
       and_both (sound_range ls from count) _ (below_range ls n g from count h)
-      (or_right (leb (depths ls from count) (length ls)) _ (at_below ls (from + count) (λ x k. g x (omega arith))))
+      (or_on_right (leb (depths ls from count) (length ls)) _ (at_below ls (from + count) (λ x k. g x (omega arith))))
 
 pub ways_stray : (ls : List ℕ) (from n : ℕ) → sound_range ls from n ≡ false → false ≡ sound_ways ls from n
 unfolding sound_ways
@@ -271,12 +291,12 @@ module _ (ls : List ℕ) (from n i k : ℕ) (s : all_of (sound_from ls) (consecu
   ways_all e h = rw (← s, ← test_none (sound_from ls) (from + i) (n - i) e, le-leb (depths ls from n) (length ls) (omega (arith, depths_none ls (from + i) (n - i) e)))
 
   -- One way more is sound, in w steps.
-  module _ (h : i < n) (w : ℕ) (t : Bool) (walk : Walked ls (from + i) t w) (e : t ≡ true) where
+  module _ (h : i < n) (w : ℕ) (e : way ls (from + i) ≡ Some w) where
     pub turn_sound : all_of (sound_from ls) (consecutive (from + (i + 1)) (n - (i + 1))) ≡ sound_range ls from n
-    turn_sound = test_passed (sound_from ls) (from + i) (n - i) (from + (i + 1)) (n - (i + 1)) (omega arith) (omega arith) (sym walk.is ∙ e) ∙ s
+    turn_sound = test_passed (sound_from ls) (from + i) (n - i) (from + (i + 1)) (n - (i + 1)) (omega arith) (omega arith) (way_some ls (from + i) w e).0 ∙ s
 
     pub turn_steps : (k + w) + depths ls (from + (i + 1)) (n - (i + 1)) ≡ depths ls from n
-    turn_steps = omega (arith, d, walk.many e, depths_next ls (from + i) (n - i) (from + (i + 1)) (n - (i + 1)) (omega arith) (omega arith))
+    turn_steps = omega (arith, d, (way_some ls (from + i) w e).1, depths_next ls (from + i) (n - i) (from + (i + 1)) (n - (i + 1)) (omega arith) (omega arith))
 
     pub turn_low : w ≤ from + i
-    turn_low = omega (arith, walk.many e, depth_low ls (from + i))
+    turn_low = omega (arith, (way_some ls (from + i) w e).1, depth_low ls (from + i))

@@ -1,7 +1,7 @@
 -- Union-find over a table of links. A link is a distance back: the parent of id x is x less its entry, and never below 0.
 -- So every content of a table is a forest: no id is joined to a later one, and every walk to a root ends. A link longer than its place leads to none.
 -- Assumes nothing.
-use Rattle.std.specs.Prelude.{ℕ, zero, suc, ◌+◌, ◌-◌, Bool, true, cond, ◌&&◌, ◌||◌, List, ◌≡◌, eqb, leb, ltb, length, get_or}
+use Rattle.std.specs.Prelude.{ℕ, zero, suc, ◌+◌, ◌-◌, Bool, true, cond, ◌&&◌, ◌||◌, List, Option, Some, None, ◌≡◌, eqb, leb, ltb, length, get_or}
 use Rattle.lists.specs.Lists.{consecutive, all_of}
 use Rattle.closure.specs.Joined.{join_classes}
 use Rattle.closure.specs.Trees.{root_of}
@@ -64,10 +64,9 @@ pub record Rooted (ls ms : List ℕ) (g : ℕ → ℕ) : Type 0 where
   pub roots : (x : ℕ) → root ms x ≡ g x
   pub sound : (x : ℕ) → sound_at ls x ≡ true → sound_at ms x ≡ true
 
--- What `walk` tells: whether every link on the way from x is sound, and then how many steps it has.
-pub record Walked (ls : List ℕ) (x : ℕ) (sound : Bool) (steps : ℕ) : Type 0 where
-  pub is : sound ≡ sound_from ls x
-  pub many : sound ≡ true → steps ≡ depth ls x
+-- How many steps the way from x has, if every link on it is so.
+unfoldable pub way : List ℕ → ℕ → Option ℕ
+way ls x = cond (sound_from ls x) (Some (depth ls x)) None
 
 -- What `find_halving` leaves: it answers the root of x, and no id's root has changed.
 pub record Found (ls ms : List ℕ) (x r : ℕ) : Type 0 where

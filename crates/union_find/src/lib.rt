@@ -2,25 +2,18 @@
 // A link is a distance back, so a table of any content is a forest, and every function answers for every input.
 #![tactic(auto)]
 
-ghost use Rattle.std.specs.Prelude.{◌≡◌, ◌-◌, length};
+ghost use Rattle.std.specs.Prelude.{◌≡◌, length};
 ghost use Rattle.lists.specs.Lists.{zeros};
-ghost use Rattle.union_find.specs.Links.{parent, sound_below, sound_ways, united, Rooted, Walked, Found};
+ghost use Rattle.union_find.specs.Links.{parent, sound_below, sound_ways, united, way, Rooted, Found};
 
-// Where a link of d leads from x.
-fn back(x: u32, d: u32) -> u32
-    ensures { result ≡ x - d }
-{
-    if d < x { x - d } else { 0 }
-}
+use lists::read_or;
 
 // The parent of x.
+#[tactic(auto, unfolding(crate::specs::Links::parent))]
 pub fn parent(links: &[u32], x: u32) -> u32
     ensures { result ≡ parent links.now x }
 {
-    if x as usize >= links.len() {
-        return x;
-    }
-    back(x, links[x as usize])
+    x.saturating_sub(read_or(links, x as usize, 0))
 }
 
 // The root of x. Each id on the way is hung two steps higher; no root changes.
@@ -32,11 +25,11 @@ pub fn find_halving(links: &mut [u32], x: u32) -> u32
     }
     let mut at: u32 = x;
     loop {
-        let up = back(at, links[at as usize]);
+        let up = at.saturating_sub(links[at as usize]);
         if up == at {
             return at;
         }
-        let top = back(up, links[up as usize]);
+        let top = up.saturating_sub(links[up as usize]);
         links[at as usize] = at - top;
         at = top;
     }
@@ -46,10 +39,7 @@ pub fn find_halving(links: &mut [u32], x: u32) -> u32
 pub fn unite(links: &mut [u32], a: u32, b: u32)
     ensures { Rooted links.old links.new (united links.old a b) }
 {
-    if a as usize >= links.len() {
-        return;
-    }
-    if b as usize >= links.len() {
+    if a as usize >= links.len() || b as usize >= links.len() {
         return;
     }
     let p = find_halving(links, a);
@@ -62,65 +52,41 @@ pub fn unite(links: &mut [u32], a: u32, b: u32)
 }
 
 // Writes 0 everywhere: every id is alone.
+#[tactic(auto, unfolding(lists::specs::Lists::zeros))]
 pub fn clear(links: &mut [u32])
     ensures { links.new ≡ zeros (length links.old) }
 {
-    let mut next: usize = 1;
-    while next <= links.len() {
-        links[next - 1] = 0;
-        next += 1;
-    }
+    links.fill(0);
 }
 
 // Whether the link of each id below n is at most its place.
 pub fn all_sound(links: &[u32], n: usize) -> bool
     ensures { result ≡ sound_below links.now n }
 {
-    let mut i: usize = 0;
-    while i < n {
-        if i >= links.len() {
-            return true;
-        }
+    for i in 0..n.min(links.len()) {
         if links[i] as usize > i {
             return false;
         }
-        i += 1;
     }
     true
 }
 
-// The way from an id to its root: whether every link on it is at most its place, and how many steps it has if so.
-#[derive(Clone, Copy)]
-struct Way {
-    sound: bool,
-    steps: usize,
-}
-
-// The way from x. An id past the end is alone.
-fn walk(links: &[u32], x: usize) -> Way
-    ensures { Walked links.now x result.sound result.steps }
+// How many steps the way from x to its root has, if every link on it is at most its place. An id past the end is alone.
+fn walk(links: &[u32], x: usize) -> Option<usize>
+    ensures { result ≡ way links.now x }
 {
-    let mut steps: usize = 0;
     if x >= links.len() {
-        return Way {
-            sound: true,
-            steps: steps,
-        };
+        return Some(0);
     }
-    let mut at: usize = x;
+    let mut at = x;
+    let mut steps = 0;
     loop {
         let d = links[at] as usize;
         if d > at {
-            return Way {
-                sound: false,
-                steps: steps,
-            };
+            return None;
         }
         if d == 0 {
-            return Way {
-                sound: true,
-                steps: steps,
-            };
+            return Some(steps);
         }
         at -= d;
         steps += 1;
@@ -133,18 +99,15 @@ pub fn sound_ways(links: &[u32], from: u32, count: u32) -> bool
 {
     let start = from as usize;
     let n = count as usize;
-    let mut i: usize = 0;
     let mut steps: usize = 0;
-    while i < n {
-        let w = walk(links, start + i);
-        if !w.sound {
+    for i in 0..n {
+        let Some(way) = walk(links, start + i) else {
             return false;
-        }
-        steps += w.steps;
+        };
+        steps += way;
         if steps > links.len() {
             return all_sound(links, start + n);
         }
-        i += 1;
     }
     true
 }

@@ -1,18 +1,13 @@
--- `reading_cells::fill_cells` meets its contract.
+-- What is filled in, and what a refusal leaves.
+use Rattle.reading_cells.specs.Inner.{sent}
 use Rattle.reading_cells.proofs.FillLaws.{filling_refused, filling_bounded, filling_done}
 use Rattle.reading_cells.proofs.fill_cells.Goals as goal
 
-pub returns-then-declined-ne0 : goal.returns-then-declined-ne0
-returns-then-declined-ne0 c =
-    let a = c.args in
-    filling_refused a.job a.cx.now a.cy.now a.cz.now a.ticks.now a.blocks.now a.face_numbers.now a.curve_numbers.now a.point_firsts.now a.xs.now a.ys.now a.zs.now a.block a.m.now a.answers.now _ c.refusal-declined.ensures c.if-declined-ne0.true
+pub returns-in_err-refuse : goal.returns-in_err-refuse
+returns-in_err-refuse c = filling_refused c.args.job c.args.cuts.now c.args.tables.now (sent c.args.cells.now) c.args.block c.args.m.now c.args.answers.now _ c.in_err-refuse.ensures c.from_residual.result c.from_residual.ensures
 
 pub fill_answers-requires : goal.fill_answers-requires
-fill_answers-requires c =
-    let a = c.args in
-    filling_bounded a.job a.cx.now a.cy.now a.cz.now a.ticks.now a.blocks.now a.face_numbers.now a.curve_numbers.now a.point_firsts.now a.xs.now a.ys.now a.zs.now a.block a.m.now a.answers.now _ c.refusal-declined.ensures c.if-declined-ne0.false _ c.source_of-from.ensures
+fill_answers-requires c = filling_bounded c.args.job c.args.cuts.now c.args.tables.now (sent c.args.cells.now) c.args.block c.args.m.now c.args.answers.now c.in_ok-refuse.ensures _ c.source_of-from.ensures
 
 pub returns : goal.returns
-returns c =
-    let a = c.args in
-    filling_done a.job a.cx.now a.cy.now a.cz.now a.ticks.now a.blocks.now a.face_numbers.now a.curve_numbers.now a.point_firsts.now a.xs.now a.ys.now a.zs.now a.block a.m.now a.answers.now _ c.refusal-declined.ensures c.if-declined-ne0.false _ c.source_of-from.ensures _ c.fill_answers.ensures
+returns c = filling_done c.args.job c.args.cuts.now c.args.tables.now (sent c.args.cells.now) c.args.block c.args.m.now c.args.answers.now c.in_ok-refuse.ensures _ c.source_of-from.ensures _ c.fill_answers.ensures

@@ -1,33 +1,24 @@
--- `step_point::accept` meets its contract.
+-- The stores need what the tests have passed.
 use Rattle.step_point.proofs.DoneLaws.{accept_advance, accept_store, accept_close, accept_done}
 use Rattle.step_point.proofs.accept.Goals as goal
 
-pub advance-next-requires : goal.advance-next-requires
-advance-next-requires c =
-    let bounds = accept_advance _ _ _ _ _ _ _ _ _ _ _ _ _ _ _ c.requires in
-    record { step_in_bounds = bounds.0; faces_bound = bounds.1 }
+pub advance-next-requires-clause-step_in_bounds : goal.advance-next-requires-clause-step_in_bounds
+advance-next-requires-clause-step_in_bounds c = (accept_advance c.args.job c.args.cuts.now _ _ _ _ _ _ _ _ _ _ _ c.requires).0
+
+pub advance-next-requires-clause-faces_bound : goal.advance-next-requires-clause-faces_bound
+advance-next-requires-clause-faces_bound c = (accept_advance c.args.job c.args.cuts.now _ _ _ _ _ _ _ _ _ _ _ c.requires).1
 
 pub store_points-requires : goal.store_points-requires
 store_points-requires c =
-    accept_store _ _ _ _ _ _ _ _ _ _ _ _ _ _ _
-    c.requires _
-    c.block_at-r.ensures _ c.entry_of-d.ensures
+    rw (c.extents-v.ensures, c.entry_of-d.ensures) (accept_store c.args.job c.args.cuts.now _ _ _ _ _ _ _ _ _ _ _ c.requires _ c.block_at-r.ensures)
 
 pub close-requires : goal.close-requires
 close-requires c =
-    accept_close _ _ _ _ _ _ _ _ _ _ _ _ _ _ _
-    c.requires _
-    c.block_at-r.ensures _
-    c.entry_of-d.ensures _ _
-    c.advance-next.ensures _
-    c.store_points.ensures.keys
+    accept_close c.args.job c.args.cuts.now _ _ _ _ _ _ _ _ _ _ _ c.requires _ c.block_at-r.ensures _ _ c.advance-next.ensures _
+    (rw (c.extents-v.ensures, c.entry_of-d.ensures) at c.store_points.ensures.keys)
 
 pub returns : goal.returns
 returns c =
-    accept_done _ _ _ _ _ _ _ _ _ _ _ _ _ _ _
-    c.requires _
-    c.block_at-r.ensures _
-    c.entry_of-d.ensures _ _
-    c.advance-next.ensures _
-    c.store_points.ensures.keys _
-    c.store_points.ensures.rows _ _ _ _ c.close.ensures
+    let keys = rw (c.extents-v.ensures, c.entry_of-d.ensures) at c.store_points.ensures.keys in
+    let rows = rw (c.entry_of-d.ensures) at c.store_points.ensures.rows in
+    accept_done c.args.job c.args.cuts.now _ _ _ _ _ _ _ _ _ _ _ c.requires _ c.block_at-r.ensures _ _ c.advance-next.ensures _ keys _ rows _ _ _ _ c.close.ensures

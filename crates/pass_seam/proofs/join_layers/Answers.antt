@@ -1,0 +1,10 @@
+-- The edges of one more are joined, and at the end none is left.
+use Rattle.std.proofs.Common.{rules}
+use Rattle.pass_seam.proofs.WalkLaws.{walk_more, walk_done}
+use Rattle.pass_seam.proofs.join_layers.Goals as goal
+
+pub loop-v-preserved : goal.loop-v-preserved
+loop-v-preserved c = search (rules, walk_more)
+
+pub returns : goal.returns
+returns c = search walk_done

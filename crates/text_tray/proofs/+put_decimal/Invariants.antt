@@ -1,5 +1,0 @@
--- `text_tray::put_decimal`. The measure is the number.
-use Rattle.text_tray.proofs.+put_decimal.Given as goal
-
-abbrev pub decreases-put_decimal : goal.decreases-put_decimal
-decreases-put_decimal l = l.n
