@@ -2,7 +2,7 @@
 #![tactic(auto)]
 
 ghost use Rattle.std.specs.Prelude.{◌≡◌};
-ghost use Rattle.counts.specs.Counts.{answer_stored};
+ghost use Rattle.counts.specs.Counts.{stored_counts, answer_stored};
 
 use refusals::Refusal;
 
@@ -15,16 +15,23 @@ pub struct Counts {
 }
 
 // Stores the three numbers, unless the call is refused.
-#[tactic(auto, using(refusals::proofs::RefusalLaws::number_nonzero), unfolding(crate::specs::Counts::stored_counts))]
-pub fn store_counts(answer: &Result<Counts, Refusal>, counts: &mut [u32; 3])
+#[tactic(auto, unfolding(crate::specs::Counts::stored_counts))]
+pub fn store_counts(refusal: u32, faces: u32, curves: u32, points: u32, counts: &mut [u32; 3])
+    ensures { counts.new ≡ stored_counts refusal faces curves points counts.old }
+{
+    if refusal == 0 {
+        counts[0] = faces;
+        counts[1] = curves;
+        counts[2] = points;
+    }
+}
+
+// Stores what an answer counts, unless it is a refusal.
+pub fn store_answer(answer: &Result<Counts, Refusal>, counts: &mut [u32; 3])
     ensures { counts.new ≡ answer_stored answer.now counts.old }
 {
     match answer {
-        Ok(n) => {
-            counts[0] = n.faces;
-            counts[1] = n.curves;
-            counts[2] = n.points;
-        }
-        Err(_) => {}
+        Ok(n) => store_counts(0, n.faces, n.curves, n.points, counts),
+        Err(refusal) => store_counts(u32::from(*refusal), 0, 0, 0, counts),
     }
 }

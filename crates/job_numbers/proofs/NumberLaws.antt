@@ -1,6 +1,6 @@
 -- The numbers of a job tell the job.
 -- Assumes nothing.
-use mathlib.Core.Path.{◌≡◌, refl}
+use mathlib.Core.Path.{◌≡◌, refl, sym, ◌∙◌}
 use mathlib.Core.List.{List}
 use Prim.Native.Nat.{ℕ}
 use borrow.Author.Tests.{eq-eqb, ne_eqb}
@@ -11,6 +11,7 @@ use Rattle.job.specs.declared.Stage.{Stage}
 use Rattle.job.specs.JobState.{stage_of}
 use Rattle.job_numbers.specs.Numbers.{stage_in, job_in, numbers_of, kept_numbers, KeptAfter}
 use Rattle.refusals.specs.declared.Refusal.{Refusal}
+use Rattle.refusals.specs.Refusals.{number}
 use Rattle.refusals.proofs.RefusalLaws.{number_nonzero}
 
 stage_back : (s other : Stage) → stage_in (stage_number (stage_of s)) other ≡ s
@@ -44,3 +45,7 @@ kept_after ns k ms e j = e
 pub kept_refused : (ns : List ℕ) (r : Refusal) → KeptAfter ns ns (Err r)
 unfolding kept_numbers
 kept_refused ns r j = rw (number_nonzero r)
+
+-- .. whatever job is handed on beside the refusal
+pub kept_beside : (ns : List ℕ) (r : Refusal) (k : Job) (ms : List ℕ) → ms ≡ kept_numbers (number r) ns k → KeptAfter ns ms (Err r)
+kept_beside ns r k ms e = rw (e ∙ sym (kept_refused ns r k)) (kept_refused ns r)

@@ -2,7 +2,7 @@
 #![tactic(auto)]
 
 ghost use Rattle.std.specs.Prelude.{◌≡◌};
-ghost use Rattle.job_numbers.specs.Numbers.{stage_in, job_in, numbers_of, KeptAfter};
+ghost use Rattle.job_numbers.specs.Numbers.{stage_in, job_in, numbers_of, kept_numbers, KeptAfter};
 
 use counts::Counts;
 use job::{Job, Stage};
@@ -74,11 +74,21 @@ pub fn numbers_of(job: Job) -> [u32; 13]
 }
 
 // Stores the job that a call hands on, unless it was refused.
-pub fn keep(numbers: &mut [u32; 13], answer: &Result<Job, Refusal>)
+#[tactic(auto, using(crate::proofs::NumberLaws::kept_new, crate::proofs::NumberLaws::kept_old))]
+pub fn keep(numbers: &mut [u32; 13], refusal: u32, job: Job)
+    ensures { numbers.new ≡ kept_numbers refusal numbers.old job }
+{
+    if refusal == 0 {
+        *numbers = numbers_of(job);
+    }
+}
+
+// Stores the job of an answer, unless it is a refusal.
+pub fn keep_answer(numbers: &mut [u32; 13], answer: &Result<Job, Refusal>)
     ensures { KeptAfter numbers.old numbers.new answer.now }
 {
     match answer {
-        Ok(job) => *numbers = numbers_of(*job),
-        Err(_) => {}
+        Ok(job) => keep(numbers, 0, *job),
+        Err(refusal) => keep(numbers, u32::from(*refusal), Job::empty()),
     }
 }

@@ -25,9 +25,9 @@ ghost use Rattle.reading_row.specs.Inner.{kind_of};
 
 use blocks::Cuts;
 use cells::Triple;
-use counts::{Counts, store_counts};
+use counts::{Counts, store_answer};
 use job::{Job, Stage};
-use job_numbers::{job_in, keep};
+use job_numbers::{job_in, keep_answer};
 use judge_cells::CellLists;
 use labeller::label;
 use layer_printer::print_layer;
@@ -66,7 +66,7 @@ fn hand_on(numbers: &mut [u32; 13], answer: Result<Job, Refusal>) -> u32
     ensures number { result ≡ number_of answer }
     ensures kept { KeptAfter numbers.old numbers.new answer }
 {
-    keep(numbers, &answer);
+    keep_answer(numbers, &answer);
     number_of(&answer)
 }
 
@@ -85,7 +85,7 @@ pub extern "C" fn tugrelis_label(
         ≡ export (labelling (triple nx ny nz) codes.now map.old work.old) counts.old }
 {
     let answer = label(codes, triple(nx, ny, nz), map, work);
-    store_counts(&answer, counts);
+    store_answer(&answer, counts);
     number_of(&answer)
 }
 
@@ -95,7 +95,7 @@ pub extern "C" fn tugrelis_most_components(nx: u16, ny: u16, nz: u16, counts: &m
     ensures { exported_most result counts.new ≡ export_most (most_components (triple nx ny nz)) counts.old }
 {
     let answer = most_components(triple(nx, ny, nz));
-    store_counts(&answer, counts);
+    store_answer(&answer, counts);
     number_of(&answer)
 }
 
