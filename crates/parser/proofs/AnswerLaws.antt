@@ -14,13 +14,13 @@ use Rattle.cells.specs.Box.{triple, volume}
 use Rattle.cells.specs.declared.Triple.{Triple}
 use Rattle.cells.specs.Extents.{Sized, off_size}
 use Rattle.extents.proofs.SizeLaws.{sized_of}
-use Rattle.parser.specs.Scanning.{Scanned, State, state, counts, stored, closed}
+use Rattle.parser.specs.Scanning.{Seen, State, state, counts, stored, closed}
 use Rattle.parser.specs.Asked.{Task, Outcome, outcome, task_of, extents_seen, off_extents, whole_text, line_number, task_seen, finished}
 
 -- ---- the form
 
 -- Extents of a text that has its form.
-pub whole_sized : (s : Scanned) → whole_text s ≡ true → Sized 8 (extents_seen s)
+pub whole_sized : (s : Seen) → whole_text s ≡ true → Sized 8 (extents_seen s)
 unfolding whole_text
 whole_sized s t =
     let o = not (off_size 8 (extents_seen s)) in
@@ -44,7 +44,7 @@ rungs_none true w z = absurd (omega arith)
 rungs_none false true z = record { size = refl; form = refl }
 rungs_none false false z = absurd (omega arith)
 
-module _ (s : Scanned) where
+module _ (s : Seen) where
   pub ladder : line_number s ≡ rungs (off_extents s) (whole_text s)
   unfolding line_number number
   ladder = refl
@@ -53,12 +53,12 @@ module _ (s : Scanned) where
   small_extents : line_number s ≡ 0 → Sized 8 (extents_seen s)
   small_extents z = whole_sized s (rungs_none (off_extents s) (whole_text s) (sym ladder ∙ z)).form
 
-pub finished_is : (s t : Scanned) (d e : List ℕ) (r : Task) → state t e ≡ closed s d → r ≡ task_seen t → outcome r e ≡ finished (state s d)
+pub finished_is : (s t : Seen) (d e : List ℕ) (r : Task) → state t e ≡ closed s d → r ≡ task_seen t → outcome r e ≡ finished (state s d)
 unfolding finished
 finished_is s t d e r p q = rw (← p, q)
 
 -- The tray keeps its length.
-closed_length : (s : Scanned) (d : List ℕ) → length (closed s d).codes ≡ length d
+closed_length : (s : Seen) (d : List ℕ) → length (closed s d).codes ≡ length d
 unfolding closed stored
 closed_length s d =
     by_test (eqb s.size 0) (λ t. rw t)
@@ -75,7 +75,7 @@ abbrev extents_named : Task → Triple
 extents_named (Task.ListVolume x y z) = triple x y z
 extents_named (Task.PrintRefused n) = triple 1 1 1
 
-task_sized : (s : Scanned) → Sized 8 (extents_named (task_seen s))
+task_sized : (s : Seen) → Sized 8 (extents_named (task_seen s))
 unfolding task_seen task_of
 task_sized s =
     by_test (eqb (line_number s) 0)

@@ -13,7 +13,7 @@ use lib.Seq.{drop-cons, set_out}
 use borrow.Author.Tests.{lt-leb, le-leb, lt-ltb, le-ltb, eq-eqb, ne_eqb, ltb-true, ltb-false}
 use Rattle.lists.proofs.Cases.{by_test}
 use Rattle.decimals.specs.Decimals.{digit}
-use Rattle.parser.specs.Scanning.{Scanned, State, state, scanned, capped, spells, longer, counts, extent, kept_at, lost, stored, closed, step, after}
+use Rattle.parser.specs.Scanning.{Seen, State, state, scanned, capped, spells, longer, counts, extent, kept_at, lost, stored, closed, step, after}
 
 -- ---- one byte of a word
 
@@ -86,11 +86,11 @@ module _ (k : ℕ) (b : Bool) (n w x y z v : ℕ) (d : List ℕ) where
 abbrev pub fresh : State → State
 fresh t = state (scanned t.seen.count t.seen.broken 0 0 t.seen.nx t.seen.ny t.seen.nz) t.codes
 
-pub closed_none : (s : Scanned) (d : List ℕ) → s.size ≤ 0 → state s d ≡ closed s d
+pub closed_none : (s : Seen) (d : List ℕ) → s.size ≤ 0 → state s d ≡ closed s d
 unfolding closed
 closed_none s d h = rw (eq-eqb s.size 0 (omega arith))
 
-module _ (s : Scanned) (d : List ℕ) (n : 0 < s.size) where
+module _ (s : Seen) (d : List ℕ) (n : 0 < s.size) where
   pub closed_counted : (v : ℕ) (t : State) → s.value ≡ v → v < 2 ^ 32 → s.broken ≡ false → s.count < 515 → t ≡ state (kept_at s v) (stored s.count v d) → fresh t ≡ closed s d
   unfolding closed counts
   closed_counted v t e h b k p = rw (ne_eqb s.size 0 (λ z. omega arith), p, b, e, lt-ltb v (2 ^ 32) h, lt-ltb s.count 515 k)
@@ -114,11 +114,11 @@ module _ (s : Scanned) (d : List ℕ) (n : 0 < s.size) where
 -- ---- a chunk
 
 -- The bytes from i on lead from the state that has been reached to the last.
-pub after_more : (st : State) (s t : Scanned) (d e bs : List ℕ) (i : ℕ) → i < length bs → st ≡ after (state s d) (drop i bs)
+pub after_more : (st : State) (s t : Seen) (d e bs : List ℕ) (i : ℕ) → i < length bs → st ≡ after (state s d) (drop i bs)
     → state t e ≡ step s d (get_or bs i 0) → st ≡ after (state t e) (drop (i + 1) bs)
 unfolding after
 after_more st s t d e bs i h p q = p ∙ rw (drop-cons bs i 0 h, add-one, q)
 
-pub after_all : (st : State) (s : Scanned) (d bs : List ℕ) (i : ℕ) → length bs ≤ i → st ≡ after (state s d) (drop i bs) → state s d ≡ st
+pub after_all : (st : State) (s : Seen) (d bs : List ℕ) (i : ℕ) → length bs ≤ i → st ≡ after (state s d) (drop i bs) → state s d ≡ st
 unfolding after
 after_all st s d bs i h p = sym (p ∙ rw (drop_of_length-le bs {i = i} h))

@@ -18,7 +18,7 @@ use Rattle.cells.proofs.ExtentLaws.{volume_high}
 use Rattle.extents.proofs.SizeLaws.{sized_of}
 use Rattle.text.specs.Words.{words_of, all_digits, is_number, spelled}
 use Rattle.text.specs.Request.{numbers, word, readable, extents_in, codes_in, formed, declines_text, text_refusal, asked_extents, asked_codes}
-use Rattle.parser.specs.Scanning.{Scanned, State, state, scanned, begun, extent, lost, stored, after}
+use Rattle.parser.specs.Scanning.{Seen, State, state, scanned, begun, extent, lost, stored, after}
 use Rattle.parser.specs.Asked.{Outcome, outcome, task_of, extents_seen, off_extents, whole_text, line_number, task_seen, finished}
 use Rattle.parser.proofs.WordLaws.{word_ends, after_words, walked}
 use Rattle.parser.proofs.AnswerLaws.{rungs, rungs_none, ladder}
@@ -52,13 +52,13 @@ leading_same (w ∷ ws) n = rw (and_first (is_number w) (numbers ws) n) (ap (λ 
 -- ---- words that end
 
 -- After a word that does not count, none counts.
-lost_stays : (s : Scanned) (d : List ℕ) (ws : List (List ℕ)) → after_words (state (lost s) d) ws ≡ state (lost s) d
+lost_stays : (s : Seen) (d : List ℕ) (ws : List (List ℕ)) → after_words (state (lost s) d) ws ≡ state (lost s) d
 unfolding after_words word_ends
 lost_stays s d [] = refl
 lost_stays s d (w ∷ ws) = lost_stays s d ws
 
 module _ (k x y z : ℕ) (d w : List ℕ) (ws : List (List ℕ)) where
-  abbrev s : Scanned
+  abbrev s : Seen
   s = scanned k false 0 0 x y z
 
   lost_here : (is_number w && ltb k 515) ≡ false → after_words (state s d) (w ∷ ws) ≡ state (lost s) d
@@ -118,7 +118,7 @@ record Told (st : State) (d : List ℕ) (ws : List (List ℕ)) : Type 0 where
   tray : st.codes ≡ written ws d
 
 -- The extents cannot be read.
-unread : (st : State) (s : Scanned) (d : List ℕ) (ws : List (List ℕ)) → st ≡ state s d → s.count < 3 → readable ws ≡ false
+unread : (st : State) (s : Seen) (d : List ℕ) (ws : List (List ℕ)) → st ≡ state s d → s.count < 3 → readable ws ≡ false
     → drop 3 (take 515 (leading ws)) ≡ [] → Told st d ws
 unfolding written
 unread st s d ws e h r n =
@@ -174,10 +174,10 @@ unfolding is_number all_digits
 no_word = refl
 
 module _ (d : List ℕ) where
-  abbrev after_one : ℕ → Scanned
+  abbrev after_one : ℕ → Seen
   after_one x = scanned 1 false 0 0 x 0 0
 
-  abbrev after_two : ℕ → ℕ → Scanned
+  abbrev after_two : ℕ → ℕ → Seen
   after_two x y = scanned 2 false 0 0 x y 0
 
   told_two : (a b : List ℕ) (ws : List (List ℕ)) → is_number a ≡ true → is_number b ≡ true → Told (after_words (state begun d) (a ∷ b ∷ ws)) d (a ∷ b ∷ ws)
@@ -254,7 +254,7 @@ accepted_of text z =
       enough = code_length (words_of text) n.form;
     }
 
-module _ (s : Scanned) (e d text : List ℕ) (k : Told (state s e) d (words_of text)) (h : length d ≡ 512) where
+module _ (s : Seen) (e d text : List ℕ) (k : Told (state s e) d (words_of text)) (h : length d ≡ 512) where
   abbrev ws : List (List ℕ)
   ws = words_of text
 

@@ -12,7 +12,7 @@ use Rattle.lists.proofs.Cases.{by_test, and_second}
 use Rattle.text.proofs.SpelledLaws.{value_snoc, digits_snoc}
 use Rattle.decimals.specs.Decimals.{digit}
 use Rattle.text.specs.Words.{gap, ended, words_from, words_of, all_digits, value_from, spelled, is_number}
-use Rattle.parser.specs.Scanning.{Scanned, State, state, scanned, begun, capped, spells, longer, counts, counted, lost, grown, stored, closed, step, after}
+use Rattle.parser.specs.Scanning.{Seen, State, state, scanned, begun, capped, spells, longer, counts, counted, lost, grown, stored, closed, step, after}
 
 -- ---- chunks do not matter
 
@@ -70,16 +70,16 @@ module _ (w : List ℕ) (b : ℕ) where
   value_more = rw (digits_snoc w b, length-snoc, value_snoc 0 w b) (value_plain (all_digits w) (digit b) (length w) (value_from 0 w) (b - 48))
 
 -- Where the bytes w of a word have come.
-abbrev opened : Scanned → List ℕ → Scanned
+abbrev opened : Seen → List ℕ → Seen
 opened s w = scanned s.count s.broken (size_of w) (value_of w) s.nx s.ny s.nz
 
-grown_opened : (s : Scanned) (w : List ℕ) (b : ℕ) → grown (opened s w) b ≡ opened s (w ++ (b ∷ []))
+grown_opened : (s : Seen) (w : List ℕ) (b : ℕ) → grown (opened s w) b ≡ opened s (w ++ (b ∷ []))
 grown_opened s w b = ap₂ (λ n v. scanned s.count s.broken n v s.nx s.ny s.nz) (size_snoc w b) (value_more w b)
 
 -- ---- words
 
 -- A word that has ended counts or not.
-unfoldable pub word_ends : Scanned → List ℕ → List ℕ → State
+unfoldable pub word_ends : Seen → List ℕ → List ℕ → State
 word_ends s d w =
     cond (not s.broken && (is_number w && ltb s.count 515)) (state (counted s (spelled w)) (stored s.count (spelled w) d)) (state (lost s) d)
 
@@ -95,7 +95,7 @@ module _ (b : ℕ) (bs : List ℕ) where
   size_some : eqb (size_of (b ∷ bs)) 0 ≡ false
   size_some = by_test (ltb (suc (length bs)) 10) (λ t. rw t (ne_eqb (suc (length bs)) 0 (λ e. omega arith))) (λ t. rw t)
 
-  closed_opened : (s : Scanned) (d : List ℕ) → closed (opened s (b ∷ bs)) d ≡ word_ends s d (b ∷ bs)
+  closed_opened : (s : Seen) (d : List ℕ) → closed (opened s (b ∷ bs)) d ≡ word_ends s d (b ∷ bs)
   unfolding closed counts word_ends
   closed_opened s d =
       rw (size_some, number_good)
@@ -107,15 +107,15 @@ module _ (b : ℕ) (bs : List ℕ) where
       below t = and_second (leb (length (b ∷ bs)) 10) (ltb (spelled (b ∷ bs)) (2 ^ 32)) (and_second (all_digits (b ∷ bs)) (leb (length (b ∷ bs)) 10 && ltb (spelled (b ∷ bs)) (2 ^ 32)) t)
 
 -- No byte of a word has come.
-abbrev Idle : Scanned → Type 0
+abbrev Idle : Seen → Type 0
 Idle s = opened s [] ≡ s
 
-ends_idle : (s : Scanned) (d w : List ℕ) → Idle (word_ends s d w).seen
+ends_idle : (s : Seen) (d w : List ℕ) → Idle (word_ends s d w).seen
 unfolding word_ends spelled all_digits value_from
 ends_idle s d w = by_test (not s.broken && (is_number w && ltb s.count 515)) (λ t. rw t) (λ t. rw t)
 
 -- Nothing ends where no byte has come.
-closed_idle : (s : Scanned) (d : List ℕ) → closed (opened s []) d ≡ state (opened s []) d
+closed_idle : (s : Seen) (d : List ℕ) → closed (opened s []) d ≡ state (opened s []) d
 unfolding closed
 closed_idle s d = refl
 
@@ -124,7 +124,7 @@ abbrev pub shut : State → State
 shut st = closed st.seen st.codes
 
 -- One byte of a text, in the words and in the scanner.
-module _ (s : Scanned) (d w : List ℕ) (b : ℕ) (bs : List ℕ) where
+module _ (s : Seen) (d w : List ℕ) (b : ℕ) (bs : List ℕ) where
   walk_gap : gap b ≡ true → shut (after (closed (opened s w) d) bs) ≡ after_words (state s d) (ended w (words_from [] bs))
       → shut (after (state (opened s w) d) (b ∷ bs)) ≡ after_words (state s d) (words_from w (b ∷ bs))
   unfolding after words_from step
@@ -135,9 +135,9 @@ module _ (s : Scanned) (d w : List ℕ) (b : ℕ) (bs : List ℕ) where
   unfolding after words_from step
   walk_byte t e =
       ap (λ (c : Bool). shut (after (cond c (closed (opened s w) d) (state (grown (opened s w) b) d)) bs)) t
-      ∙ ap (λ (u : Scanned). shut (after (state u d) bs)) (grown_opened s w b) ∙ rw t e
+      ∙ ap (λ (u : Seen). shut (after (state u d) bs)) (grown_opened s w b) ∙ rw t e
 
-walk : (s : Scanned) (d w text : List ℕ) → Idle s → shut (after (state (opened s w) d) text) ≡ after_words (state s d) (words_from w text)
+walk : (s : Seen) (d w text : List ℕ) → Idle s → shut (after (state (opened s w) d) text) ≡ after_words (state s d) (words_from w text)
 unfolding after after_words words_from ended
 walk s d [] [] i = closed_idle s d ∙ rw i
 walk s d (b ∷ w) [] i = closed_opened b w s d
@@ -147,14 +147,14 @@ walk s d w (b ∷ bs) i =
     (λ t. walk_byte s d w b bs t (walk s d (w ++ (b ∷ [])) bs i))
   where
     Walks : Type 0
-    Walks = (u : Scanned) (e : List ℕ) → Idle u → shut (after (state (opened u []) e) bs) ≡ after_words (state u e) (words_from [] bs)
+    Walks = (u : Seen) (e : List ℕ) → Idle u → shut (after (state (opened u []) e) bs) ≡ after_words (state u e) (words_from [] bs)
 
     ends : (w : List ℕ) → Walks → shut (after (closed (opened s w) d) bs) ≡ after_words (state s d) (ended w (words_from [] bs))
     ends [] ih = ap (λ (st : State). shut (after st bs)) (closed_idle s d) ∙ ih s d i
     ends (c ∷ w) ih =
         let st = word_ends s d (c ∷ w) in
         let j : Idle st.seen = ends_idle s d (c ∷ w) in
-        ap (λ (u : State). shut (after u bs)) (closed_opened c w s d ∙ ap (λ (u : Scanned). state u st.codes) (sym j)) ∙ ih st.seen st.codes j
+        ap (λ (u : State). shut (after u bs)) (closed_opened c w s d ∙ ap (λ (u : Seen). state u st.codes) (sym j)) ∙ ih st.seen st.codes j
 
 -- The bytes of a text from the first on do what its words do.
 pub walked : (d text : List ℕ) → shut (after (state begun d) text) ≡ after_words (state begun d) (words_of text)

@@ -3,11 +3,12 @@
 use Rattle.std.specs.Prelude.{Option, Some, None, Bool, true, false, cond, not, ◌&&◌, List, [], ◌∷◌, ℕ, ◌+◌, ◌-◌, ◌*◌, ◌^◌, eqb, ltb, set}
 use Rattle.decimals.specs.Decimals.{digit}
 use Rattle.text.specs.Words.{gap}
+use Rattle.parser.specs.declared.Scanned.{Scanned}
 use Rattle.parser.specs.declared.Scanner.{Scanner}
 
 -- What has been read, but for the codes: how many words count, whether one has ended that does not, the word that has not ended, by its
 -- size, 10 at most, and by what it spells, and the extents.
-pub record Scanned : Type 0 where
+pub record Seen : Type 0 where
   pub count : ℕ
   pub broken : Bool
   pub size : ℕ
@@ -18,14 +19,14 @@ pub record Scanned : Type 0 where
 
 -- What has been read, and the tray of codes.
 pub record State : Type 0 where
-  pub seen : Scanned
+  pub seen : Seen
   pub codes : List ℕ
 
-abbrev pub state : Scanned → List ℕ → State
+abbrev pub state : Seen → List ℕ → State
 state s d = record { seen = s; codes = d }
 
 -- Its fields, in order.
-abbrev pub scanned : ℕ → Bool → ℕ → ℕ → ℕ → ℕ → ℕ → Scanned
+abbrev pub scanned : ℕ → Bool → ℕ → ℕ → ℕ → ℕ → ℕ → Seen
 scanned k b n v x y z = record { count = k; broken = b; size = n; value = v; nx = x; ny = y; nz = z }
 
 -- What a word spells: 2^32, above every number, where it is no number.
@@ -33,15 +34,16 @@ abbrev pub told_value : Option ℕ → ℕ
 told_value None = 2 ^ 32
 told_value (Some v) = v
 
--- What a scanner has read.
-abbrev pub seen : Scanner → Scanned
+-- What the code keeps of it.
+abbrev pub seen : Scanned → Seen
 seen s = scanned s.count s.broken s.size (told_value s.value) s.extents.x s.extents.y s.extents.z
 
+-- What a scanner has read, and its tray.
 abbrev pub state_of : Scanner → State
-state_of s = state (seen s) s.codes.now
+state_of s = state (seen s.scanned) s.codes.now
 
 -- Before the first byte.
-abbrev pub begun : Scanned
+abbrev pub begun : Seen
 begun = scanned 0 false 0 0 0 0 0
 
 -- 2^32 stands for every number that is not below it, and for what is no number.
@@ -57,12 +59,12 @@ unfoldable pub longer : ℕ → ℕ
 longer n = cond (ltb n 10) (n + 1) 10
 
 -- The word that has not ended takes a byte.
-abbrev pub grown : Scanned → ℕ → Scanned
+abbrev pub grown : Seen → ℕ → Seen
 grown s b =
     scanned s.count s.broken (longer s.size) (spells s.size s.value b) s.nx s.ny s.nz
 
 -- A word that ends counts where all before it did, it is a number, and it is no more than the 512th code after three extents.
-unfoldable pub counts : Scanned → Bool
+unfoldable pub counts : Seen → Bool
 counts s = not s.broken && (ltb s.value (2 ^ 32) && ltb s.count 515)
 
 -- Extent i, where v counts after k others: the first three are the extents.
@@ -70,12 +72,12 @@ unfoldable pub extent : ℕ → ℕ → ℕ → ℕ → ℕ
 extent i k v old = cond (eqb k i) v old
 
 -- The numbers that count are one more.
-abbrev pub kept_at : Scanned → ℕ → Scanned
+abbrev pub kept_at : Seen → ℕ → Seen
 kept_at s v =
     scanned (s.count + 1) s.broken s.size s.value (extent 0 s.count v s.nx) (extent 1 s.count v s.ny) (extent 2 s.count v s.nz)
 
 -- It counts.
-abbrev pub counted : Scanned → ℕ → Scanned
+abbrev pub counted : Seen → ℕ → Seen
 counted s v =
     scanned (s.count + 1) false 0 0 (extent 0 s.count v s.nx) (extent 1 s.count v s.ny) (extent 2 s.count v s.nz)
 
@@ -84,17 +86,17 @@ unfoldable pub stored : ℕ → ℕ → List ℕ → List ℕ
 stored k v d = cond (ltb k 3) d (set d (k - 3) v)
 
 -- It does not count, and none after it does.
-abbrev pub lost : Scanned → Scanned
+abbrev pub lost : Seen → Seen
 lost s = scanned s.count true 0 0 s.nx s.ny s.nz
 
 -- The word, if there is one, ends.
-unfoldable pub closed : Scanned → List ℕ → State
+unfoldable pub closed : Seen → List ℕ → State
 closed s d =
     cond (eqb s.size 0) (state s d)
     (cond (counts s) (state (counted s s.value) (stored s.count s.value d)) (state (lost s) d))
 
 -- One byte.
-unfoldable pub step : Scanned → List ℕ → ℕ → State
+unfoldable pub step : Seen → List ℕ → ℕ → State
 step s d b = cond (gap b) (closed s d) (state (grown s b) d)
 
 -- All bytes of a chunk.

@@ -1,5 +1,6 @@
 // Turns the text that the listing program reads into what the program is to do. The text comes in chunks, of any length in all, and is
-// read to its end whatever is in it: what is kept of it is one `Scanner` with its tray of codes. None of the functions is an entry.
+// read to its end whatever is in it: what is kept of it is one `Scanned` and the tray of codes, which a `Scanner` holds together. None of
+// the functions is an entry.
 #![tactic(auto)]
 
 ghost use Rattle.std.specs.Prelude.{◌≡◌, ◌<◌};
@@ -15,14 +16,20 @@ use refusals::Refusal;
 
 // What has been read. `count` words are numbers that count: those before the first word that is no number, 515 at most. `broken`: a word
 // has ended that does not count. The word that has not ended has `size` bytes, where 10 stands for more too, and spells `value`, if it is
-// a number so far. The first three numbers are the extents, and the others stand in front in the tray of codes.
-#[derive(Drop)]
-pub struct Scanner<'a> {
+// a number so far. The first three numbers are the extents.
+#[derive(Clone, Copy)]
+pub struct Scanned {
     count: u32,
     broken: bool,
     size: u32,
     value: Option<u32>,
     extents: Triple,
+}
+
+// What has been read, with the tray, in which the codes stand in front.
+#[derive(Drop)]
+pub struct Scanner<'a> {
+    scanned: Scanned,
     codes: &'a mut [u32],
 }
 
@@ -56,6 +63,19 @@ fn voxels(e: Triple) -> usize
     e.x * e.y * e.z
 }
 
+// Before the first chunk. Not an entry.
+pub fn start() -> Scanned
+    ensures { seen result ≡ begun }
+{
+    Scanned {
+        count: 0,
+        broken: false,
+        size: 0,
+        value: Some(0),
+        extents: Triple { x: 0, y: 0, z: 0 },
+    }
+}
+
 impl<'a> Scanner<'a> {
     // Before the first chunk. The tray is the scanner's own from then on: it takes the codes as they are read. Not an entry.
     pub fn start(codes: &'a mut [u32]) -> Scanner<'a>
@@ -63,11 +83,7 @@ impl<'a> Scanner<'a> {
         ensures same_tray { result.codes.ghost_name ≡ codes.entry.ghost_name }
     {
         Scanner {
-            count: 0,
-            broken: false,
-            size: 0,
-            value: Some(0),
-            extents: Triple { x: 0, y: 0, z: 0 },
+            scanned: start(),
             codes,
         }
     }
@@ -75,23 +91,23 @@ impl<'a> Scanner<'a> {
     // The word that has not ended takes a byte.
     #[tactic(auto, using(crate::proofs::ScanLaws::longer_is))]
     fn grow(&mut self, b: u8)
-        ensures grown { state_of self.new ≡ state (grown (seen self.old) b) self.old.codes.now }
+        ensures grown { state_of self.new ≡ state (grown (seen self.old.scanned) b) self.old.codes.now }
         ensures same_tray { self.new.codes.ghost_name ≡ self.old.codes.ghost_name }
     {
-        self.value = spells(self.size, self.value, b);
-        self.size = self.size.min(9) + 1;
+        self.scanned.value = spells(self.scanned.size, self.scanned.value, b);
+        self.scanned.size = self.scanned.size.min(9) + 1;
     }
 
     // A number counts: it is an extent, or a code, which is kept where it has its place in the tray.
     fn keep(&mut self, value: u32)
-        requires { self.old.count < 515 }
-        ensures kept { state_of self.new ≡ state (kept_at (seen self.old) value) (stored self.old.count value self.old.codes.now) }
+        requires { self.old.scanned.count < 515 }
+        ensures kept { state_of self.new ≡ state (kept_at (seen self.old.scanned) value) (stored self.old.scanned.count value self.old.codes.now) }
         ensures same_tray { self.new.codes.ghost_name ≡ self.old.codes.ghost_name }
     {
-        match self.count {
-            0 => self.extents.x = value as usize,
-            1 => self.extents.y = value as usize,
-            2 => self.extents.z = value as usize,
+        match self.scanned.count {
+            0 => self.scanned.extents.x = value as usize,
+            1 => self.scanned.extents.y = value as usize,
+            2 => self.scanned.extents.z = value as usize,
             n => {
                 let place = n as usize - 3;
                 if place < self.codes.len() {
@@ -99,28 +115,28 @@ impl<'a> Scanner<'a> {
                 }
             }
         }
-        self.count += 1;
+        self.scanned.count += 1;
     }
 
     // The word, if there is one, ends.
     fn close(&mut self)
-        ensures closed { state_of self.new ≡ closed (seen self.old) self.old.codes.now }
+        ensures closed { state_of self.new ≡ closed (seen self.old.scanned) self.old.codes.now }
         ensures same_tray { self.new.codes.ghost_name ≡ self.old.codes.ghost_name }
     {
-        if self.size > 0 {
-            match self.value {
-                Some(value) if !self.broken && self.count < 515 => self.keep(value),
-                _ => self.broken = true,
+        if self.scanned.size > 0 {
+            match self.scanned.value {
+                Some(value) if !self.scanned.broken && self.scanned.count < 515 => self.keep(value),
+                _ => self.scanned.broken = true,
             }
-            self.size = 0;
-            self.value = Some(0);
+            self.scanned.size = 0;
+            self.scanned.value = Some(0);
         }
     }
 
     // One byte.
     #[tactic(auto, unfolding(crate::specs::Scanning::step))]
     fn step(&mut self, b: u8)
-        ensures step { state_of self.new ≡ step (seen self.old) self.old.codes.now b }
+        ensures step { state_of self.new ≡ step (seen self.old.scanned) self.old.codes.now b }
         ensures same_tray { self.new.codes.ghost_name ≡ self.old.codes.ghost_name }
     {
         if is_gap(b) {
@@ -144,31 +160,31 @@ impl<'a> Scanner<'a> {
     // Whether the extents can be read and are off size.
     #[tactic(auto, unfolding(crate::specs::Asked::off_extents))]
     fn off_extents(&self) -> bool
-        ensures { result ≡ off_extents (seen self.now) }
+        ensures { result ≡ off_extents (seen self.now.scanned) }
     {
-        self.count >= 3 && off_size(8, self.extents)
+        self.scanned.count >= 3 && off_size(8, self.scanned.extents)
     }
 
     // Whether the text has its form.
     #[tactic(auto, unfolding(crate::specs::Asked::whole_text))]
     fn is_whole(&self) -> bool
-        ensures { result ≡ whole_text (seen self.now) }
+        ensures { result ≡ whole_text (seen self.now.scanned) }
     {
-        !self.broken
-            && self.count >= 3
-            && !off_size(8, self.extents)
-            && self.count as usize - 3 == voxels(self.extents)
+        !self.scanned.broken
+            && self.scanned.count >= 3
+            && !off_size(8, self.scanned.extents)
+            && self.scanned.count as usize - 3 == voxels(self.scanned.extents)
     }
 
     // What the words that have been read ask for.
     #[tactic(auto, unfolding(crate::specs::Asked::task_seen, crate::specs::Asked::task_of, crate::specs::Asked::line_number, refusals::specs::Refusals::number))]
     fn asked(&self) -> Result<Triple, Refusal>
-        ensures { told result ≡ task_seen (seen self.now) }
+        ensures { told result ≡ task_seen (seen self.now.scanned) }
     {
         if self.off_extents() {
             Err(Refusal::OffSize)
         } else if self.is_whole() {
-            Ok(self.extents)
+            Ok(self.scanned.extents)
         } else {
             Err(Refusal::BadRecord)
         }
@@ -183,4 +199,21 @@ impl<'a> Scanner<'a> {
         self.close();
         self.asked()
     }
+}
+
+// Reads a chunk. The tray is lent for this call alone: it takes the codes as they are read. Not an entry.
+pub fn scan(s: Scanned, codes: &mut [u32], chunk: &[u8]) -> Scanned
+    ensures { state (seen result) codes.new ≡ after (state (seen s) codes.old) chunk.now }
+{
+    let mut scanner = Scanner { scanned: s, codes };
+    scanner.scan(chunk);
+    scanner.scanned
+}
+
+// Tells after the last chunk what is to be done, as a scanner does. The tray has a place for each code of the largest volume. Not an entry.
+pub fn finish(s: Scanned, codes: &mut [u32; 512]) -> Result<Triple, Refusal>
+    ensures { outcome (told result) codes.new ≡ finished (state (seen s) codes.old) }
+{
+    let mut scanner = Scanner { scanned: s, codes };
+    scanner.finish()
 }

@@ -8,7 +8,7 @@ ghost use Rattle.cells.specs.Extents.{Sized};
 ghost use Rattle.cells.specs.Grid.{cells};
 ghost use Rattle.labels.specs.Components.{largest, first_cell};
 ghost use Rattle.text.specs.Listing.{spaced, letter, coordinates, line, lines_of, heading, listing, refused_line};
-ghost use Rattle.text_tray.specs.Sunk.{state, sunk, fitting, part};
+ghost use Rattle.text_tray.specs.Sunk.{state_of, sunk, fitting, part};
 ghost use Rattle.pass_first.specs.Marks.{cell_order, Sought};
 ghost use Rattle.printer.specs.Printing.{too_many, has_listing, outcome, printing, Ready};
 
@@ -16,12 +16,12 @@ use cells::Triple;
 use extents::{grid_cells, off_size};
 use pass_first::{Kind, count_of, mark_order};
 use rows::row_at;
-use text_tray::Sink;
+use text_tray::TextTray;
 
 // Puts cell p as x y z.
-fn put_place(s: &mut Sink, e: Triple, p: usize)
+fn put_place(s: &mut TextTray, e: Triple, p: usize)
     requires { Sized 8 e × (p < cells e) }
-    ensures put { state s.new ≡ sunk (state s.old) (spaced (coordinates e p)) }
+    ensures put { state_of s.new ≡ sunk (state_of s.old) (spaced (coordinates e p)) }
     ensures same_tray { s.new.tray.ghost_name ≡ s.old.tray.ghost_name }
 {
     let w = 2 * e.x - 1;
@@ -45,9 +45,9 @@ fn letter_of(kind: Kind) -> u8
 }
 
 // Puts the line of component n of a kind, whose first cell is p.
-fn put_line(s: &mut Sink, e: Triple, map: &[u32], kind: Kind, n: u32, p: usize)
+fn put_line(s: &mut TextTray, e: Triple, map: &[u32], kind: Kind, n: u32, p: usize)
     requires { Sought e map.now (cell_order kind) × (p ≡ first_cell e map.now (cell_order kind) n) }
-    ensures put { state s.new ≡ sunk (state s.old) (line e map.now (cell_order kind) n) }
+    ensures put { state_of s.new ≡ sunk (state_of s.old) (line e map.now (cell_order kind) n) }
     ensures same_tray { s.new.tray.ghost_name ≡ s.old.tray.ghost_name }
 {
     let row = row_at(map, e, p);
@@ -60,9 +60,9 @@ fn put_line(s: &mut Sink, e: Triple, map: &[u32], kind: Kind, n: u32, p: usize)
 
 // Puts the lines of a kind. The tray of first cells has zeros before and after.
 #[tactic(auto, unfolding(lists::specs::Lists::zeros))]
-fn put_order(s: &mut Sink, e: Triple, map: &[u32], kind: Kind, marks: &mut [u32])
+fn put_order(s: &mut TextTray, e: Triple, map: &[u32], kind: Kind, marks: &mut [u32])
     requires { Sought e map.now (cell_order kind) × (marks.old ≡ zeros (cells e)) × (largest e map.now (cell_order kind) ≤ cells e) }
-    ensures put { state s.new ≡ sunk (state s.old) (lines_of e map.now (cell_order kind)) }
+    ensures put { state_of s.new ≡ sunk (state_of s.old) (lines_of e map.now (cell_order kind)) }
     ensures same_tray { s.new.tray.ghost_name ≡ s.old.tray.ghost_name }
     ensures marks_after { marks.new ≡ zeros (cells e) }
 {
@@ -76,9 +76,9 @@ fn put_order(s: &mut Sink, e: Triple, map: &[u32], kind: Kind, marks: &mut [u32]
 
 // Puts the heading.
 #[tactic(auto, using(crate::proofs::PrintLaws::heading_put))]
-fn put_heading(s: &mut Sink, e: Triple, map: &[u32])
+fn put_heading(s: &mut TextTray, e: Triple, map: &[u32])
     requires { Sought e map.now 2 }
-    ensures put { state s.new ≡ sunk (state s.old) (heading e map.now) }
+    ensures put { state_of s.new ≡ sunk (state_of s.old) (heading e map.now) }
     ensures same_tray { s.new.tray.ghost_name ≡ s.old.tray.ghost_name }
 {
     s.put_count(b"faces", count_of(map, e, Kind::Face));
@@ -89,9 +89,9 @@ fn put_heading(s: &mut Sink, e: Triple, map: &[u32])
 
 // Puts the listing, where there is one. The tray of first cells is left with zeros.
 #[tactic(auto, using(crate::proofs::PrintLaws::listing_put))]
-fn put_listing(s: &mut Sink, e: Triple, map: &[u32], marks: &mut [u32])
+fn put_listing(s: &mut TextTray, e: Triple, map: &[u32], marks: &mut [u32])
     requires { Ready e map.now (length marks.old) }
-    ensures put { state s.new ≡ sunk (state s.old) (listing e map.now) }
+    ensures put { state_of s.new ≡ sunk (state_of s.old) (listing e map.now) }
     ensures same_tray { s.new.tray.ghost_name ≡ s.old.tray.ghost_name }
     ensures marks_after { marks.new ≡ zeros (cells e) }
 {
@@ -139,9 +139,9 @@ pub fn print_listing(
         ≡ printing e map.now marks.old from out.old }
 {
     if has_listing(e, map, marks.len()) {
-        let mut s = Sink::new(from, out);
+        let mut s = TextTray::new(from, out);
         put_listing(&mut s, e, map, marks);
-        s.at
+        s.sink.at
     } else {
         0
     }
@@ -152,8 +152,8 @@ pub fn print_listing(
 pub fn print_refusal(number: u32, from: usize, out: &mut [u8]) -> usize
     ensures { (result ≡ fitting from (refused_line number) (length out.old)) × (out.new ≡ part from (refused_line number) out.old) }
 {
-    let mut s = Sink::new(from, out);
+    let mut s = TextTray::new(from, out);
     s.put_count(b"refused", number);
     s.put(b'\n');
-    s.at
+    s.sink.at
 }

@@ -1,6 +1,7 @@
 -- A text put byte by byte into a tray, from any place of the text on. Assumes nothing.
 use Rattle.std.specs.Prelude.{cond, List, [], ◌∷◌, ◌++◌, ℕ, ◌+◌, ◌-◌, min, eqb, ltb, length, set, take, drop}
 use Rattle.text_tray.specs.declared.Sink.{Sink}
+use Rattle.text_tray.specs.declared.TextTray.{TextTray}
 
 -- How many bytes of a text still stand before the part that is asked for, how many are in the tray, and the tray.
 pub record State : Type 0 where
@@ -8,8 +9,12 @@ pub record State : Type 0 where
   pub at : ℕ
   pub tray : List ℕ
 
-abbrev pub state : Sink → State
-state s = record { skip = s.skip; at = s.at; tray = s.tray.now }
+abbrev pub state : Sink → List ℕ → State
+state s t = record { skip = s.skip; at = s.at; tray = t }
+
+-- .. where the sink is kept with its tray.
+abbrev pub state_of : TextTray → State
+state_of t = state t.sink t.tray.now
 
 -- Before the first byte.
 abbrev pub begun : ℕ → List ℕ → State

@@ -4,43 +4,52 @@
 ghost use Rattle.std.specs.Prelude.{◌≡◌, [], ◌∷◌, ◌++◌};
 ghost use Rattle.decimals.specs.Decimals.{decimal_digits};
 ghost use Rattle.text.specs.Listing.{spaced};
-ghost use Rattle.text_tray.specs.Sunk.{begun, state, sunk};
+ghost use Rattle.text_tray.specs.Sunk.{begun, state, state_of, sunk};
 
-// A tray that takes a text from any place of it on: how many bytes of the text still stand before that place, and how many are in the tray.
-#[derive(Drop)]
-pub struct Sink<'a> {
+// How many bytes of the text still stand before the part that is asked for, and how many are in the tray.
+#[derive(Clone, Copy)]
+pub struct Sink {
     pub skip: usize,
     pub at: usize,
+}
+
+// A tray that takes a text from any place of it on, with its sink.
+#[derive(Drop)]
+pub struct TextTray<'a> {
+    pub sink: Sink,
     pub tray: &'a mut [u8],
 }
 
-impl<'a> Sink<'a> {
+impl<'a> TextTray<'a> {
     // Before the first byte of the text.
-    pub fn new(skip: usize, tray: &'a mut [u8]) -> Sink<'a>
-        ensures begun { state result ≡ begun skip tray.old }
+    pub fn new(skip: usize, tray: &'a mut [u8]) -> TextTray<'a>
+        ensures begun { state_of result ≡ begun skip tray.old }
         ensures same_tray { result.tray.ghost_name ≡ tray.entry.ghost_name }
     {
-        Sink { skip, at: 0, tray }
+        TextTray {
+            sink: Sink { skip, at: 0 },
+            tray,
+        }
     }
 
     // Puts a byte.
     #[tactic(auto, using(crate::proofs::SinkLaws::put_skipped, crate::proofs::SinkLaws::put_in, crate::proofs::SinkLaws::put_full))]
     pub fn put(&mut self, b: u8)
-        ensures put { state self.new ≡ sunk (state self.old) (b ∷ []) }
+        ensures put { state_of self.new ≡ sunk (state_of self.old) (b ∷ []) }
         ensures same_tray { self.new.tray.ghost_name ≡ self.old.tray.ghost_name }
     {
-        if self.skip > 0 {
-            self.skip -= 1;
-        } else if self.at < self.tray.len() {
-            self.tray[self.at] = b;
-            self.at += 1;
+        if self.sink.skip > 0 {
+            self.sink.skip -= 1;
+        } else if self.sink.at < self.tray.len() {
+            self.tray[self.sink.at] = b;
+            self.sink.at += 1;
         }
     }
 
     // Puts a word.
     #[tactic(auto, using(crate::proofs::SinkLaws::sunk_none, crate::proofs::SinkLaws::word_next, crate::proofs::SinkLaws::word_all))]
     pub fn put_word(&mut self, word: &[u8])
-        ensures put { state self.new ≡ sunk (state self.old) word.now }
+        ensures put { state_of self.new ≡ sunk (state_of self.old) word.now }
         ensures same_tray { self.new.tray.ghost_name ≡ self.old.tray.ghost_name }
     {
         for b in word {
@@ -51,7 +60,7 @@ impl<'a> Sink<'a> {
     // Puts a number: the digits before the last, and the last.
     // Kept: no `write!`, whose contract allows an error: the clauses here and of `print_listing` say what is put at every call.
     fn put_decimal(&mut self, n: u32)
-        ensures put { state self.new ≡ sunk (state self.old) (decimal_digits n) }
+        ensures put { state_of self.new ≡ sunk (state_of self.old) (decimal_digits n) }
         ensures same_tray { self.new.tray.ghost_name ≡ self.old.tray.ghost_name }
     {
         if n >= 10 {
@@ -63,7 +72,7 @@ impl<'a> Sink<'a> {
     // Puts a number after a space.
     #[tactic(auto, using(crate::proofs::NumberLaws::spaced_put))]
     pub fn put_spaced(&mut self, n: u32)
-        ensures put { state self.new ≡ sunk (state self.old) (spaced (n ∷ [])) }
+        ensures put { state_of self.new ≡ sunk (state_of self.old) (spaced (n ∷ [])) }
         ensures same_tray { self.new.tray.ghost_name ≡ self.old.tray.ghost_name }
     {
         self.put(b' ');
@@ -73,7 +82,7 @@ impl<'a> Sink<'a> {
     // Puts numbers, each after a space.
     #[tactic(auto, using(crate::proofs::NumberLaws::row_start, crate::proofs::NumberLaws::row_next, crate::proofs::NumberLaws::row_all))]
     pub fn put_all(&mut self, ns: &[u32])
-        ensures put { state self.new ≡ sunk (state self.old) (spaced ns.now) }
+        ensures put { state_of self.new ≡ sunk (state_of self.old) (spaced ns.now) }
         ensures same_tray { self.new.tray.ghost_name ≡ self.old.tray.ghost_name }
     {
         for n in ns {
@@ -84,10 +93,46 @@ impl<'a> Sink<'a> {
     // Puts a word and a number after it.
     #[tactic(auto, using(crate::proofs::SinkLaws::sunk_then))]
     pub fn put_count(&mut self, word: &[u8], n: u32)
-        ensures put { state self.new ≡ sunk (state self.old) (word.now ++ spaced (n ∷ [])) }
+        ensures put { state_of self.new ≡ sunk (state_of self.old) (word.now ++ spaced (n ∷ [])) }
         ensures same_tray { self.new.tray.ghost_name ≡ self.old.tray.ghost_name }
     {
         self.put_word(word);
         self.put_spaced(n);
     }
+}
+
+// Puts a byte. The tray is lent for this call alone, as it is to the three functions below.
+pub fn put(s: Sink, out: &mut [u8], b: u8) -> Sink
+    ensures { state result out.new ≡ sunk (state s out.old) (b ∷ []) }
+{
+    let mut text = TextTray { sink: s, tray: out };
+    text.put(b);
+    text.sink
+}
+
+// Puts a word.
+pub fn put_word(s: Sink, out: &mut [u8], word: &[u8]) -> Sink
+    ensures { state result out.new ≡ sunk (state s out.old) word.now }
+{
+    let mut text = TextTray { sink: s, tray: out };
+    text.put_word(word);
+    text.sink
+}
+
+// Puts a number after a space.
+pub fn put_spaced(s: Sink, out: &mut [u8], n: u32) -> Sink
+    ensures { state result out.new ≡ sunk (state s out.old) (spaced (n ∷ [])) }
+{
+    let mut text = TextTray { sink: s, tray: out };
+    text.put_spaced(n);
+    text.sink
+}
+
+// Puts a word and a number after it.
+pub fn put_count(s: Sink, out: &mut [u8], word: &[u8], n: u32) -> Sink
+    ensures { state result out.new ≡ sunk (state s out.old) (word.now ++ spaced (n ∷ [])) }
+{
+    let mut text = TextTray { sink: s, tray: out };
+    text.put_count(word, n);
+    text.sink
 }

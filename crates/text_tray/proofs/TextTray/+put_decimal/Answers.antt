@@ -1,7 +1,7 @@
 use Rattle.std.proofs.Common.{arith}
 use Rattle.text_tray.proofs.NumberLaws.{decimal_put_low, decimal_put_high}
-use Rattle.text_tray.proofs.Sink.+put_decimal.Goals as goal
-use Rattle.text_tray.proofs.Sink.+put_decimal.Goals.{then-n-ge10, else-n-ge10}
+use Rattle.text_tray.proofs.TextTray.+put_decimal.Goals as goal
+use Rattle.text_tray.proofs.TextTray.+put_decimal.Goals.{then-n-ge10, else-n-ge10}
 
 pub returns-clause-put : goal.returns-clause-put
 returns-clause-put t c =
