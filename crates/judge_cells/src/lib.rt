@@ -1,7 +1,7 @@
 // The tests of a list of cells that its two calls share: every cell is one of the grid, and the lists have one length.
 #![tactic(auto)]
 
-ghost use Rattle.std.specs.Prelude.{◌≡◌, ◌-◌, ◌*◌, ltb};
+ghost use Rattle.std.specs.Prelude.{◌≡◌, ◌-◌, ◌*◌, ◌<◌, ltb};
 ghost use Rattle.cells.specs.Grid.{sides};
 ghost use Rattle.cell_calls.specs.Cells.{cell_lists, cell_count, cell_at, in_grid, all_in_grid};
 ghost use Rattle.cell_calls.specs.Calls.{lengths_one};
@@ -32,7 +32,7 @@ pub fn lengths_one(x: usize, y: usize, z: usize, tray: usize) -> bool
 fn on_axis(n: usize, x: usize) -> bool
     ensures { result ≡ ltb x (2 * n - 1) }
 {
-    x / 2 + x % 2 < n
+    (x as u128) + 1 < 2 * (n as u128)
 }
 
 // Whether a cell is one of the grid of a volume of extents e.
@@ -61,6 +61,19 @@ impl CellLists<'_> {
             x: read_or(self.x, i, 0) as usize,
             y: read_or(self.y, i, 0) as usize,
             z: read_or(self.z, i, 0) as usize,
+        }
+    }
+
+    // .. one that the list has: it is read without a test of its place. Not an entry.
+    #[tactic(auto, unfolding(cell_calls::specs::Cells::cell_at, cell_calls::specs::Cells::cell_count))]
+    pub fn cell_within(&self, i: usize) -> Triple
+        requires { i < cell_count (cell_lists self.now.x.now self.now.y.now self.now.z.now) }
+        ensures { result ≡ cell_at (cell_lists self.now.x.now self.now.y.now self.now.z.now) i }
+    {
+        Triple {
+            x: self.x[i] as usize,
+            y: self.y[i] as usize,
+            z: self.z[i] as usize,
         }
     }
 

@@ -48,7 +48,7 @@ fn mark_blocks(cuts: &Cuts, cells: &CellLists, marks: &mut [bool])
 {
     let n = cells.cell_count();
     for i in 0..n {
-        let b = lowest_block(cuts, cells.cell_at(i));
+        let b = lowest_block(cuts, cells.cell_within(i));
         marks[b] = true;
     }
 }

@@ -13,11 +13,11 @@ lowest_block-b-requires c = ready_few c.args.cuts.now (lists_of c.args.cells.now
 
 pub bounds-marks-b : goal.bounds-marks-b
 bounds-marks-b c =
-    let bound = mark_bound c.args.cuts.now (lists_of c.args.cells.now) _ (omega (arith, c.loop-i-test.true, c.cell_count-n.ensures)) _ c.cell_at.ensures _ c.lowest_block-b.ensures c.requires.0 in
+    let bound = mark_bound c.args.cuts.now (lists_of c.args.cells.now) _ (omega (arith, c.loop-i-test.true, c.cell_count-n.ensures)) _ c.cell_within.ensures _ c.lowest_block-b.ensures c.requires.0 in
     omega (arith, bound, c.loop-i.invariant.0)
 
 pub loop-i-preserved : goal.loop-i-preserved
 loop-i-preserved c = (
   length-set c.loop-i.marks c.lowest_block-b.result true ∙ c.loop-i.invariant.0,
-  mark_more c.args.cuts.now (lists_of c.args.cells.now) _ (omega (arith, c.loop-i-test.true, c.cell_count-n.ensures)) _ c.cell_at.ensures _ c.lowest_block-b.ensures _ _ c.loop-i.invariant.1,
+  mark_more c.args.cuts.now (lists_of c.args.cells.now) _ (omega (arith, c.loop-i-test.true, c.cell_count-n.ensures)) _ c.cell_within.ensures _ c.lowest_block-b.ensures _ _ c.loop-i.invariant.1,
 )
