@@ -15,6 +15,7 @@ pub struct Counts {
 }
 
 // Stores the three numbers, unless the call is refused.
+// Kept: a refusal by number beside the values: a caller may hand on any number, and values beside a refusal; `store_answer` takes an answer.
 #[tactic(auto, unfolding(crate::specs::Counts::stored_counts))]
 pub fn store_counts(refusal: u32, faces: u32, curves: u32, points: u32, counts: &mut [u32; 3])
     ensures { counts.new ≡ stored_counts refusal faces curves points counts.old }

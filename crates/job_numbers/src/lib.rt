@@ -74,6 +74,7 @@ pub fn numbers_of(job: Job) -> [u32; 13]
 }
 
 // Stores the job that a call hands on, unless it was refused.
+// Kept: a refusal by number beside the job, as `store_counts` (counts) takes one; `keep_answer` takes an answer.
 #[tactic(auto, using(crate::proofs::NumberLaws::kept_new, crate::proofs::NumberLaws::kept_old))]
 pub fn keep(numbers: &mut [u32; 13], refusal: u32, job: Job)
     ensures { numbers.new ≡ kept_numbers refusal numbers.old job }
