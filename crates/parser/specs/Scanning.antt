@@ -34,7 +34,7 @@ abbrev pub told_value : Option ℕ → ℕ
 told_value None = 2 ^ 32
 told_value (Some v) = v
 
--- What the code keeps of it.
+-- What has been read, as the code's record tells it.
 abbrev pub seen : Scanned → Seen
 seen s = scanned s.count s.broken s.size (told_value s.value) s.extents.x s.extents.y s.extents.z
 
